@@ -1,0 +1,71 @@
+//! The three that are measured, behind one set of functions. They are called
+//! through pointers, so that none can be inlined into the timing loop: the
+//! library cannot be.
+
+use rival::{image, store, Code, Fast, Straightforward};
+
+mod c {
+    extern "C" {
+        pub fn hourlog_append(store: *mut u8, len: usize, count: u32) -> i64;
+        pub fn hourlog_image_write(
+            counts: *const u32,
+            n: usize,
+            e: u32,
+            image: *mut u8,
+            image_len: usize,
+        ) -> i64;
+        pub fn hourlog_image_check(image: *const u8, len: usize) -> i64;
+        pub fn hourlog_image_count(image: *const u8, len: usize, hour: u32) -> i64;
+        pub fn hourlog_image_reading(image: *const u8, len: usize, hour: u32) -> i64;
+        pub fn hourlog_image_reach(image: *const u8, len: usize, figure: u64) -> i64;
+    }
+}
+
+pub struct Contender {
+    pub name: &'static str,
+    pub write: fn(&[u32], u32, &mut [u8]) -> i64,
+    pub check: fn(&[u8]) -> i64,
+    pub count: fn(&[u8], u32) -> i64,
+    pub reading: fn(&[u8], u32) -> i64,
+    pub reach: fn(&[u8], u64) -> i64,
+    pub append: fn(&mut [u8], u32) -> i64,
+}
+
+pub fn all() -> [Contender; 3] {
+    [
+        library(),
+        rival::<Straightforward>("straightforward"),
+        rival::<Fast>("fast"),
+    ]
+}
+
+fn rival<C: Code>(name: &'static str) -> Contender {
+    Contender {
+        name,
+        write: image::write::<C>,
+        check: image::check::<C>,
+        count: image::count::<C>,
+        reading: image::reading::<C>,
+        reach: image::reach::<C>,
+        append: store::append::<C>,
+    }
+}
+
+fn library() -> Contender {
+    Contender {
+        name: "library",
+        write: |counts, e, out| unsafe {
+            let (image, room) = (out.as_mut_ptr(), out.len());
+            c::hourlog_image_write(counts.as_ptr(), counts.len(), e, image, room)
+        },
+        check: |image| unsafe { c::hourlog_image_check(image.as_ptr(), image.len()) },
+        count: |image, hour| unsafe { c::hourlog_image_count(image.as_ptr(), image.len(), hour) },
+        reading: |image, hour| unsafe {
+            c::hourlog_image_reading(image.as_ptr(), image.len(), hour)
+        },
+        reach: |image, figure| unsafe {
+            c::hourlog_image_reach(image.as_ptr(), image.len(), figure)
+        },
+        append: |store, count| unsafe { c::hourlog_append(store.as_mut_ptr(), store.len(), count) },
+    }
+}

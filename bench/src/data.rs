@@ -1,0 +1,67 @@
+//! The counts that are measured.
+
+pub const HOURS: usize = 65_536;
+
+#[derive(Clone, Copy)]
+pub enum Kind {
+    /// Most hours without a coin.
+    Sparse,
+    /// Shut at night, some dozens of coins in the evening.
+    Arcade,
+    /// Thousands of coins in every hour.
+    Heavy,
+}
+
+impl Kind {
+    pub const ALL: [Kind; 3] = [Kind::Sparse, Kind::Arcade, Kind::Heavy];
+
+    pub fn name(self) -> &'static str {
+        match self {
+            Kind::Sparse => "sparse",
+            Kind::Arcade => "arcade",
+            Kind::Heavy => "heavy",
+        }
+    }
+}
+
+/// Random numbers, the same in every run.
+pub struct Random(u64);
+
+impl Random {
+    pub fn new(seed: u64) -> Random {
+        Random(seed)
+    }
+
+    /// The sequence known as xorshift64*, its high half.
+    pub fn below(&mut self, n: u64) -> u64 {
+        self.0 ^= self.0 >> 12;
+        self.0 ^= self.0 << 25;
+        self.0 ^= self.0 >> 27;
+        let high = self.0.wrapping_mul(0x2545_F491_4F6C_DD1D) >> 32;
+        (high * n) >> 32
+    }
+}
+
+pub fn counts(kind: Kind) -> Vec<u32> {
+    let mut random = Random::new(7);
+    (0..HOURS)
+        .map(|hour| count(kind, hour % 24, &mut random))
+        .collect()
+}
+
+fn count(kind: Kind, hour_of_day: usize, random: &mut Random) -> u32 {
+    let count = match kind {
+        Kind::Sparse if random.below(12) == 0 => 1 + random.below(3),
+        Kind::Sparse => 0,
+        Kind::Arcade if hour_of_day < 10 => 0,
+        Kind::Arcade => random.below(4 * (hour_of_day as u64 - 8)),
+        Kind::Heavy => random.below(65_536),
+    };
+    count as u32
+}
+
+/// Hours or figures to ask for, below a limit.
+pub fn questions(limit: u64, number: usize) -> Vec<u64> {
+    let mut random = Random::new(11);
+    (0..number).map(|_| random.below(limit)).collect()
+}

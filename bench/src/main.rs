@@ -1,0 +1,42 @@
+//! How fast the library is, beside unverified Rust of the same algorithm.
+//!
+//! All three do the same work on the same input, in turns, and the best time of
+//! many counts. Before anything is timed, their answers and bytes are compared.
+
+mod contender;
+mod data;
+mod filled;
+mod tasks;
+mod timing;
+
+use contender::Contender;
+use data::Kind;
+use tasks::Task;
+
+fn main() {
+    let contenders = contender::all();
+    println!(
+        "{:<24} {:>9} {:>9} {:>9}   {:>9} {:>9}",
+        "", "library", "straight", "fast", "lib/strai", "lib/fast"
+    );
+    for kind in Kind::ALL {
+        let counts = data::counts(kind);
+        for task in tasks::over_image(&counts) {
+            measure(&contenders, kind.name(), task);
+        }
+    }
+    for pages in [16, 64, 256, 1_024] {
+        measure(&contenders, &format!("{pages} pages"), tasks::append(pages));
+    }
+}
+
+/// Times one task for each contender and prints a row of the table.
+fn measure(contenders: &[Contender; 3], on: &str, mut task: Task) {
+    let [library, straightforward, fast] = timing::best_of_many(contenders, &mut task);
+    println!(
+        "{:<24} {library:>9.2} {straightforward:>9.2} {fast:>9.2}   {:>9.2} {:>9.2}",
+        format!("{} {on}, {}", task.name, task.unit),
+        library / straightforward,
+        library / fast
+    );
+}

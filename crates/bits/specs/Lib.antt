@@ -1,0 +1,4 @@
+-- Definitions of the crate.
+pub mod Bits
+pub mod Pack
+pub mod Numbers

@@ -1,0 +1,34 @@
+use mathlib.Core.Path.{_≡_, sym, _∙_}
+use borrow.Author.Tests.{not-true, not-false}
+use Rattle.image.specs.Answers.{told}
+use Rattle.freeze.proofs.Freezing.{freeze-10, freeze-sound}
+use borrow.Author.Needs.{needs}
+use Rattle.freeze.proofs.freeze.Statement.{statement}
+use Rattle.freeze.proofs.freeze.Tie as tie
+use Rattle.freeze.proofs.freeze.Reads as reads
+use Rattle.freeze.proofs.freeze.Lts as lts
+use Rattle.freeze.proofs.freeze_list.Reads as freeze-list-reads
+use Rattle.soundness.proofs.check.Reads as check-reads
+
+check-requires : tie.Need-check-requires
+check-requires c κs = search needs
+
+returns : tie.Need-returns
+unfolding told
+returns c =
+    freeze-10 _ _ _ (sym (c .before .check .ensures) ∙ not-true _ (c .if1 .taken))
+
+freeze-list-requires : tie.Need-freeze-list-requires
+freeze-list-requires c κs =
+    sym (c .before .before .check .ensures) ∙ not-false _ (c .before .if1 .left)
+
+same-length : tie.Need-same-length
+same-length c = search needs
+
+returns-2 : tie.Need-returns-2
+returns-2 c =
+    c .before .before .freeze-list .ensures ∙ freeze-sound _ _ _ (sym (c .before .before .before .before .before .check .ensures) ∙ not-false _ (c .before .before .before .before .if1 .left))
+
+pub freeze-spec : {M : Type 1} → statement M
+freeze-spec =
+    tie.close (tie.spec check-requires returns freeze-list-requires same-length returns-2)

@@ -1,0 +1,23 @@
+use mathlib.Core.Path.{sym}
+use lib.Seq.{length-take-le}
+use borrow.Author.Needs.{needs}
+use Rattle.freeze.proofs.write_front.Statement.{statement}
+use Rattle.freeze.proofs.write_front.Tie as tie
+use Rattle.freeze.proofs.write_front.Reads as reads
+use Rattle.freeze.proofs.write_front.Lts as lts
+use Rattle.image.proofs.write.write.Reads as write-reads
+
+slice-aggregate-write : tie.Need-slice-aggregate-write
+slice-aggregate-write c = sym (length-take-le _ _ (c .before .before .before .pre))
+
+write-requires : tie.Need-write-requires
+write-requires c κs = search needs
+
+same-length : tie.Need-same-length
+same-length c = search needs
+
+returns : tie.Need-returns
+returns c = search needs
+
+pub write-front-spec : {M : Type 1} → statement M
+write-front-spec = tie.close (tie.spec slice-aggregate-write write-requires same-length returns)

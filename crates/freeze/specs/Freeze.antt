@@ -1,0 +1,12 @@
+-- Document 01: 'freeze, which writes the image of a store's list'. Assumes nothing.
+use mathlib.Core.Bool.{Bool, true, false}
+use mathlib.Core.List.{List}
+use Prim.Native.Nat.{ℕ}
+use Rattle.lists.specs.Lists.{pick}
+use Rattle.store.specs.Reading.{read}
+use Rattle.store.specs.Sound.{sound}
+use Rattle.image.specs.Calls.{Wrote, unwritten, writeCall}
+
+-- 10, 'not sound'; then what write answers and leaves for the store's list: 1 and 4, for 2 and 3 never come (`only-page-size`)
+unfoldable pub freezeCall : ℕ → List ℕ → List ℕ → Wrote
+freezeCall e s out = pick (sound s) (writeCall e (read s .plain .counts) out) (unwritten out 10)

@@ -1,0 +1,23 @@
+use Rattle.hourlog_c.proofs.WordLaws.{writes}
+use borrow.Author.Needs.{needs}
+use Rattle.hourlog_c.proofs.image_calls.hourlog_freeze.Statement.{statement}
+use Rattle.hourlog_c.proofs.image_calls.hourlog_freeze.Tie as tie
+use Rattle.hourlog_c.proofs.image_calls.hourlog_freeze.Reads as reads
+use Rattle.hourlog_c.proofs.image_calls.hourlog_freeze.Lts as lts
+use Rattle.freeze.proofs.freeze.Reads as freeze-reads
+use Rattle.hourlog_c.proofs.word.of_image.Reads as of-image-reads
+
+freeze-requires : tie.Need-freeze-requires
+freeze-requires c κs = search needs
+
+of-image-requires : tie.Need-of-image-requires
+of-image-requires c κs = search needs
+
+same-length : tie.Need-same-length
+same-length c = search needs
+
+returns : tie.Need-returns
+returns c = writes _ _ _ _ (c .of-image .ensures) (c .before .before .before .freeze .ensures)
+
+pub hourlog-freeze-spec : {M : Type 1} → statement M
+hourlog-freeze-spec = tie.close (tie.spec freeze-requires of-image-requires same-length returns)

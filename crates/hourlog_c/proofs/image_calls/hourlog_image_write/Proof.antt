@@ -1,0 +1,24 @@
+use Rattle.hourlog_c.proofs.WordLaws.{writes}
+use borrow.Author.Needs.{needs}
+use Rattle.hourlog_c.proofs.image_calls.hourlog_image_write.Statement.{statement}
+use Rattle.hourlog_c.proofs.image_calls.hourlog_image_write.Tie as tie
+use Rattle.hourlog_c.proofs.image_calls.hourlog_image_write.Reads as reads
+use Rattle.hourlog_c.proofs.image_calls.hourlog_image_write.Lts as lts
+use Rattle.hourlog_c.proofs.word.of_image.Reads as of-image-reads
+use Rattle.image.proofs.write.write.Reads as write-reads
+
+write-requires : tie.Need-write-requires
+write-requires c κs = search needs
+
+of-image-requires : tie.Need-of-image-requires
+of-image-requires c κs = search needs
+
+same-length : tie.Need-same-length
+same-length c = search needs
+
+returns : tie.Need-returns
+returns c = writes _ _ _ _ (c .of-image .ensures) (c .before .before .before .write .ensures)
+
+pub hourlog-image-write-spec : {M : Type 1} → statement M
+hourlog-image-write-spec =
+    tie.close (tie.spec write-requires of-image-requires same-length returns)

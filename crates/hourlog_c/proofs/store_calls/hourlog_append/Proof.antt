@@ -1,0 +1,23 @@
+use Rattle.hourlog_c.proofs.WordLaws.{calls}
+use borrow.Author.Needs.{needs}
+use Rattle.hourlog_c.proofs.store_calls.hourlog_append.Statement.{statement}
+use Rattle.hourlog_c.proofs.store_calls.hourlog_append.Tie as tie
+use Rattle.hourlog_c.proofs.store_calls.hourlog_append.Reads as reads
+use Rattle.hourlog_c.proofs.store_calls.hourlog_append.Lts as lts
+use Rattle.hourlog_c.proofs.word.of_store.Reads as of-store-reads
+use Rattle.live.proofs.append.Reads as append-reads
+
+append-requires : tie.Need-append-requires
+append-requires c κs = search needs
+
+of-store-requires : tie.Need-of-store-requires
+of-store-requires c κs = search needs
+
+same-length : tie.Need-same-length
+same-length c = search needs
+
+returns : tie.Need-returns
+returns c = calls _ _ _ _ _ (c .of-store .ensures) (c .before .before .before .append .ensures)
+
+pub hourlog-append-spec : {M : Type 1} → statement M
+hourlog-append-spec = tie.close (tie.spec append-requires of-store-requires same-length returns)

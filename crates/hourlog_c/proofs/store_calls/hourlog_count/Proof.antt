@@ -1,0 +1,20 @@
+use Rattle.hourlog_c.proofs.WordLaws.{calls}
+use borrow.Author.Needs.{needs}
+use Rattle.hourlog_c.proofs.store_calls.hourlog_count.Statement.{statement}
+use Rattle.hourlog_c.proofs.store_calls.hourlog_count.Tie as tie
+use Rattle.hourlog_c.proofs.store_calls.hourlog_count.Reads as reads
+use Rattle.hourlog_c.proofs.store_calls.hourlog_count.Lts as lts
+use Rattle.hourlog_c.proofs.word.of_store.Reads as of-store-reads
+use Rattle.live.proofs.count.Reads as count-reads
+
+count-requires : tie.Need-count-requires
+count-requires c κs = search needs
+
+of-store-requires : tie.Need-of-store-requires
+of-store-requires c κs = search needs
+
+returns : tie.Need-returns
+returns c = calls _ _ _ _ _ (c .of-store .ensures) (c .before .count .ensures)
+
+pub hourlog-count-spec : {M : Type 1} → statement M
+hourlog-count-spec = tie.close (tie.spec count-requires of-store-requires returns)

@@ -1,0 +1,20 @@
+use Rattle.hourlog_c.proofs.WordLaws.{calls}
+use borrow.Author.Needs.{needs}
+use Rattle.hourlog_c.proofs.store_calls.hourlog_day.Statement.{statement}
+use Rattle.hourlog_c.proofs.store_calls.hourlog_day.Tie as tie
+use Rattle.hourlog_c.proofs.store_calls.hourlog_day.Reads as reads
+use Rattle.hourlog_c.proofs.store_calls.hourlog_day.Lts as lts
+use Rattle.hourlog_c.proofs.word.of_store.Reads as of-store-reads
+use Rattle.live.proofs.day.Reads as day-reads
+
+day-requires : tie.Need-day-requires
+day-requires c κs = search needs
+
+of-store-requires : tie.Need-of-store-requires
+of-store-requires c κs = search needs
+
+returns : tie.Need-returns
+returns c = calls _ _ _ _ _ (c .of-store .ensures) (c .before .day .ensures)
+
+pub hourlog-day-spec : {M : Type 1} → statement M
+hourlog-day-spec = tie.close (tie.spec day-requires of-store-requires returns)

@@ -1,0 +1,20 @@
+use Rattle.hourlog_c.proofs.WordLaws.{calls}
+use borrow.Author.Needs.{needs}
+use Rattle.hourlog_c.proofs.store_calls.hourlog_free.Statement.{statement}
+use Rattle.hourlog_c.proofs.store_calls.hourlog_free.Tie as tie
+use Rattle.hourlog_c.proofs.store_calls.hourlog_free.Reads as reads
+use Rattle.hourlog_c.proofs.store_calls.hourlog_free.Lts as lts
+use Rattle.hourlog_c.proofs.word.of_store.Reads as of-store-reads
+use Rattle.live.proofs.free.Reads as free-reads
+
+free-requires : tie.Need-free-requires
+free-requires c κs = search needs
+
+of-store-requires : tie.Need-of-store-requires
+of-store-requires c κs = search needs
+
+returns : tie.Need-returns
+returns c = calls _ _ _ _ _ (c .of-store .ensures) (c .before .free .ensures)
+
+pub hourlog-free-spec : {M : Type 1} → statement M
+hourlog-free-spec = tie.close (tie.spec free-requires of-store-requires returns)

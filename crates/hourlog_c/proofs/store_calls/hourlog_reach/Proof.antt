@@ -1,0 +1,20 @@
+use Rattle.hourlog_c.proofs.WordLaws.{calls}
+use borrow.Author.Needs.{needs}
+use Rattle.hourlog_c.proofs.store_calls.hourlog_reach.Statement.{statement}
+use Rattle.hourlog_c.proofs.store_calls.hourlog_reach.Tie as tie
+use Rattle.hourlog_c.proofs.store_calls.hourlog_reach.Reads as reads
+use Rattle.hourlog_c.proofs.store_calls.hourlog_reach.Lts as lts
+use Rattle.hourlog_c.proofs.word.of_store.Reads as of-store-reads
+use Rattle.live.proofs.reach.Reads as reach-reads
+
+reach-requires : tie.Need-reach-requires
+reach-requires c κs = search needs
+
+of-store-requires : tie.Need-of-store-requires
+of-store-requires c κs = search needs
+
+returns : tie.Need-returns
+returns c = calls _ _ _ _ _ (c .of-store .ensures) (c .before .reach .ensures)
+
+pub hourlog-reach-spec : {M : Type 1} → statement M
+hourlog-reach-spec = tie.close (tie.spec reach-requires of-store-requires returns)

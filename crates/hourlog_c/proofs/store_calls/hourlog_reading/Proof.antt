@@ -1,0 +1,20 @@
+use Rattle.hourlog_c.proofs.WordLaws.{calls}
+use borrow.Author.Needs.{needs}
+use Rattle.hourlog_c.proofs.store_calls.hourlog_reading.Statement.{statement}
+use Rattle.hourlog_c.proofs.store_calls.hourlog_reading.Tie as tie
+use Rattle.hourlog_c.proofs.store_calls.hourlog_reading.Reads as reads
+use Rattle.hourlog_c.proofs.store_calls.hourlog_reading.Lts as lts
+use Rattle.hourlog_c.proofs.word.of_store.Reads as of-store-reads
+use Rattle.live.proofs.reading.Reads as reading-reads
+
+reading-requires : tie.Need-reading-requires
+reading-requires c κs = search needs
+
+of-store-requires : tie.Need-of-store-requires
+of-store-requires c κs = search needs
+
+returns : tie.Need-returns
+returns c = calls _ _ _ _ _ (c .of-store .ensures) (c .before .reading .ensures)
+
+pub hourlog-reading-spec : {M : Type 1} → statement M
+hourlog-reading-spec = tie.close (tie.spec reading-requires of-store-requires returns)

@@ -1,0 +1,23 @@
+use Rattle.hourlog_c.proofs.WordLaws.{calls}
+use borrow.Author.Needs.{needs}
+use Rattle.hourlog_c.proofs.store_calls.hourlog_set.Statement.{statement}
+use Rattle.hourlog_c.proofs.store_calls.hourlog_set.Tie as tie
+use Rattle.hourlog_c.proofs.store_calls.hourlog_set.Reads as reads
+use Rattle.hourlog_c.proofs.store_calls.hourlog_set.Lts as lts
+use Rattle.hourlog_c.proofs.word.of_store.Reads as of-store-reads
+use Rattle.live.proofs.set.Reads as set-reads
+
+set-requires : tie.Need-set-requires
+set-requires c κs = search needs
+
+of-store-requires : tie.Need-of-store-requires
+of-store-requires c κs = search needs
+
+same-length : tie.Need-same-length
+same-length c = search needs
+
+returns : tie.Need-returns
+returns c = calls _ _ _ _ _ (c .of-store .ensures) (c .before .before .before .set .ensures)
+
+pub hourlog-set-spec : {M : Type 1} → statement M
+hourlog-set-spec = tie.close (tie.spec set-requires of-store-requires same-length returns)

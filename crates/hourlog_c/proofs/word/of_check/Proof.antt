@@ -1,0 +1,34 @@
+use mathlib.Core.Path.{sym, ap, _∙_}
+use Rattle.image.specs.Checking.{ruled}
+use Rattle.hourlog_c.specs.Words.{verdictWord}
+use borrow.Author.Needs.{needs}
+use Rattle.hourlog_c.proofs.word.of_check.Statement.{statement}
+use Rattle.hourlog_c.proofs.word.of_check.Tie as tie
+use Rattle.hourlog_c.proofs.word.of_check.Reads as reads
+use Rattle.hourlog_c.proofs.word.of_check.Lts as lts
+use Rattle.hourlog_c.proofs.word.minus.Reads as minus-reads
+use Rattle.hourlog_c.proofs.word.pair.Reads as pair-reads
+
+enum-known-v : tie.Need-enum-known-v
+enum-known-v c = search needs
+
+pair-requires : tie.Need-pair-requires
+pair-requires c κs = search needs
+
+enum-known-v-2 : tie.Need-enum-known-v-2
+enum-known-v-2 c = search needs
+
+minus-requires : tie.Need-minus-requires
+minus-requires c κs = search needs
+
+returns : tie.Need-returns
+unfolding verdictWord ruled
+returns c = c .pair .ensures ∙ sym (ap (λ z. verdictWord (ruled z)) (c .before .before .v .given .1))
+
+returns-2 : tie.Need-returns-2
+unfolding verdictWord ruled
+returns-2 c = c .minus .ensures ∙ sym (ap (λ z. verdictWord (ruled z)) (c .before .before .v2 .given .1))
+
+pub of-check-spec : {M : Type 1} → statement M
+of-check-spec =
+    tie.close (tie.spec enum-known-v pair-requires enum-known-v-2 minus-requires returns returns-2)

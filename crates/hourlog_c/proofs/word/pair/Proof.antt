@@ -1,0 +1,19 @@
+use Rattle.hourlog_c.proofs.WordLaws.{pair-is}
+use borrow.Author.Needs.{needs}
+use Rattle.hourlog_c.proofs.word.pair.Statement.{statement}
+use Rattle.hourlog_c.proofs.word.pair.Tie as tie
+use Rattle.hourlog_c.proofs.word.pair.Reads as reads
+use Rattle.hourlog_c.proofs.word.pair.Lts as lts
+use Rattle.std.proofs.num.wrapping_add_u64.Reads as wrapping-add-u64-reads
+
+shl-wrapping-add-u64 : tie.Need-shl-wrapping-add-u64
+shl-wrapping-add-u64 c = search needs
+
+wrapping-add-u64-requires : tie.Need-wrapping-add-u64-requires
+wrapping-add-u64-requires c κs = search needs
+
+returns : tie.Need-returns
+returns c = pair-is _ _ _ _ (c .wrapping-add-u64 .ensures)
+
+pub pair-spec : {M : Type 1} → statement M
+pair-spec = tie.close (tie.spec shl-wrapping-add-u64 wrapping-add-u64-requires returns)

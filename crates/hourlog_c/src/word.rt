@@ -1,0 +1,50 @@
+// Answers as words of 64 bits.
+use std::num::wrapping_add_u64;
+use std::num::wrapping_sub_u64;
+ghost use mathlib.Core.Path.{_≡_};
+ghost use Prim.Native.Nat.{_<_};
+ghost use Rattle.store.specs.Answers.{told};
+ghost use Rattle.image.specs.Answers.{told as replied};
+ghost use Rattle.image.specs.Checking.{ruled};
+ghost use Rattle.hourlog_c.specs.Words.{minus as minusWord, pair as pairWord, wordOf, replyWord, verdictWord};
+
+fn minus(k: u32) -> u64
+    ensures { λ r. ⌜ r ≡ minusWord k ⌝ }
+{
+    wrapping_sub_u64(0, k as u64)
+}
+
+fn pair(k: u32, a: u64, b: u64) -> u64
+    requires { ⌜ k < 64 ⌝ }
+    ensures { λ r. ⌜ r ≡ pairWord k a b ⌝ }
+{
+    wrapping_add_u64(a, b << k)
+}
+
+pub(crate) fn of_store(a: store::answer::Answer) -> u64
+    ensures { λ r. ⌜ r ≡ wordOf (told a) ⌝ }
+{
+    match a {
+        store::answer::Answer::Changed(taken, returned) => pair(16, taken, returned),
+        store::answer::Answer::Number(n) => n,
+        store::answer::Answer::Refused(k) => minus(k),
+    }
+}
+
+pub(crate) fn of_image(a: image::query::Answer) -> u64
+    ensures { λ r. ⌜ r ≡ replyWord (replied a) ⌝ }
+{
+    match a {
+        image::query::Answer::Number(n) => n,
+        image::query::Answer::Refused(k) => minus(k),
+    }
+}
+
+pub(crate) fn of_check(v: image::check::Verdict) -> u64
+    ensures { λ r. ⌜ r ≡ verdictWord (ruled v) ⌝ }
+{
+    match v {
+        image::check::Verdict::Holds(hours, total) => pair(40, total, hours),
+        image::check::Verdict::Refused(k) => minus(k),
+    }
+}

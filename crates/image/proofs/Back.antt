@@ -1,0 +1,211 @@
+-- What the bytes of a list's image say is the list. Assumes nothing.
+use mathlib.Core.Path.{_≡_, refl, sym, ap, ap₂, _∙_}
+use mathlib.Core.Bool.{true}
+use mathlib.Core.List.{List, [], _++_, append-nil}
+use Prim.Native.Nat.{ℕ, zero, suc, _+_, _*_, _^_, _≤_, _<_}
+use native.Mathlib.Nat.{add-zero, mul-zero}
+use native.Mathlib.Omega.{arith}
+use lib.ListN.{length, take, drop, length-append}
+use lib.Seq.{take-at, drop-at, drop-drop}
+use lib.Dec.{leb}
+use borrow.Author.Tests.{le-leb, eq-eqb}
+use Rattle.lists.specs.Lists.{concat, part, same, sum, tabulate}
+use Rattle.lists.proofs.Parts.{part-in, part-skip, piece}
+use Rattle.lists.proofs.Tables.{concat-at, concat-each, part-concat, tabulate-ext}
+use Rattle.lists.proofs.Tests.{both, every-of, same-refl}
+use Rattle.bits.specs.Bits.{bits, field, value}
+use Rattle.bits.specs.Numbers.{little, number, numberAt}
+use Rattle.bits.proofs.Laws.{length-field}
+use Rattle.bits.proofs.Little.{length-little, number-little}
+use Rattle.bits.proofs.Packing.{Bits, bits-field, bits-join, value-field}
+use Rattle.reserve.specs.Reserve.{digits, reserve}
+use Rattle.reserve.proofs.Exact.{digits-is}
+use Rattle.tree.specs.Read.{counts}
+use Rattle.tree.specs.Tree.{tree}
+use Rattle.tree.proofs.Shape.{bits-tree, counts-tree, length-tree}
+use Rattle.image.specs.Check.{accepted, headed}
+use Rattle.image.specs.Image.{Limits, code, header, image, packed, page, pageCode, pages, root, size, start, table}
+use Rattle.image.specs.Read.{beforeOf, codeAt, eOf, lOf, listOf, nOf, pageOf, pagesOf, rootOf, sOf, startOf, sumOf, treeAt, widthOf}
+use Rattle.image.proofs.Packed.{bits-packed, drop-bits, length-packed, tail}
+use Rattle.image.proofs.PageLaws.{code-most, length-page, length-pageCode, list-back, page-sum, pages-cover, root-le, start-within}
+
+bits-concat : (k : ℕ) (f : ℕ → List ℕ) → ((j : ℕ) → Bits (f j)) → Bits (concat (tabulate k f))
+unfolding tabulate concat
+bits-concat zero f h = tt
+bits-concat (suc k) f h = bits-join (f 0) (concat (tabulate k (λ j. f (suc j)))) (h 0) (bits-concat k (λ j. f (suc j)) (λ j. h (suc j)))
+
+pub bits-code : (e : ℕ) (xs : List ℕ) → Bits (code e xs)
+unfolding code pageCode
+bits-code e xs =
+    bits-concat (pages e (length xs)) (pageCode e xs) (λ p. bits-join (field (digits (sum xs)) (root e xs p)) (tree e (page e xs p))
+    (bits-field (digits (sum xs)) (root e xs p)) (bits-tree e (page e xs p)))
+
+length-header : (e n s l : ℕ) → length (header e n s l) ≡ 16
+unfolding header little
+length-header e n s l = refl
+
+length-table : (e : ℕ) (xs : List ℕ) → length (table e xs) ≡ 4 * pages e (length xs)
+unfolding table
+length-table e xs = concat-each (pages e (length xs)) 4 (λ p. little 4 (start e xs p)) (λ j _. length-little 4 (start e xs j))
+
+module _ (e : ℕ) (xs : List ℕ) where
+  abbrev S : List ℕ
+  S = image e xs
+
+  abbrev H : List ℕ
+  H = header e (length xs) (sum xs) (length (code e xs))
+
+  abbrev P : ℕ
+  P = pages e (length xs)
+
+  pub length-image : length (image e xs) ≡ size e (length xs) (length (code e xs))
+  unfolding image size
+  length-image =
+      length-append H (table e xs ++ packed (code e xs)) ∙ ap₂ _+_ (length-header e (length xs) (sum xs) (length (code e xs)))
+      (length-append (table e xs) (packed (code e xs)) ∙ ap₂ _+_ (length-table e xs) (length-packed (code e xs)))
+      ∙ omega arith
+
+  head : part S 0 16 ≡ H
+  unfolding image
+  head = take-at H (table e xs ++ packed (code e xs)) 16 (length-header e (length xs) (sum xs) (length (code e xs)))
+
+  head-word : (a v : ℕ) → a + 4 ≤ 16 → part H a 4 ≡ little 4 v → v ≤ 4294967295 → numberAt S a 4 ≡ v
+  head-word a v l q m =
+      ap number (ap (λ (z : ℕ). part S z 4) {x = a} {y = 0 + a} (omega arith) ∙ part-in S H 0 16 a 4 head l ∙ q) ∙ number-little 4 v (omega arith)
+
+  pub e-is : eOf S ≡ e
+  unfolding eOf image header
+  e-is = refl
+
+  table-at : (p : ℕ) → p < P → part S (16 + 4 * p) 4 ≡ little 4 (start e xs p)
+  unfolding image table
+  table-at p l =
+      part-skip H (table e xs ++ packed (code e xs)) (4 * p) 4 16 (length-header e (length xs) (sum xs) (length (code e xs)))
+      ∙ concat-at P 4 (λ p. little 4 (start e xs p)) (packed (code e xs)) p (λ j _. length-little 4 (start e xs j)) l
+
+  body : drop (16 + 4 * P) S ≡ packed (code e xs)
+  unfolding image
+  body =
+      sym (drop-drop (4 * P) 16 (image e xs)) ∙ ap (drop (4 * P))
+      (drop-at H (table e xs ++ packed (code e xs)) 16 (length-header e (length xs) (sum xs) (length (code e xs))))
+      ∙ drop-at (table e xs) (packed (code e xs)) (4 * P) (length-table e xs)
+
+  module _ (m : Limits e xs) where
+    pub n-is : nOf S ≡ length xs
+    unfolding nOf header little
+    n-is = head-word 4 (length xs) (omega arith) refl (omega (arith, m .hours))
+
+    pub s-is : sOf S ≡ sum xs
+    unfolding sOf header little
+    s-is = head-word 8 (sum xs) (omega arith) refl (m .total)
+
+    pub l-is : lOf S ≡ length (code e xs)
+    unfolding lOf header little
+    l-is = head-word 12 (length (code e xs)) (omega arith) refl (code-most e xs m)
+
+    pub pages-is : pagesOf S ≡ P
+    unfolding pagesOf
+    pages-is = ap₂ pages e-is n-is
+
+    pub width-is : widthOf S ≡ digits (sum xs)
+    unfolding widthOf
+    width-is = ap digits s-is
+
+    pub code-is : codeAt S ≡ 8 * (16 + 4 * P)
+    unfolding codeAt
+    code-is = ap (λ (z : ℕ). 8 * (16 + 4 * z)) pages-is
+
+    -- the bits from where the code starts
+    pub bits-is : drop (codeAt S) (bits S) ≡ code e xs ++ tail (code e xs)
+    bits-is = ap (λ (z : ℕ). drop z (bits S)) code-is ∙ drop-bits (16 + 4 * P) S ∙ ap bits body ∙ bits-packed (code e xs) (bits-code e xs)
+
+    pub start-is : (p : ℕ) → p < P → startOf S p ≡ start e xs p
+    unfolding startOf
+    start-is p l = ap number (table-at p l) ∙ number-little 4 (start e xs p) (omega (arith, start-within e xs p l, code-most e xs m))
+
+    -- a page's bits
+    page-bits : (p : ℕ) → p < P
+        → part (bits S) (codeAt S + startOf S p) (digits (sum xs) + reserve e (sum (page e xs p))) ≡ field (digits (sum xs)) (root e xs p) ++
+        (tree e (page e xs p) ++ [])
+    unfolding code start pageCode
+    page-bits p l =
+        ap (take (digits (sum xs) + reserve e (sum (page e xs p)))) (sym (drop-drop (startOf S p) (codeAt S) (bits S)))
+        ∙ ap₂ (λ (b : List ℕ) (a : ℕ). part b a (digits (sum xs) + reserve e (sum (page e xs p)))) bits-is (start-is p l)
+        ∙ ap (part (code e xs ++ tail (code e xs)) (start e xs p)) (sym (length-pageCode e xs p))
+        ∙ part-concat P (pageCode e xs) (tail (code e xs)) p l
+        ∙ ap (λ (z : List ℕ). field (digits (sum xs)) (root e xs p) ++ z) (sym (append-nil (tree e (page e xs p))))
+
+    pub root-is : (p : ℕ) → p < P → rootOf S p ≡ root e xs p
+    unfolding rootOf
+    root-is p l =
+        let w : ℕ = digits (sum xs) in
+        let a : ℕ = codeAt S + startOf S p in
+        ap₂ (λ (z y : ℕ). value (part (bits S) y z)) width-is (sym (add-zero a))
+        ∙ ap value (piece (bits S) a (w + reserve e (sum (page e xs p))) [] (field w (root e xs p)) (tree e (page e xs p) ++ []) 0 w
+        (page-bits p l) refl (length-field w (root e xs p)) (omega arith))
+        ∙ value-field w (root e xs p) (omega (arith, root-le e xs p, digits-is (sum xs)))
+
+    pub before-is : (p : ℕ) → p < P → beforeOf S p ≡ sum (take (2 ^ e * p) xs)
+    unfolding beforeOf root sum
+    before-is zero l = sym (ap (λ (z : ℕ). sum (take z xs)) (mul-zero (2 ^ e)))
+    before-is (suc p) l = root-is p (omega arith)
+
+    pub sum-is : (p : ℕ) → p < P → sumOf S p ≡ sum (page e xs p)
+    unfolding sumOf
+    sum-is p l = omega (arith, root-is p l, before-is p l, page-sum e xs p)
+
+    pub tree-is : (p : ℕ) → p < P → part (bits S) (treeAt S p) (reserve e (sum (page e xs p))) ≡ tree e (page e xs p)
+    unfolding treeAt
+    tree-is p l =
+        let w : ℕ = digits (sum xs) in
+        let a : ℕ = codeAt S + startOf S p in
+        ap (λ (z : ℕ). part (bits S) (a + z) (reserve e (sum (page e xs p)))) width-is
+        ∙ piece (bits S) a (w + reserve e (sum (page e xs p))) (field w (root e xs p)) (tree e (page e xs p)) [] w (reserve e (sum (page e xs p)))
+        (page-bits p l) (length-field w (root e xs p)) (length-tree e (page e xs p)) (omega arith)
+
+    pub page-is : (p : ℕ) → p < P → pageOf S p ≡ page e xs p
+    unfolding pageOf
+    page-is p l =
+        ap₂ (λ (h s : ℕ). counts h s (bits S) (treeAt S p)) e-is (sum-is p l)
+        ∙ counts-tree e (page e xs p) (bits S) (treeAt S p) (length-page e xs p) (tree-is p l)
+
+    pub list-is : listOf S ≡ xs
+    unfolding listOf
+    list-is =
+        ap₂ (λ (n k : ℕ). take n (concat (tabulate k (pageOf S)))) n-is pages-is
+        ∙ ap (λ (z : List (List ℕ)). take (length xs) (concat z)) (tabulate-ext P (pageOf S) (page e xs) page-is)
+        ∙ list-back e P xs (pages-cover e (length xs))
+
+    -- an image passes the header's tests, and the whole check
+    pub headed-image : headed S ≡ true
+    unfolding headed image header little size eOf
+    headed-image =
+        every-of _ (
+          le-leb 16 (length S) (omega (arith, length-image)),
+          (
+            refl,
+            (
+              ap (leb 2) e-is ∙ le-leb 2 e (m .e-low),
+              (
+                ap (λ (z : ℕ). leb z 8) e-is ∙ le-leb e 8 (m .e-high),
+                (
+                  refl,
+                  (
+                    refl,
+                    (
+                      ap (λ (z : ℕ). leb z 65536) n-is ∙ le-leb (length xs) 65536 (m .hours),
+                      (eq-eqb (length S) (size (eOf S) (nOf S) (lOf S)) (length-image ∙ sym (ap₂ (λ (n l : ℕ). size e n l) n-is l-is)), tt),
+                    ),
+                  ),
+                ),
+              ),
+            ),
+          ),
+        )
+
+    pub accepted-image : accepted S ≡ true
+    unfolding accepted
+    accepted-image =
+        both headed-image
+        (both (ap (λ (z : List ℕ). leb (sum z) 4294967295) list-is ∙ le-leb (sum xs) 4294967295 (m .total))
+        (ap₂ (λ (h : ℕ) (z : List ℕ). same S (image h z)) e-is list-is ∙ same-refl S))

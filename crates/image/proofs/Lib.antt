@@ -1,0 +1,22 @@
+-- Laws of the definitions.
+pub mod Packed
+pub mod PageLaws
+pub mod Back
+pub mod Theorems
+pub mod Passing
+pub mod Mirror
+pub mod Reaching
+pub mod LayoutLaws
+pub mod Splices
+pub mod Writing
+pub mod PageSteps
+pub mod PagesLaid
+pub mod ImageRanges
+pub mod HeadLaws
+pub mod RootLaws
+pub mod CheckLaws
+pub mod ReachLaws
+pub mod QueryLaws
+pub mod Samples
+pub mod Made
+pub mod WriteLaws

@@ -1,0 +1,51 @@
+-- Bits as the bytes of an image's code, and bytes as their bits. Assumes nothing.
+use mathlib.Core.Path.{_≡_, refl, sym, ap, ap₂, _∙_}
+use mathlib.Core.List.{List, [], _∷_, _++_}
+use Prim.Native.Nat.{ℕ, zero, suc, _+_, _-_, _*_, _/_, _<_}
+use native.Mathlib.Omega.{arith}
+use lib.ListN.{length, getD, drop, replicate}
+use lib.Seq.{take-at, drop-at, drop-drop, drop-nil}
+use Rattle.lists.specs.Lists.{fill}
+use Rattle.bits.specs.Bits.{bits, field, value}
+use Rattle.bits.specs.Pack.{pack}
+use Rattle.bits.proofs.Laws.{length-bits, length-field}
+use Rattle.bits.proofs.Packing.{Bits, bits-fill, bits-pack, length-fill, length-pack, value-field}
+use Rattle.image.specs.Image.{bytesFor, packed}
+
+-- the zeros behind bits in their last byte
+unfoldable pub tail : List ℕ → List ℕ
+tail bs = replicate (8 * bytesFor (length bs) - length bs) 0
+
+pub bits-packed : (bs : List ℕ) → Bits bs → bits (packed bs) ≡ bs ++ tail bs
+unfolding packed fill tail bytesFor
+bits-packed bs h =
+    let n : ℕ = (length bs + 7) / 8 in
+    bits-pack n (fill (8 * n) bs) (length-fill (8 * n) bs (omega arith)) (bits-fill (8 * n) bs h)
+
+pub length-packed : (bs : List ℕ) → length (packed bs) ≡ bytesFor (length bs)
+unfolding packed
+length-packed bs = length-pack (bytesFor (length bs)) (fill (8 * bytesFor (length bs)) bs)
+
+-- bytes are the bytes of their bits
+pub pack-bits : (z : List ℕ) → ((i : ℕ) → getD z i 0 < 256) → pack (length z) (bits z) ≡ z
+unfolding pack bits
+pack-bits [] h = refl
+pack-bits (b ∷ z) h =
+    ap₂ _∷_ (ap value (take-at (field 8 b) (bits z) 8 (length-field 8 b)) ∙ value-field 8 b (h 0))
+    (ap (pack (length z)) (drop-at (field 8 b) (bits z) 8 (length-field 8 b)) ∙ pack-bits z (λ i. h (suc i)))
+
+-- bytes with the same bits are the same
+pub bits-one : (s t : List ℕ) → ((i : ℕ) → getD s i 0 < 256) → ((i : ℕ) → getD t i 0 < 256) → bits s ≡ bits t → s ≡ t
+bits-one s t hs ht e =
+    let n : length s ≡ length t = omega (arith, length-bits s, length-bits t, ap length e) in
+    sym (pack-bits s hs) ∙ ap₂ pack n e ∙ pack-bits t ht
+
+-- the bits behind the first n bytes
+pub drop-bits : (n : ℕ) (s : List ℕ) → drop (8 * n) (bits s) ≡ bits (drop n s)
+unfolding bits
+drop-bits zero s = refl
+drop-bits (suc n) [] = drop-nil (8 * suc n)
+drop-bits (suc n) (b ∷ s) =
+    ap (λ (k : ℕ). drop k (field 8 b ++ bits s)) {x = 8 * suc n} {y = 8 + 8 * n} (omega arith)
+    ∙ sym (drop-drop (8 * n) 8 (field 8 b ++ bits s))
+    ∙ ap (drop (8 * n)) (drop-at (field 8 b) (bits s) 8 (length-field 8 b)) ∙ drop-bits n s

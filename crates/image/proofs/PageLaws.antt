@@ -1,0 +1,161 @@
+-- Pages of a list. Assumes nothing.
+use mathlib.Core.Path.{_≡_, refl, sym, ap, ap₂, _∙_}
+use mathlib.Core.List.{List, [], _∷_, append-nil}
+use Prim.Native.Nat.{ℕ, zero, suc, _+_, _-_, _*_, _/_, _%_, _^_, _≤_, _<_}
+use native.Mathlib.Nat.{mul-le-mul-left, mul-le-mul-right, mul-suc, div-mul-le-self, lt-div-mul-add, lt-of-mul-lt-mul-left, div-add-mod', mod-lt}
+use native.Mathlib.Omega.{arith}
+use lib.ListN.{length, getD, take, drop, length-append, length-take}
+use lib.Seq.{ext-getD, getD-take, getD-drop, take-add, take-all}
+use lib.Pow.{pow-pos, pow-mono}
+use Rattle.lists.specs.Lists.{concat, part, sum, tabulate}
+use Rattle.lists.proofs.Sums.{sum-append, sum-tabulate, sum-take-le}
+use Rattle.lists.proofs.Tables.{concat-at, concat-each, concat-le, concat-most, concat-suc, getD-tabulate, length-tabulate, tabulate-ext}
+use Rattle.bits.specs.Bits.{field}
+use Rattle.bits.proofs.Laws.{length-field}
+use Rattle.reserve.specs.Reserve.{digits, reserve}
+use Rattle.reserve.proofs.Exact.{digits-le}
+use Rattle.reserve.proofs.Fit.{bound}
+use Rattle.reserve.proofs.Line.{A, B}
+use Rattle.tree.specs.Code.{window}
+use Rattle.tree.specs.Tree.{tree}
+use Rattle.tree.proofs.Shape.{length-tree}
+use Rattle.image.specs.Image.{Limits, code, page, pageCode, pages, root, start}
+
+-- ---- how many pages
+cover-alg : (n m k : ℕ) → 1 ≤ m → n + (m - 1) < k * m + m → n ≤ m * k
+cover-alg n m k a b = omega arith
+
+pub pages-cover : (e n : ℕ) → n ≤ 2 ^ e * pages e n
+unfolding pages
+pages-cover e n = cover-alg n (2 ^ e) ((n + (2 ^ e - 1)) / 2 ^ e) (pow-pos e) (lt-div-mul-add (pow-pos e))
+
+tight-alg : (n m k p : ℕ) → 1 ≤ m → k * m ≤ n + (m - 1) → p < k → m * p < n
+tight-alg n m k p a b l = omega (arith, mul-le-mul-left m l, mul-suc m p)
+
+pub pages-tight : (e n p : ℕ) → p < pages e n → 2 ^ e * p < n
+unfolding pages
+pages-tight e n p l = tight-alg n (2 ^ e) ((n + (2 ^ e - 1)) / 2 ^ e) p (pow-pos e) (div-mul-le-self (n + (2 ^ e - 1)) (2 ^ e)) l
+
+-- an hour's page and its place there
+pub hour-split : (e i : ℕ) → 2 ^ e * (i / 2 ^ e) + i % 2 ^ e ≡ i
+hour-split e i = omega (arith, div-add-mod' i (2 ^ e))
+
+pub hour-low : (e i : ℕ) → i % 2 ^ e < 2 ^ e
+hour-low e i = mod-lt i (pow-pos e)
+
+pub hour-page : (e n i : ℕ) → i < n → i / 2 ^ e < pages e n
+hour-page e n i l = lt-of-mul-lt-mul-left (2 ^ e) (omega (arith, hour-split e i, pages-cover e n))
+
+few-alg : (n m k : ℕ) → 4 ≤ m → n ≤ 65536 → ((p : ℕ) → p < k → m * p < n) → k ≤ 16384
+few-alg n m zero a b c = omega arith
+few-alg n m (suc k) a b c = omega (arith, c k (omega arith), mul-le-mul-right k a)
+
+pub pages-few : (e n : ℕ) → 2 ≤ e → n ≤ 65536 → pages e n ≤ 16384
+pages-few e n a b = few-alg n (2 ^ e) (pages e n) (pow-mono {i = 2} {j = e} a) b (pages-tight e n)
+
+-- ---- a page's counts
+pub length-page : (e : ℕ) (xs : List ℕ) (p : ℕ) → length (page e xs p) ≡ 2 ^ e
+unfolding page window
+length-page e xs p = length-tabulate (2 ^ e) (λ j. getD xs (2 ^ e * p + j) 0)
+
+pub getD-page : (e : ℕ) (xs : List ℕ) (p j : ℕ) → j < 2 ^ e → getD (page e xs p) j 0 ≡ getD xs (2 ^ e * p + j) 0
+unfolding page window
+getD-page e xs p j l = getD-tabulate (2 ^ e) (λ j. getD xs (2 ^ e * p + j) 0) j 0 l
+
+take-tabulate : (n k : ℕ) (f : ℕ → ℕ) → k ≤ n → take k (tabulate n f) ≡ tabulate k f
+unfolding tabulate
+take-tabulate n zero f l = refl
+take-tabulate zero (suc k) f l = absurd (omega arith)
+take-tabulate (suc n) (suc k) f l = ap (λ (z : List ℕ). f 0 ∷ z) (take-tabulate n k (λ j. f (suc j)) (omega arith))
+
+-- a reading within a page
+pub sum-page : (e : ℕ) (xs : List ℕ) (p j : ℕ) → j ≤ 2 ^ e → sum (take (2 ^ e * p) xs) + sum (take j (page e xs p)) ≡ sum (take (2 ^ e * p + j) xs)
+unfolding page window
+sum-page e xs p j l =
+    let a : ℕ = 2 ^ e * p in
+    ap (λ (z : ℕ). sum (take a xs) + z)
+    (ap sum (take-tabulate (2 ^ e) j (λ j. getD xs (2 ^ e * p + j) 0) l
+    ∙ tabulate-ext j (λ j. getD xs (2 ^ e * p + j) 0) (λ j. getD (drop a xs) j 0) (λ k _. sym (getD-drop a xs k 0))) ∙ sum-tabulate j (drop a xs))
+    ∙ sym (sum-append (take a xs) (take j (drop a xs))) ∙ ap sum (sym (take-add a j xs))
+
+pub page-sum : (e : ℕ) (xs : List ℕ) (p : ℕ) → sum (take (2 ^ e * p) xs) + sum (page e xs p) ≡ root e xs p
+unfolding root
+page-sum e xs p =
+    ap (λ (z : List ℕ). sum (take (2 ^ e * p) xs) + sum z) (sym (take-all (2 ^ e) (page e xs p) (omega (arith, length-page e xs p))))
+    ∙ sum-page e xs p (2 ^ e) (omega arith) ∙ ap (λ (z : ℕ). sum (take z xs)) {x = 2 ^ e * p + 2 ^ e} {y = 2 ^ e * suc p}
+    (omega (arith, mul-suc (2 ^ e) p))
+
+-- the pages, one after another, begin with the list
+concat-hour : (e k : ℕ) (xs : List ℕ) (i : ℕ) → i < 2 ^ e * k → getD (concat (tabulate k (page e xs))) i 0 ≡ getD xs i 0
+concat-hour e k xs i l =
+    let q : ℕ = i / 2 ^ e in
+    let r : ℕ = i % 2 ^ e in
+    let F : List ℕ = concat (tabulate k (page e xs)) in
+    let lq : q < k = lt-of-mul-lt-mul-left (2 ^ e) (omega (arith, hour-split e i)) in
+    let w : part F (2 ^ e * q) (2 ^ e) ≡ page e xs q =
+    ap (λ (z : List ℕ). part z (2 ^ e * q) (2 ^ e)) (sym (append-nil F)) ∙ concat-at k (2 ^ e) (page e xs) [] q (λ j _. length-page e xs j) lq in
+    ap (λ (z : ℕ). getD F z 0) (sym (hour-split e i)) ∙ sym (getD-drop (2 ^ e * q) F r 0)
+    ∙ sym (getD-take (2 ^ e) (drop (2 ^ e * q) F) r 0 (hour-low e i))
+    ∙ ap (λ (z : List ℕ). getD z r 0) w ∙ getD-page e xs q r (hour-low e i) ∙ ap (λ (z : ℕ). getD xs z 0) (hour-split e i)
+
+pub list-back : (e k : ℕ) (xs : List ℕ) → length xs ≤ 2 ^ e * k → take (length xs) (concat (tabulate k (page e xs))) ≡ xs
+list-back e k xs h =
+    let F : List ℕ = concat (tabulate k (page e xs)) in
+    let lF : length F ≡ 2 ^ e * k = concat-each k (2 ^ e) (page e xs) (λ j _. length-page e xs j) in
+    let lt : length (take (length xs) F) ≡ length xs = omega (arith, length-take (length xs) F) in
+    ext-getD 0 (take (length xs) F) xs lt (λ i l. getD-take (length xs) F i 0 (omega arith) ∙ concat-hour e k xs i (omega arith))
+
+-- ---- how many bits
+pub width-most : (s : ℕ) → s ≤ 4294967295 → digits s ≤ 32
+width-most s l = digits-le s 32 (omega arith)
+
+pub reserve-most : (h s : ℕ) → h ≤ 8 → s ≤ 4294967295 → reserve h s ≤ 8192
+unfolding A B
+reserve-most zero s k l = omega (arith, bound 0 s 32)
+reserve-most (suc zero) s k l = omega (arith, bound 1 s 32)
+reserve-most (suc (suc zero)) s k l = omega (arith, bound 2 s 32)
+reserve-most (suc (suc (suc zero))) s k l = omega (arith, bound 3 s 32)
+reserve-most (suc (suc (suc (suc zero)))) s k l = omega (arith, bound 4 s 32)
+reserve-most (suc (suc (suc (suc (suc zero))))) s k l = omega (arith, bound 5 s 32)
+reserve-most (suc (suc (suc (suc (suc (suc zero)))))) s k l = omega (arith, bound 6 s 32)
+reserve-most (suc (suc (suc (suc (suc (suc (suc zero))))))) s k l = omega (arith, bound 7 s 32)
+reserve-most (suc (suc (suc (suc (suc (suc (suc (suc zero)))))))) s k l = omega (arith, bound 8 s 32)
+reserve-most (suc (suc (suc (suc (suc (suc (suc (suc (suc h))))))))) s k l = absurd (omega arith)
+
+pub length-pageCode : (e : ℕ) (xs : List ℕ) (p : ℕ) → length (pageCode e xs p) ≡ digits (sum xs) + reserve e (sum (page e xs p))
+unfolding pageCode
+length-pageCode e xs p =
+    length-append (field (digits (sum xs)) (root e xs p)) (tree e (page e xs p))
+    ∙ ap₂ _+_ (length-field (digits (sum xs)) (root e xs p)) (length-tree e (page e xs p))
+
+pub root-le : (e : ℕ) (xs : List ℕ) (p : ℕ) → root e xs p ≤ sum xs
+unfolding root
+root-le e xs p = sum-take-le (2 ^ e * suc p) xs
+
+pub page-le : (e : ℕ) (xs : List ℕ) (p : ℕ) → sum (page e xs p) ≤ sum xs
+page-le e xs p = omega (arith, page-sum e xs p, root-le e xs p)
+
+pub code-most : (e : ℕ) (xs : List ℕ) → Limits e xs → length (code e xs) ≤ 4294967295
+unfolding code
+code-most e xs m =
+    let k : ℕ = pages e (length xs) in
+    let w : length (concat (tabulate k (pageCode e xs))) ≤ 8224 * k =
+    concat-most k 8224 (pageCode e xs) (λ j _. omega (
+      arith,
+      length-pageCode e xs j,
+      width-most (sum xs) (m .total),
+      reserve-most e (sum (page e xs j)) (m .e-high) (omega (arith, page-le e xs j, m .total)),
+    )) in
+    omega (arith, pages-few e (length xs) (m .e-low) (m .hours))
+
+-- page p starts where the one before it ends, and ends within the code
+pub start-next : (e : ℕ) (xs : List ℕ) (p : ℕ) → start e xs (suc p) ≡ start e xs p + (digits (sum xs) + reserve e (sum (page e xs p)))
+unfolding start
+start-next e xs p =
+    ap length (concat-suc p (pageCode e xs)) ∙ length-append (concat (tabulate p (pageCode e xs))) (pageCode e xs p)
+    ∙ ap (λ (z : ℕ). length (concat (tabulate p (pageCode e xs))) + z) (length-pageCode e xs p)
+
+pub start-within : (e : ℕ) (xs : List ℕ) (p : ℕ) → p < pages e (length xs)
+    → start e xs p + (digits (sum xs) + reserve e (sum (page e xs p))) ≤ length (code e xs)
+unfolding start code
+start-within e xs p l = omega (arith, concat-le (pages e (length xs)) (pageCode e xs) p l, length-pageCode e xs p)

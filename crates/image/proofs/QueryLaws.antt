@@ -1,0 +1,143 @@
+-- The way to an hour, step by step, over plain numbers. Assumes nothing.
+use mathlib.Core.Path.{_≡_, refl, sym, ap, _∙_}
+use mathlib.Core.Bool.{Bool, true, false}
+use mathlib.Core.List.{List}
+use Prim.Native.Nat.{ℕ, zero, suc, _+_, _-_, _*_, _/_, _%_, _^_, _≤_, _<_}
+use native.Mathlib.Omega.{arith}
+use lib.Dec.{leb, ltb}
+use borrow.Author.Tests.{le-leb, lt-leb, leb-true, lt-ltb, le-ltb, ne-eqb}
+use Rattle.lists.specs.Lists.{pick}
+use Rattle.lists.proofs.Tests.{each}
+use Rattle.bits.specs.Bits.{bits}
+use Rattle.tree.specs.Code.{told as walked}
+use Rattle.tree.specs.Read.{Found, damaged, found, later, leftAt, leftOf, rightAt, walk}
+use Rattle.image.specs.Check.{headed}
+use Rattle.image.specs.Code.{Opened, PageAt, answered}
+use Rattle.image.specs.Query.{count, look, lookIn, pageFine, pageTests, reading, readingAt, theCount, theReading}
+use Rattle.image.specs.Read.{beforeOf, eOf, nOf, pagesOf, rootOf, sOf, sumOf, treeAt}
+use Rattle.image.specs.Reply.{given, refused}
+use Rattle.image.proofs.PageLaws.{hour-page}
+use Rattle.image.specs.declared.head.Head.{Head}
+use Rattle.image.specs.declared.page.Page.{Page}
+
+-- ---- what is found is no more than the sum
+abbrev pub Most : ℕ → Found → Type 0
+Most s damaged = Unit {0}
+Most s (found x c) = x + c ≤ s
+
+most-later : (l s : ℕ) (f : Found) → l ≤ s → Most (s - l) f → Most s (later l f)
+unfolding later
+most-later l s damaged i m = tt
+most-later l s (found x c) i m = omega arith
+
+most-up : (l s : ℕ) (f : Found) → l ≤ s → Most l f → Most s f
+most-up l s damaged i m = tt
+most-up l s (found x c) i m = omega arith
+
+walk-node : (h s l : ℕ) (b : List ℕ) (a j : ℕ) (t u : Bool) → leb l s ≡ t → Most l (walk h l b (leftAt s a) j)
+    → Most (s - l) (walk h (s - l) b (rightAt h s l a) (j - 2 ^ h))
+    → Most s (pick t (pick u (walk h l b (leftAt s a) j) (later l (walk h (s - l) b (rightAt h s l a) (j - 2 ^ h)))) damaged)
+unfolding pick
+walk-node h s l b a j true true e m n = most-up l s (walk h l b (leftAt s a) j) (leb-true l s e) m
+walk-node h s l b a j true false e m n = most-later l s (walk h (s - l) b (rightAt h s l a) (j - 2 ^ h)) (leb-true l s e) n
+walk-node h s l b a j false u e m n = tt
+
+pub walk-most : (h s : ℕ) (b : List ℕ) (a j : ℕ) → Most s (walk h s b a j)
+unfolding walk
+walk-most zero s b a j = omega arith
+walk-most (suc h) s b a j =
+    let l : ℕ = leftOf s b a in
+    walk-node h s l b a j (leb l s) (ltb j (2 ^ h)) refl (walk-most h l b (leftAt s a) j) (walk-most h (s - l) b (rightAt h s l a) (j - 2 ^ h))
+
+in-page : (s : List ℕ) (p j : ℕ) (t : Bool) → pageFine s p ≡ t → Most (sOf s) (lookIn s p j)
+unfolding lookIn pick pageFine sumOf
+in-page s p j true e =
+    let w = each (pageTests s p) e in
+    let f : leb (beforeOf s p) (rootOf s p) ≡ true = w .1 .1 .1 .1 .0 in
+    let g : rootOf s p ≤ sOf s = leb-true (rootOf s p) (sOf s) (w .1 .1 .0) in
+    rw e (most-up (rootOf s p) (sOf s) (later (beforeOf s p) (walk (eOf s) (sumOf s p) (bits s) (treeAt s p) j)) g
+    (most-later (beforeOf s p) (rootOf s p) (walk (eOf s) (sumOf s p) (bits s) (treeAt s p) j)
+    (leb-true (beforeOf s p) (rootOf s p) f) (walk-most (eOf s) (sumOf s p) (bits s) (treeAt s p) j)))
+in-page s p j false e = rw e tt
+
+pub look-most : (s : List ℕ) (i : ℕ) → Most (sOf s) (look s i)
+unfolding look
+look-most s i = go (i / 2 ^ eOf s) (i % 2 ^ eOf s)
+  where
+    go : (p j : ℕ) → Most (sOf s) (lookIn s p j)
+    go p j = in-page s p j (pageFine s p) refl
+
+-- ---- the way
+told-later : (k x y : ℕ) (f : Found) → y ≡ k * x → walked y k f ≡ walked 0 k (later x f)
+unfolding walked later
+told-later k x y damaged e = refl
+told-later k x y (found z c) e = omega (arith, e)
+
+module _ (s : List ℕ) (h : Head) (o : Opened s h) (i m k : ℕ) (em : m ≡ 2 ^ (h .e)) where
+  place : (i / m ≡ i / 2 ^ eOf s) × (i % m ≡ i % 2 ^ eOf s)
+  place = rw (em, o .head .e-is) (refl, refl)
+
+  pub look-page : i < h .hours → i / m < pagesOf s
+  unfolding pagesOf
+  look-page l = rw (place .0) (hour-page (eOf s) (nOf s) i (omega (arith, o .head .hours-is)))
+
+  pub look-bad : (r : Page) → PageAt s (i / m) r → r .ok ≡ false → 2 ^ 63 ≡ walked 0 k (look s i)
+  unfolding look lookIn pick walked
+  look-bad r p e = sym (rw (← place .0, sym (p .ok-is) ∙ e))
+
+  pub look-good : (r : Page) (y : ℕ) → PageAt s (i / m) r → r .ok ≡ true → y ≡ k * r .before
+      → walked y k (walk (h .e) (r .sum) (bits s) (r .at) (i % m)) ≡ walked 0 k (look s i)
+  unfolding look lookIn pick
+  look-good r y p e ey =
+      told-later k (r .before) y (walk (h .e) (r .sum) (bits s) (r .at) (i % m)) ey
+      ∙ ap (walked 0 k) (rw (o .head .e-is, p .before-is e, p .sum-is e, p .at-is e, ← place .0, ← place .1, sym (p .ok-is) ∙ e))
+
+-- ---- the answers
+pub count-five : (s : List ℕ) (i : ℕ) → headed s ≡ false → refused 5 ≡ count s i
+unfolding count pick
+count-five s i e = rw e
+
+pub count-seven : (s : List ℕ) (i : ℕ) → headed s ≡ true → nOf s ≤ i → refused 7 ≡ count s i
+unfolding count pick
+count-seven s i e l = rw (e, le-leb (nOf s) i l)
+
+answer-count : (t : ℕ) (f : Found) → t < 2 ^ 63 → Most t f → answered (walked 0 0 f) ≡ theCount f
+unfolding answered walked theCount pick
+answer-count t damaged l m = refl
+answer-count t (found x c) l m = rw (ne-eqb (0 + 0 * x + c) (2 ^ 63) (λ e. omega (arith, e))) (ap given {x = 0 + 0 * x + c} {y = c} (omega arith))
+
+answer-reading : (t : ℕ) (f : Found) → t < 2 ^ 63 → Most t f → answered (walked 0 1 f) ≡ theReading f
+unfolding answered walked theReading pick
+answer-reading t damaged l m = refl
+answer-reading t (found x c) l m =
+    rw (ne-eqb (0 + 1 * x + c) (2 ^ 63) (λ e. omega (arith, e))) (ap given {x = 0 + 1 * x + c} {y = x + c} (omega arith))
+
+pub count-found : (s : List ℕ) (h : Head) → Opened s h → (i r : ℕ) → i < h .hours → r ≡ walked 0 0 (look s i) → answered r ≡ count s i
+unfolding count pick
+count-found s h o i r l e =
+    ap answered e ∙ answer-count (sOf s) (look s i) (omega (arith, o .head .total-is, o .head .total-small)) (look-most s i)
+    ∙ sym (rw (o .passed, lt-leb (nOf s) i (omega (arith, o .head .hours-is))))
+
+pub reading-five : (s : List ℕ) (i : ℕ) → headed s ≡ false → refused 5 ≡ reading s i
+unfolding reading pick
+reading-five s i e = rw e
+
+pub reading-seven : (s : List ℕ) (i : ℕ) → headed s ≡ true → nOf s < i → refused 7 ≡ reading s i
+unfolding reading pick
+reading-seven s i e l = rw (e, lt-ltb (nOf s) i l)
+
+pub reading-none : (s : List ℕ) (i : ℕ) → headed s ≡ true → i ≡ 0 → given 0 ≡ reading s i
+unfolding reading pick readingAt
+reading-none s zero e z = rw (e, le-ltb (nOf s) 0 (omega arith))
+reading-none s (suc i) e z = absurd (omega (arith, z))
+
+-- 'Reading at i > 0 walks to hour i-1'
+pub reading-found : (s : List ℕ) (h : Head) → Opened s h → (i r : ℕ) → 1 ≤ i → i ≤ h .hours → r ≡ walked 0 1 (look s (i - 1))
+    → answered r ≡ reading s i
+unfolding reading pick readingAt
+reading-found s h o zero r k l e = absurd (omega arith)
+reading-found s h o (suc i) r k l e =
+    let z : suc i - 1 ≡ i = omega arith in
+    ap answered (e ∙ ap (λ (j : ℕ). walked 0 1 (look s j)) z)
+    ∙ answer-reading (sOf s) (look s i) (omega (arith, o .head .total-is, o .head .total-small)) (look-most s i)
+    ∙ sym (rw (o .passed, le-ltb (nOf s) (suc i) (omega (arith, o .head .hours-is))))

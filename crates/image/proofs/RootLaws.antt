@@ -1,0 +1,143 @@
+-- A page's roots and tests, over plain numbers. Assumes nothing.
+use mathlib.Core.Path.{_≡_, refl, sym, ap, ap₂, _∙_}
+use mathlib.Core.Bool.{true, false}
+use mathlib.Core.List.{List}
+use Prim.Native.Nat.{ℕ, zero, suc, _+_, _-_, _*_, _≤_, _<_}
+use native.Mathlib.Omega.{arith}
+use lib.ListN.{getD, take, drop}
+use lib.Dec.{leb}
+use borrow.Author.Tests.{le-leb, lt-leb}
+use Rattle.lists.specs.Lists.{part}
+use Rattle.lists.proofs.Tests.{every-of}
+use Rattle.bits.specs.Bits.{bits, value}
+use Rattle.bits.specs.Numbers.{numberAt}
+use Rattle.reserve.specs.Reserve.{digits, reserve}
+use Rattle.image.specs.Code.{BeforeAt, Opened, PageAt, RootAt}
+use Rattle.image.specs.Image.{pages}
+use Rattle.image.specs.Query.{beforeFits, fits, pageFine, pageTests}
+use Rattle.image.specs.Read.{beforeOf, codeAt, eOf, lOf, rootOf, sOf, startOf, sumOf, treeAt, widthOf}
+use Rattle.image.proofs.HeadLaws.{every-no, plain}
+use Rattle.image.specs.declared.head.Head.{Head}
+use Rattle.image.specs.declared.page.Root.{Root}
+use Rattle.image.specs.declared.page.Page.{Page}
+
+no : false ≡ true → ⊥
+no e = let z : _≡_ {A = ℕ} 0 1 = cc in omega arith
+
+-- ---- a root
+module _ (s : List ℕ) (h : Head) (o : Opened s h) (p a w : ℕ) (ea : a ≡ numberAt s (16 + 4 * p) 4) (ew : w ≡ digits (h .total)) where
+  width : w ≡ widthOf s
+  width = ew ∙ plain s h o .width
+
+  pub root-bad : h .bits < a + w → RootAt s p (record { ok = false; value = 0; end = 0 })
+  unfolding startOf
+  root-bad l = record {
+    ok-is = sym (lt-leb (startOf s p + widthOf s) (lOf s) (omega (arith, width, o .head .bits-is)));
+    value-is = λ n. absurd (no n);
+    end-is = λ n. absurd (no n);
+    end-le = λ n. absurd (no n);
+  }
+
+  pub root-good : (v : ℕ) → a + w ≤ h .bits → v ≡ value (take w (drop (8 * (16 + 4 * pages (h .e) (h .hours)) + a) (bits s)))
+      → RootAt s p (record { ok = true; value = v; end = a + w })
+  unfolding startOf rootOf
+  root-good v l e = record {
+    ok-is = sym (le-leb (startOf s p + widthOf s) (lOf s) (omega (arith, width, o .head .bits-is)));
+    value-is = λ _. e ∙ ap₂ (λ (x y : ℕ). value (part (bits s) x y)) (ap₂ _+_ (plain s h o .code-is) ea) width;
+    end-is = λ _. ap₂ _+_ ea width;
+    end-le = λ _. omega (arith, width, o .head .bits-is);
+  }
+
+-- ---- the root before
+pub before-first : (s : List ℕ) (p : ℕ) → p ≡ 0 → BeforeAt s p (record { ok = true; value = 0; end = 0 })
+unfolding beforeFits beforeOf
+before-first s zero e = record { ok-is = refl; value-is = λ _. refl }
+before-first s (suc p) e = absurd (omega (arith, e))
+
+pub before-next : (s : List ℕ) (p : ℕ) (r : Root) → 1 ≤ p → RootAt s (p - 1) r → BeforeAt s p r
+unfolding beforeFits beforeOf
+before-next s zero r l m = absurd (omega arith)
+before-next s (suc p) r l m =
+    let e : suc p - 1 ≡ p = omega arith in
+    let n : RootAt s p r = rw e at m in
+    record { ok-is = n .ok-is; value-is = n .value-is }
+
+-- ---- a page's tests
+pub page-bad : (s : List ℕ) (p k : ℕ) (r : Page) → r .ok ≡ false → getD (pageTests s p) k true ≡ false → PageAt s p r
+unfolding pageFine
+page-bad s p k r e f = record {
+  ok-is = e ∙ every-no (pageTests s p) k f;
+  before-is = λ n. absurd (no (sym e ∙ n));
+  sum-is = λ n. absurd (no (sym e ∙ n));
+  at-is = λ n. absurd (no (sym e ∙ n));
+  total = λ n. absurd (no (sym e ∙ n));
+  lies = λ n. absurd (no (sym e ∙ n));
+}
+
+-- past the tests of both roots: the page's own, t, and the one before, x
+module _ (s : List ℕ) (h : Head) (o : Opened s h) (p : ℕ) (t x : Root) (rt : RootAt s p t) (bx : BeforeAt s p x) (okt : t .ok ≡ true)
+    (okx : x .ok ≡ true) where
+  own : t .value ≡ rootOf s p
+  own = rt .value-is okt
+
+  last : x .value ≡ beforeOf s p
+  last = bx .value-is okx
+
+  sums : t .value - x .value ≡ sumOf s p
+  unfolding sumOf
+  sums = ap₂ _-_ own last
+
+  pub above-total : h .total < t .value → leb (rootOf s p) (sOf s) ≡ false
+  above-total l = lt-leb (rootOf s p) (sOf s) (omega (arith, own, o .head .total-is))
+
+  pub below-before : t .value < x .value → leb (beforeOf s p) (rootOf s p) ≡ false
+  below-before l = lt-leb (beforeOf s p) (rootOf s p) (omega (arith, own, last))
+
+  reserves : (v : ℕ) → v ≡ reserve (h .e) (t .value - x .value) → v ≡ reserve (eOf s) (sumOf s p)
+  reserves v e = e ∙ ap₂ reserve (o .head .e-is) sums
+
+  pub tree-passes : (v : ℕ) → v ≡ reserve (h .e) (t .value - x .value) → h .bits < t .end + v
+      → fits s (startOf s p + widthOf s) (reserve (eOf s) (sumOf s p)) ≡ false
+  tree-passes v e l =
+      lt-leb (startOf s p + widthOf s + reserve (eOf s) (sumOf s p)) (lOf s) (omega (arith, reserves v e, rt .end-is okt, o .head .bits-is))
+
+  pub page-good : (v a : ℕ) → v ≡ reserve (h .e) (t .value - x .value) → a ≡ 8 * (16 + 4 * pages (h .e) (h .hours)) → t .value ≤ h .total
+      → x .value ≤ t .value → t .end + v ≤ h .bits
+      → PageAt s p (record { ok = true; before = x .value; sum = t .value - x .value; at = a + t .end })
+  unfolding pageFine treeAt
+  page-good v a ev ea l m n =
+      let f = plain s h o in
+      let q = o .head in
+      let w : t .end ≡ startOf s p + widthOf s = rt .end-is okt in
+      let g : a ≡ codeAt s = ea ∙ f .code-is in
+      let r : v ≡ reserve (eOf s) (t .value - x .value) = ev ∙ ap (λ (k : ℕ). reserve k (t .value - x .value)) (q .e-is) in
+      record {
+        ok-is =
+            sym (every-of (pageTests s p) (
+              sym (rt .ok-is) ∙ okt,
+              (
+                sym (bx .ok-is) ∙ okx,
+                (
+                  le-leb (rootOf s p) (sOf s) (omega (arith, own, q .total-is)),
+                  (
+                    le-leb (beforeOf s p) (sOf s) (omega (arith, own, last, q .total-is)),
+                    (
+                      le-leb (beforeOf s p) (rootOf s p) (omega (arith, own, last)),
+                      (le-leb (startOf s p + widthOf s + reserve (eOf s) (sumOf s p)) (lOf s) (omega (arith, reserves v ev, w, q .bits-is)), tt),
+                    ),
+                  ),
+                ),
+              ),
+            ));
+        before-is = λ _. last;
+        sum-is = λ _. sums;
+        at-is = λ _. omega (arith, g, w);
+        total = λ _. omega (arith, q .total-is);
+        lies = λ _. record {
+          height = omega (arith, f .e-high, q .e-is);
+          total = omega (arith, q .total-small);
+          long = omega (arith, f .long);
+          inside = omega (arith, r, g, f .code-at, f .long);
+          small = omega (arith, r, g, f .code-at, f .few, q .bits-small);
+        };
+      }

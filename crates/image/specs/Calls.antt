@@ -1,0 +1,38 @@
+-- The calls that make an image: what they answer, and the bytes afterwards. Assumes nothing.
+use mathlib.Core.Bool.{Bool, true, false, _&&_}
+use mathlib.Core.List.{List, _++_}
+use Prim.Native.Nat.{ℕ}
+use lib.ListN.{length, drop}
+use lib.Dec.{leb}
+use Rattle.lists.specs.Lists.{sum, pick}
+use Rattle.image.specs.Image.{image}
+use Rattle.image.specs.Reply.{Reply, given, refused}
+
+-- length: 1, 'e outside 2 to 8'; 2, 'over 65,536 counts'; 3, the total 'above 4,294,967,295'; else 'the image's length in bytes'
+unfoldable pub lengthCall : ℕ → List ℕ → Reply
+lengthCall e xs =
+    pick (leb 2 e && leb e 8)
+    (pick (leb (length xs) 65536) (pick (leb (sum xs) 4294967295) (given (length (image e xs))) (refused 3)) (refused 2))
+    (refused 1)
+
+-- what a call that writes answers, and its buffer afterwards
+pub record Wrote : Type 0 where
+  pub reply : Reply
+  pub bytes : List ℕ
+
+-- 'A refusal is its number alone; no byte changes.'
+unfoldable pub unwritten : List ℕ → ℕ → Wrote
+unwritten out k = record { reply = refused k; bytes = out }
+
+-- an image into a buffer: 4, 'shorter than the image'; 'Bytes beyond the image are left unchanged.'
+unfoldable pub put : List ℕ → List ℕ → Wrote
+put out i = pick (leb (length i) (length out)) (record { reply = given (length i); bytes = i ++ drop (length i) out }) (unwritten out 4)
+
+-- past the refusals of length
+unfoldable pub putAfter : Reply → List ℕ → List ℕ → Wrote
+putAfter (given n) out i = put out i
+putAfter (refused k) out i = unwritten out k
+
+-- write: the refusals of length, then 4
+unfoldable pub writeCall : ℕ → List ℕ → List ℕ → Wrote
+writeCall e xs out = putAfter (lengthCall e xs) out (image e xs)

@@ -1,0 +1,15 @@
+-- Definitions of the crate.
+pub mod Image
+pub mod Reply
+pub mod Read
+pub mod Check
+pub mod Query
+pub mod Reach
+pub mod Calls
+pub mod Test
+pub mod Steps
+pub mod Code
+pub mod Answers
+pub mod Checking
+pub mod Writer
+pub mod Searching

@@ -1,0 +1,65 @@
+-- Count and reading on any bytes: 'Count and reading test only their path.' Assumes nothing.
+use mathlib.Core.Bool.{Bool, true, false}
+use mathlib.Core.List.{List, [], _∷_}
+use Prim.Native.Nat.{ℕ, zero, suc, _+_, _/_, _%_, _^_}
+use lib.Dec.{leb, ltb}
+use Rattle.lists.specs.Lists.{pick, every}
+use Rattle.bits.specs.Bits.{bits}
+use Rattle.reserve.specs.Reserve.{reserve}
+use Rattle.tree.specs.Read.{Found, damaged, found, later, walk}
+use Rattle.image.specs.Reply.{Reply, given, refused}
+use Rattle.image.specs.Read.{eOf, nOf, sOf, lOf, widthOf, startOf, rootOf, beforeOf, sumOf, treeAt}
+use Rattle.image.specs.Check.{headed}
+
+-- n bits of code from bit a of it on do not pass L
+abbrev pub fits : List ℕ → ℕ → ℕ → Bool
+fits s a n = leb (a + n) (lOf s)
+
+-- the root of the page before page p does not
+unfoldable pub beforeFits : List ℕ → ℕ → Bool
+beforeFits s zero = true
+beforeFits s (suc p) = fits s (startOf s p) (widthOf s)
+
+-- 'Damage there: either root or that tree passing L, a root above S, the page's root below the one before': page p has none of these
+abbrev pub pageTests : List ℕ → ℕ → List Bool
+pageTests s p =
+    fits s (startOf s p) (widthOf s)
+    ∷ beforeFits s p
+    ∷ leb (rootOf s p) (sOf s)
+    ∷ leb (beforeOf s p) (sOf s)
+    ∷ leb (beforeOf s p) (rootOf s p)
+    ∷ fits s (startOf s p + widthOf s) (reserve (eOf s) (sumOf s p))
+    ∷ []
+
+unfoldable pub pageFine : List ℕ → ℕ → Bool
+pageFine s p = every (pageTests s p)
+
+-- the way to count j of page p: damage, 'a left sum above its node on the walk' too, or the sum before the count, and the count
+unfoldable pub lookIn : List ℕ → ℕ → ℕ → Found
+lookIn s p j = pick (pageFine s p) (later (beforeOf s p) (walk (eOf s) (sumOf s p) (bits s) (treeAt s p) j)) damaged
+
+-- the way to hour i
+unfoldable pub look : List ℕ → ℕ → Found
+look s i = lookIn s (i / 2 ^ eOf s) (i % 2 ^ eOf s)
+
+-- 'queries: damage' is refusal 6
+unfoldable pub theCount : Found → Reply
+theCount damaged = refused 6
+theCount (found x c) = given c
+
+unfoldable pub theReading : Found → Reply
+theReading damaged = refused 6
+theReading (found x c) = given (x + c)
+
+-- 'Reading at i > 0 walks to hour i-1; reading at 0 is 0.'
+unfoldable pub readingAt : List ℕ → ℕ → Reply
+readingAt s zero = given 0
+readingAt s (suc i) = theReading (look s i)
+
+-- 'count i: 7 if i ≥ N'
+unfoldable pub count : List ℕ → ℕ → Reply
+count s i = pick (headed s) (pick (leb (nOf s) i) (refused 7) (theCount (look s i))) (refused 5)
+
+-- 'Reading i: 7 if i > N'
+unfoldable pub reading : List ℕ → ℕ → Reply
+reading s i = pick (headed s) (pick (ltb (nOf s) i) (refused 7) (readingAt s i)) (refused 5)

@@ -1,0 +1,106 @@
+// A page of an image: its root, the root before it, and the tests of both and of its tree.
+use crate::head::Head;
+use crate::head::code_at;
+use bits::numbers::get4;
+ghost use mathlib.Core.Bool.{false};
+ghost use mathlib.Core.Path.{_≡_};
+ghost use Prim.Native.Nat.{_+_, _*_, _<_};
+ghost use Rattle.image.specs.Read.{pagesOf};
+ghost use Rattle.image.specs.Code.{Opened, RootAt, BeforeAt, PageAt};
+
+// A root that was read: its number, and where it ends in the code. Where it passes L, ok is false and the rest says nothing.
+pub struct Root {
+    pub ok: bool,
+    pub value: u64,
+    pub end: u64,
+}
+
+// Page p's root.
+pub(crate) fn root_of(s: &[u8], h: Head, p: u64) -> Root
+    requires { ⌜ Opened (now s) h × (p < pagesOf (now s)) ⌝ }
+    ensures { λ r. ⌜ RootAt (now (s .entry)) p r ⌝ }
+{
+    let start = get4(s, 16 + 4 * (p as usize));
+    let w = reserve::digits_of(h.total);
+    let end = start + (w as u64);
+    if h.bits < end {
+        return Root {
+            ok: false,
+            value: 0,
+            end: 0,
+        };
+    }
+    let value = bits::get_field(s, code_at(h) + (start as usize), w);
+    Root {
+        ok: true,
+        value,
+        end,
+    }
+}
+
+// The root of the page before page p: 0 before page 0.
+pub(crate) fn root_before(s: &[u8], h: Head, p: u64) -> Root
+    requires { ⌜ Opened (now s) h × (p < pagesOf (now s)) ⌝ }
+    ensures { λ r. ⌜ BeforeAt (now (s .entry)) p r ⌝ }
+{
+    if p == 0 {
+        return Root {
+            ok: true,
+            value: 0,
+            end: 0,
+        };
+    }
+    root_of(s, h, p - 1)
+}
+
+// A page without damage in its roots, whose tree does not pass L: the root before it, its sum, and where its tree starts among the bits of
+// all the bytes. For another page ok is false and the rest says nothing.
+pub struct Page {
+    pub ok: bool,
+    pub before: u64,
+    pub sum: u64,
+    pub at: usize,
+}
+
+fn damaged() -> Page
+    ensures { λ r. ⌜ r .ok ≡ false ⌝ }
+{
+    Page {
+        ok: false,
+        before: 0,
+        sum: 0,
+        at: 0,
+    }
+}
+
+// Page p, tested.
+pub(crate) fn page_of(s: &[u8], h: Head, p: u64) -> Page
+    requires { ⌜ Opened (now s) h × (p < pagesOf (now s)) ⌝ }
+    ensures { λ r. ⌜ PageAt (now (s .entry)) p r ⌝ }
+{
+    let own = root_of(s, h, p);
+    if !own.ok {
+        return damaged();
+    }
+    let last = root_before(s, h, p);
+    if !last.ok {
+        return damaged();
+    }
+    if h.total < own.value {
+        return damaged();
+    }
+    if own.value < last.value {
+        return damaged();
+    }
+    let sum = own.value - last.value;
+    if h.bits < own.end + (reserve::reserve_of(h.e, sum) as u64) {
+        return damaged();
+    }
+    let at = code_at(h) + (own.end as usize);
+    Page {
+        ok: true,
+        before: last.value,
+        sum,
+        at,
+    }
+}

@@ -1,0 +1,7 @@
+-- Laws of the definitions.
+pub mod Parts
+pub mod Tables
+pub mod Sums
+pub mod Tests
+pub mod Occurrences
+pub mod Reach

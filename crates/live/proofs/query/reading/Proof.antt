@@ -1,0 +1,26 @@
+-- `live::query::reading` meets its contract. Assumes nothing.
+use native.Mathlib.Omega.{arith}
+use Rattle.store.proofs.SoundFacts.{facts}
+use Rattle.live.proofs.Questions.{reading-7, reading-is}
+use borrow.Author.Needs.{needs}
+use Rattle.live.proofs.query.reading.Statement.{statement}
+use Rattle.live.proofs.query.reading.Tie as tie
+
+of-requires : tie.Need-of-requires
+of-requires c κs = omega (arith, facts (c .before .args .s .now) (c .before .pre) .long)
+
+returns : tie.Need-returns
+returns c =
+    let b = c .before .before .before .before in
+    reading-7 (b .pre) (c .before .before .of .ensures) (b .args .i) (c .if1 .taken)
+
+reading-in-requires : tie.Need-reading-in-requires
+reading-in-requires c κs = search needs
+
+returns-2 : tie.Need-returns-2
+returns-2 c =
+    let b = c .before .before .before .before .before in
+    reading-is (b .pre) (c .before .before .before .of .ensures) (b .args .i) (c .reading-in .result) (c .before .if1 .left) (c .reading-in .ensures)
+
+pub reading-spec : {M : Type 1} → statement M
+reading-spec = tie.close (tie.spec of-requires returns reading-in-requires returns-2)

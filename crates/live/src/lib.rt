@@ -1,0 +1,81 @@
+// The live calls on a store's bytes. Each turns a store that is not sound down first, and then answers as the store's list does.
+mod change;
+mod page;
+mod query;
+mod search;
+
+use soundness::check;
+use store::answer::Answer;
+ghost use Rattle.store.specs.Plain.{Append, Count, Day, Free, Reach, Reading, Set};
+ghost use Rattle.store.specs.Call.{Called};
+ghost use Rattle.store.specs.Answers.{told};
+
+// Appends the count of the next hour.
+pub fn append(s: &mut [u8], v: u32) -> Answer
+    ensures { λ r. ⌜ Called (Append v) (now (s .entry)) (told r) (now (s .exit)) ⌝ }
+{
+    if !check(s) {
+        return Answer::Refused(10);
+    }
+    change::append(s, v)
+}
+
+// Sets the count of hour i, which is logged.
+pub fn set(s: &mut [u8], i: u32, v: u32) -> Answer
+    ensures { λ r. ⌜ Called (Set i v) (now (s .entry)) (told r) (now (s .exit)) ⌝ }
+{
+    if !check(s) {
+        return Answer::Refused(10);
+    }
+    change::set(s, i, v)
+}
+
+// The count of hour i.
+pub fn count(s: &[u8], i: u32) -> Answer
+    ensures { λ r. ⌜ Called (Count i) (now (s .entry)) (told r) (now (s .exit)) ⌝ }
+{
+    if !check(s) {
+        return Answer::Refused(10);
+    }
+    query::count(s, i)
+}
+
+// The reading at i: the sum of the counts before hour i.
+pub fn reading(s: &[u8], i: u32) -> Answer
+    ensures { λ r. ⌜ Called (Reading i) (now (s .entry)) (told r) (now (s .exit)) ⌝ }
+{
+    if !check(s) {
+        return Answer::Refused(10);
+    }
+    query::reading(s, i)
+}
+
+// The smallest i whose reading is p or more.
+pub fn reach(s: &[u8], p: u32) -> Answer
+    ensures { λ r. ⌜ Called (Reach p) (now (s .entry)) (told r) (now (s .exit)) ⌝ }
+{
+    if !check(s) {
+        return Answer::Refused(10);
+    }
+    search::reach(s, p)
+}
+
+// The sum of the counts of day d.
+pub fn day(s: &[u8], d: u32) -> Answer
+    ensures { λ r. ⌜ Called (Day d) (now (s .entry)) (told r) (now (s .exit)) ⌝ }
+{
+    if !check(s) {
+        return Answer::Refused(10);
+    }
+    query::day(s, d)
+}
+
+// How many cells are free.
+pub fn free(s: &[u8]) -> Answer
+    ensures { λ r. ⌜ Called Free (now (s .entry)) (told r) (now (s .exit)) ⌝ }
+{
+    if !check(s) {
+        return Answer::Refused(10);
+    }
+    query::free(s)
+}

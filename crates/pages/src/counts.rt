@@ -1,0 +1,31 @@
+// A page's counts from its cells.
+use crate::entry::entry_of;
+use crate::gather::gather_at;
+ghost use mathlib.Core.Bool.{true};
+ghost use mathlib.Core.Path.{_≡_};
+ghost use Prim.Native.Nat.{_<_};
+ghost use Rattle.bits.specs.Numbers.{numberAt};
+ghost use Rattle.store.specs.Plain.{page};
+ghost use Rattle.store.specs.Reading.{read};
+ghost use Rattle.store.specs.Sound.{sound};
+ghost use Rattle.store.specs.Hours.{OfPage};
+
+// The counts of page p of a sound store, of the sum and cells given.
+pub fn counts_at(s: &[u8], pages: usize, p: usize, sum: u64, k: usize) -> [u32; 64]
+    requires { ⌜ OfPage (now s) pages p sum k ⌝ }
+    ensures { λ r. ⌜ r ≡ page (read (now (s .entry)) .plain .counts) p ⌝ }
+{
+    let code = gather_at(s, pages, p, k);
+    let mut counts = [0u32; 64];
+    tree::decode::decode(&code, 0, 6, sum, &mut counts, 0);
+    counts
+}
+
+// The same, where nothing of the page is known yet.
+pub fn page_counts(s: &[u8], p: usize) -> [u32; 64]
+    requires { ⌜ (sound (now s) ≡ true) × (p < numberAt (now s) 2 2) ⌝ }
+    ensures { λ r. ⌜ r ≡ page (read (now (s .entry)) .plain .counts) p ⌝ }
+{
+    let e = entry_of(s, p);
+    counts_at(s, e.pages, p, e.sum, e.cells)
+}

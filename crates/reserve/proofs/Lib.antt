@@ -1,0 +1,5 @@
+-- Laws of the definitions.
+pub mod Line
+pub mod Exact
+pub mod Fit
+pub mod Bounds

@@ -1,0 +1,77 @@
+-- Texts put into a buffer, one behind another. Assumes nothing.
+use mathlib.Core.Path.{_≡_, sym, ap, ap₂, _∙_}
+use mathlib.Core.List.{List, [], _∷_, _++_, append-assoc}
+use Prim.Native.Nat.{ℕ, _+_, _≤_, _<_}
+use native.Mathlib.Omega.{arith}
+use native.Mathlib.Numerals.{add-one}
+use lib.ListN.{length, getD, take, drop, set, length-append}
+use lib.Seq.{paste, paste-suc, length-paste, take-all}
+use Rattle.io.specs.Counts.{Counts}
+use Rattle.io.proofs.Counting.{counts}
+use Rattle.lists.specs.Lists.{splice}
+use Rattle.session.specs.Ascii.{bytes}
+use Rattle.session.specs.Printed.{decimal, printed, Prints}
+use Rattle.session.specs.declared.output.Reply.{Reply}
+use Rattle.session.specs.declared.output.Reply.the-variants.{Number, Done, Refused, Unknown}
+use Rattle.session.proofs.DecimalLaws.{decimal-length}
+use Rattle.lists.proofs.Parts.{splice-more, length-splice}
+
+-- a turn of the copying loop
+module _ (out : List ℕ) (at : ℕ) (text : List ℕ) (h : at + length text ≤ length out) (now : List ℕ) (i : ℕ) (e : now ≡ paste out at text i) where
+  pub put-room : i ≤ length text → length now ≡ length out
+  put-room l = ap length e ∙ length-paste out at text i (omega arith) l
+
+  pub put-turn : i < length text → set now (at + i) (getD text i 0) ≡ paste out at text (i + 1)
+  put-turn l = rw add-one (ap (λ (z : List ℕ). set z (at + i) (getD text i 0)) e ∙ paste-suc out at text i 0 (omega arith) l)
+
+  pub put-all : i ≤ length text → length text ≤ i → now ≡ splice out at text
+  unfolding splice
+  put-all l l′ =
+      let q : i ≡ length text = omega arith in
+      e ∙ append-assoc (take at out) (take i text) (drop (at + i) out)
+      ∙ ap₂ (λ (x y : List ℕ). take at out ++ (x ++ y)) (take-all i text l′) (ap (λ (k : ℕ). drop (at + k) out) q)
+
+-- two texts in a row are one
+pub put-both : (out : List ℕ) (at : ℕ) (a b mid fin : List ℕ) (end : ℕ) → at + length a + length b ≤ length out
+    → mid ≡ splice out at a → end ≡ at + length a → fin ≡ splice mid end b → fin ≡ splice out at (a ++ b)
+put-both out at a b mid fin end h p q r = r ∙ ap₂ (λ (z : List ℕ) (k : ℕ). splice z k b) p q ∙ splice-more out at a b h
+
+-- a number's line, from the digits that stand in a buffer of their own
+pub number-put : (out : List ℕ) (at n : ℕ) (text mid fin : List ℕ) (end r : ℕ) → at + 21 ≤ length out → text ≡ decimal n
+    → mid ≡ splice out at text → end ≡ at + length text → fin ≡ splice mid end (10 ∷ []) → r ≡ end + 1
+    → (r ≡ at + length (decimal n ++ (10 ∷ []))) × (fin ≡ splice out at (decimal n ++ (10 ∷ [])))
+number-put out at n text mid fin end r h e p q f g = (
+  omega (arith, length-append (decimal n) (10 ∷ []), ap length e, g, q),
+  put-both out at text (10 ∷ []) mid fin end (omega (arith, ap length e, decimal-length 20 n)) p q f
+      ∙ ap (λ (z : List ℕ). splice out at (z ++ (10 ∷ []))) e,
+)
+
+-- a word in front of a number's line
+pub refused-put : (out : List ℕ) (k : ℕ) (mid fin : List ℕ) (end r : ℕ) → 32 ≤ length out → mid ≡ splice out 0 (bytes "refused ") → end ≡ 0 + 8
+    → fin ≡ splice mid end (decimal k ++ (10 ∷ [])) → r ≡ end + length (decimal k ++ (10 ∷ []))
+    → (r ≡ 0 + length (bytes "refused " ++ (decimal k ++ (10 ∷ [])))) × (fin ≡ splice out 0 (bytes "refused " ++ (decimal k ++ (10 ∷ []))))
+refused-put out k mid fin end r h p q f g =
+    let w = length-append (bytes "refused ") (decimal k ++ (10 ∷ [])) in
+    let l = length-append (decimal k) (10 ∷ []) in (
+      omega (arith, w, g, q),
+      put-both out 0 (bytes "refused ") (decimal k ++ (10 ∷ [])) mid fin end (omega (arith, l, decimal-length 20 k)) p q f,
+    )
+
+-- no reply's line is longer
+printed-length : (reply : Reply) → length (printed reply) ≤ 32
+unfolding printed
+printed-length (Number n) = rw length-append (omega (arith, decimal-length 20 n))
+printed-length Done = omega arith
+printed-length (Refused k) =
+    omega (arith, length-append (bytes "refused ") (decimal k ++ (10 ∷ [])), length-append (decimal k) (10 ∷ []), decimal-length 20 k)
+printed-length Unknown = omega arith
+
+-- a reply's line is this text
+module _ (reply : Reply) (text : List ℕ) (e : printed reply ≡ text) (out : List ℕ) (h : 32 ≤ length out) where
+  pub prints : (fin : List ℕ) (r : ℕ) → r ≡ 0 + length text → fin ≡ splice out 0 text → Prints reply out r fin × Counts r fin
+  prints fin r p q =
+      let l : r ≡ length (printed reply) = omega (arith, ap length e, p) in
+      let f : fin ≡ splice out 0 (printed reply) = q ∙ ap (splice out 0) (sym e) in
+      let room = printed-length reply in
+      let k = ap length f ∙ length-splice out 0 (printed reply) (omega arith) in
+      (record { long = l; bytes = f }, counts r fin (omega (arith, k)))

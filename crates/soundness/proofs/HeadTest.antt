@@ -1,0 +1,121 @@
+-- The header's tests, one by one. Assumes nothing.
+use mathlib.Core.Path.{_≡_, sym, ap, ap₂, _∙_}
+use mathlib.Core.Bool.{true, false}
+use mathlib.Core.List.{List, [], _∷_}
+use Prim.Native.Nat.{ℕ, _+_, _*_, _≤_, _<_}
+use native.Mathlib.Omega.{arith}
+use lib.ListN.{length, getD, drop, length-drop}
+use lib.Seq.{length-take-le}
+use lib.Dec.{leb, eqb}
+use borrow.Author.Tests.{eq-eqb, eqb-true, le-leb, leb-true}
+use Rattle.lists.specs.Lists.{every, part, same, sum, tabulate}
+use Rattle.lists.proofs.Tests.{each, every-of, same-is}
+use Rattle.bits.specs.Numbers.{number, numberAt}
+use Rattle.store.specs.Heads.{Heads}
+use Rattle.store.specs.Reading.{sumIn}
+use Rattle.store.specs.declared.header.Header.{Header}
+use Rattle.store.proofs.Verdict.{headTests}
+use Rattle.soundness.proofs.General.{agree, every-last, every-no, same-eq}
+
+-- test k of the header fails
+pub head-fails : (s : List ℕ) (k : ℕ) → getD (headTests s) k true ≡ false → false ≡ every (headTests s)
+head-fails s k e = sym (every-no (headTests s) k e)
+
+-- two bytes, of which the second is 0, as a number
+pub pair-test : (s : List ℕ) (a x : ℕ) → a + 2 ≤ length s → x < 256 → same (part s a 2) (x ∷ 0 ∷ []) ≡ eqb (numberAt s a 2) x
+unfolding number
+pair-test s a x l h =
+    agree (same (part s a 2) (x ∷ 0 ∷ [])) (eqb (numberAt s a 2) x) (λ q. eq-eqb _ _ (ap number (same-is _ _ q) ∙ omega arith))
+    (λ q. same-eq _ _ (pair (part s a 2) (length-take-le 2 (drop a s) (omega (arith, length-drop a s))) (eqb-true (numberAt s a 2) x q)))
+  where
+    pair : (bs : List ℕ) → length bs ≡ 2 → number bs ≡ x → bs ≡ x ∷ 0 ∷ []
+    pair [] n e = absurd (omega (arith, n))
+    pair (b ∷ []) n e = absurd (omega (arith, n))
+    pair (b ∷ d ∷ []) n e =
+        let p : b ≡ x = omega arith in
+        let q : d ≡ 0 = omega arith in
+        ap₂ (λ (y z : ℕ). y ∷ z ∷ []) p q
+    pair (b ∷ d ∷ f ∷ bs) n e = absurd (omega (arith, n))
+
+-- what the header's tests but the last say
+pub record Headed (s : List ℕ) : Type 0 where
+  pub long : 16 ≤ length s
+  pub edition : numberAt s 0 2 ≡ 1
+  pub gap : numberAt s 10 2 ≡ 0
+  pub pages-low : 1 ≤ numberAt s 2 2
+  pub pages-high : numberAt s 2 2 ≤ 1024
+  pub cells-low : 1 ≤ numberAt s 4 2
+  pub cells-high : numberAt s 4 2 ≤ 1800
+  pub size : length s ≡ 16 + 6 * numberAt s 2 2 + 32 * numberAt s 4 2
+  pub hours : numberAt s 12 4 ≤ 64 * numberAt s 2 2
+
+-- they leave the last: the total
+pub head-last : (s : List ℕ) → Headed s → leb (sum (tabulate (numberAt s 2 2) (sumIn s))) 4294967295 ≡ every (headTests s)
+unfolding headTests
+head-last s h =
+    let P : ℕ = numberAt s 2 2 in
+    let C : ℕ = numberAt s 4 2 in
+    sym (every-last
+    (leb 16 (length s)
+    ∷ same (part s 0 2) (1 ∷ 0 ∷ [])
+    ∷ same (part s 10 2) (0 ∷ 0 ∷ [])
+    ∷ leb 1 P
+    ∷ leb P 1024
+    ∷ leb 1 C
+    ∷ leb C 1800
+    ∷ eqb (length s) (16 + 6 * P + 32 * C)
+    ∷ leb (numberAt s 12 4) (64 * P)
+    ∷ []) (leb (sum (tabulate P (sumIn s))) 4294967295)
+    (every-of _ (
+      le-leb 16 (length s) (h .long),
+      (
+        pair-test s 0 1 (omega arith) (omega arith) ∙ eq-eqb _ _ (h .edition),
+        (
+          pair-test s 10 0 (omega arith) (omega arith) ∙ eq-eqb _ _ (h .gap),
+          (
+            le-leb 1 P (h .pages-low),
+            (
+              le-leb P 1024 (h .pages-high),
+              (
+                le-leb 1 C (h .cells-low),
+                (le-leb C 1800 (h .cells-high), (eq-eqb _ _ (h .size), (le-leb (numberAt s 12 4) (64 * P) (h .hours), tt))),
+              ),
+            ),
+          ),
+        ),
+      ),
+    )))
+
+-- and the other way: past the header's tests
+pub headed : (s : List ℕ) → every (headTests s) ≡ true → Headed s
+unfolding headTests
+headed s e =
+    let w = each (headTests s) e in
+    let long : 16 ≤ length s = leb-true 16 (length s) (w .0) in
+    let tests = w .1 .1 .1 in
+    record {
+      long = long;
+      edition = eqb-true _ _ (sym (pair-test s 0 1 (omega arith) (omega arith)) ∙ w .1 .0);
+      gap = eqb-true _ _ (sym (pair-test s 10 0 (omega arith) (omega arith)) ∙ w .1 .1 .0);
+      pages-low = leb-true 1 (numberAt s 2 2) (tests .0);
+      pages-high = leb-true (numberAt s 2 2) 1024 (tests .1 .0);
+      cells-low = leb-true 1 (numberAt s 4 2) (tests .1 .1 .0);
+      cells-high = leb-true (numberAt s 4 2) 1800 (tests .1 .1 .1 .0);
+      size = eqb-true (length s) (16 + 6 * numberAt s 2 2 + 32 * numberAt s 4 2) (tests .1 .1 .1 .1 .0);
+      hours = leb-true (numberAt s 12 4) (64 * numberAt s 2 2) (tests .1 .1 .1 .1 .1 .0);
+    }
+
+-- what the walk over the pages needs of it, by the header that was read
+pub record Bounds (s : List ℕ) (h : Header) : Type 0 where
+  pub pages-high : h .pages ≤ 1024
+  pub cells-high : h .cells ≤ 1800
+  pub size : length s ≡ 16 + 6 * h .pages + 32 * h .cells
+
+pub bounds : (s : List ℕ) (h : Header) → every (headTests s) ≡ true → Heads s h → Bounds s h
+bounds s h e f =
+    let w = headed s e in
+    record {
+      pages-high = omega (arith, w .pages-high, f .pages-is);
+      cells-high = omega (arith, w .cells-high, f .cells-is);
+      size = omega (arith, w .size, f .pages-is, f .cells-is);
+    }

@@ -1,0 +1,11 @@
+-- Laws of the functions.
+pub mod General
+pub mod Quiet
+pub mod Blocks
+pub mod HeadTest
+pub mod PageTest
+pub mod CellTest
+pub mod FreeTest
+pub mod ChainTest
+pub mod Counting
+pub mod Checked

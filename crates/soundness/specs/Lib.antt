@@ -1,0 +1,3 @@
+-- What the functions of src/ ask and answer.
+pub mod Page
+pub mod Chains

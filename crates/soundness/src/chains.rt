@@ -1,0 +1,66 @@
+// The walk over all pages' chains.
+use crate::free::free_fits;
+use crate::page::page_fits;
+use bits::numbers::get4;
+use store::fill::put_block;
+use store::header::Header;
+use store::header::cell_at;
+use store::header::entry_at;
+use store::links::link;
+use store::page_bytes::cells_of;
+ghost use mathlib.Core.Bool.{true, _&&_};
+ghost use mathlib.Core.Path.{_≡_};
+ghost use lib.Dec.{leb};
+ghost use Rattle.lists.specs.Lists.{every};
+ghost use Rattle.store.proofs.Verdict.{headTests};
+ghost use Rattle.soundness.specs.Chains.{chainsFit};
+
+// Whether c is the number of a cell.
+pub(crate) fn is_cell(c: usize, cells: usize) -> bool
+    ensures { λ r. ⌜ r ≡ (leb 1 c && leb c cells) ⌝ }
+{
+    if c == 0 {
+        return false;
+    }
+    c <= cells
+}
+
+// Walks each page's chain, and marks each cell once; ends at the first broken chain. Of the code only the bytes of the page's cells are
+// looked at, so those of an earlier page may stand behind them.
+pub(crate) fn chains_fit(s: &[u8]) -> bool
+    requires { ⌜ every (headTests (now s)) ≡ true ⌝ }
+    ensures { λ r. ⌜ r ≡ chainsFit (now (s .entry)) ⌝ }
+{
+    let h = Header::of(s);
+    let pages = h.pages;
+    let cells = h.cells;
+    let hours = h.hours;
+    let mut marks = [0u8; 1801];
+    let mut code = [0u8; 240];
+    let mut ok = true;
+    let mut p = 0;
+    'pages: while p < pages {
+        let entry = entry_at(p);
+        let sum = get4(s, entry);
+        let k = cells_of(sum);
+        let mut at = entry + 4;
+        let mut j = 0;
+        while j < k {
+            let c = link(s, at);
+            if !is_cell(c, cells) || marks[c] != 0 {
+                ok = false;
+                break 'pages;
+            }
+            marks[c] = 1;
+            at = cell_at(pages, c);
+            put_block(&mut code, Header::CODE * j, s, at + 2);
+            j = j + 1;
+        }
+        if link(s, at) != 0 || !page_fits(&code, k, sum, p, hours) {
+            ok = false;
+            break 'pages;
+        }
+        p = p + 1;
+    }
+    ok && free_fits(s, pages, cells, marks)
+}

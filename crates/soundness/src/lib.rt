@@ -1,0 +1,18 @@
+// The soundness check of the live store.
+mod chains;
+mod free;
+mod head;
+mod page;
+
+ghost use mathlib.Core.Path.{_≡_};
+ghost use Rattle.store.specs.Sound.{sound};
+
+// Whether the bytes are a sound store. It ends on every content, and looks at no cell twice.
+pub fn check(s: &[u8]) -> bool
+    ensures { λ r. ⌜ r ≡ sound (now (s .entry)) ⌝ }
+{
+    if !head::head_fits(s) {
+        return false;
+    }
+    chains::chains_fit(s)
+}

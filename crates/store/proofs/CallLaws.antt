@@ -1,0 +1,114 @@
+-- The calls that change a store, in the numbers that the code has. Assumes nothing.
+use mathlib.Core.Path.{_≡_, refl, sym, ap, ap₂, _∙_}
+use mathlib.Core.Bool.{Bool, true, false}
+use mathlib.Core.List.{List, [], _∷_, _++_}
+use Prim.Native.Nat.{ℕ, _+_, _*_, _/_, _≤_, _<_}
+use native.Mathlib.Omega.{arith}
+use lib.ListN.{length, set}
+use lib.Dec.{eqb, leb}
+use borrow.Author.Tests.{eq-eqb, ne-eqb, le-leb, lt-leb}
+use Rattle.lists.specs.Lists.{pick}
+use Rattle.store.specs.Plain.{Answer, Append, Call, Outcome, Plain, Set, change, refused, step}
+use Rattle.store.specs.Layout.{bytesOf}
+use Rattle.store.specs.Reading.{read}
+use Rattle.store.specs.Sound.{sound}
+use Rattle.store.specs.Call.{Called, after, apply, call, hour}
+use Rattle.store.specs.Heads.{Heads}
+use Rattle.store.specs.declared.header.Header.{Header}
+use Rattle.store.specs.Hours.{Asked, Changes, changeTo, withHour}
+use Rattle.store.proofs.SoundFacts.{facts}
+
+-- a store that is not sound
+pub call-10 : (c : Call) (s : List ℕ) → sound s ≡ false → Called c s (refused 10) s
+unfolding call pick
+call-10 c s e = record { answer = rw e refl; bytes = rw e refl }
+
+-- a sound store answers as its list does
+call-sound : (c : Call) (s t : List ℕ) (r : Answer) → sound s ≡ true → r ≡ step c (read s .plain) .answer → t ≡ bytesOf (after c (read s))
+    → Called c s r t
+unfolding call pick
+call-sound c s t r e a b = record { answer = rw e a; bytes = rw e b }
+
+-- a refusal changes nothing
+refused-as : (c : Call) (s : List ℕ) (k : ℕ) → sound s ≡ true → step c (read s .plain) ≡ record { answer = refused k; counts = read s .plain .counts }
+    → Called c s (refused k) s
+unfolding after apply
+refused-as c s k e st =
+    call-sound c s s (refused k) e (sym (ap (λ (o : Outcome). o .answer) st))
+    (facts s e .same ∙ sym (ap (λ (o : Outcome). bytesOf (apply (read s) (hour c (read s .plain) / 64) o (o .answer))) st))
+
+-- a change of hour i is the call's
+changed-as : (c : Call) (s t : List ℕ) (i v : ℕ) (r : Answer) → sound s ≡ true → hour c (read s .plain) ≡ i → step c (read s .plain) ≡ changeTo s i v
+    → Changes s i v r t → Called c s r t
+unfolding after
+changed-as c s t i v r e h st w =
+    call-sound c s t r e (w .answer ∙ sym (ap (λ (o : Outcome). o .answer) st))
+    (w .bytes ∙ sym (ap₂ (λ (x : ℕ) (o : Outcome). bytesOf (apply (read s) (x / 64) o (o .answer))) h st))
+
+-- ---- append
+with-end : (xs : List ℕ) (v : ℕ) → withHour xs (length xs) v ≡ xs ++ v ∷ []
+unfolding withHour pick
+with-end xs v = rw (eq-eqb (length xs) (length xs) refl)
+
+append-room : (L : Plain) (v : ℕ) → length (L .counts) < 64 * L .pages → step (Append v) L ≡ change L (withHour (L .counts) (length (L .counts)) v)
+unfolding step pick
+append-room L v l = rw (lt-leb (64 * L .pages) (length (L .counts)) l) (ap (change L) (sym (with-end (L .counts) v)))
+
+append-full : (L : Plain) (v : ℕ) → 64 * L .pages ≤ length (L .counts) → step (Append v) L ≡ record { answer = refused 11; counts = L .counts }
+unfolding step pick
+append-full L v l = rw (le-leb (64 * L .pages) (length (L .counts)) l)
+
+append-hour : (v : ℕ) (L : Plain) → hour (Append v) L ≡ length (L .counts)
+unfolding hour
+append-hour v L = refl
+
+module _ {s : List ℕ} (v : ℕ) (e : sound s ≡ true) {H : Header} (h : Heads s H) where
+  pub append-11 : 64 * H .pages ≤ H .hours → Called (Append v) s (refused 11) s
+  append-11 l = let f = facts s e in refused-as (Append v) s 11 e
+      (append-full (read s .plain) v (omega (arith, f .hours-are, f .pages-are, h .hours-is, h .pages-is)))
+
+  pub append-asks : H .hours < 64 * H .pages → Asked s (H .hours)
+  append-asks l =
+      let f = facts s e in
+      record { is-sound = e; inside = omega (arith, h .hours-is, h .pages-is); reached = omega (arith, f .hours-are, h .hours-is) }
+
+  pub append-go : {t : List ℕ} {r : Answer} → H .hours < 64 * H .pages → Changes s (H .hours) v r t → Called (Append v) s r t
+  unfolding changeTo
+  append-go {t} {r} l w =
+      let f = facts s e in
+      let i : length (read s .plain .counts) ≡ H .hours = omega (arith, f .hours-are, h .hours-is) in
+      changed-as (Append v) s t (H .hours) v r e (append-hour v (read s .plain) ∙ i)
+      (append-room (read s .plain) v (omega (arith, f .pages-are, h .pages-is))
+      ∙ ap (λ (z : ℕ). change (read s .plain) (withHour (read s .plain .counts) z v)) i) w
+
+-- ---- set
+with-inside : (xs : List ℕ) (i v : ℕ) → i < length xs → withHour xs i v ≡ set xs i v
+unfolding withHour pick
+with-inside xs i v l = rw (ne-eqb i (length xs) (λ e. omega (arith, e)))
+
+set-room : (L : Plain) (i v : ℕ) → i < length (L .counts) → step (Set i v) L ≡ change L (withHour (L .counts) i v)
+unfolding step pick
+set-room L i v l = rw (lt-leb (length (L .counts)) i l) (ap (change L) (sym (with-inside (L .counts) i v l)))
+
+set-past : (L : Plain) (i v : ℕ) → length (L .counts) ≤ i → step (Set i v) L ≡ record { answer = refused 7; counts = L .counts }
+unfolding step pick
+set-past L i v l = rw (le-leb (length (L .counts)) i l)
+
+set-hour : (i v : ℕ) (L : Plain) → hour (Set i v) L ≡ i
+unfolding hour
+set-hour i v L = refl
+
+module _ {s : List ℕ} (i v : ℕ) (e : sound s ≡ true) {H : Header} (h : Heads s H) where
+  pub set-7 : H .hours ≤ i → Called (Set i v) s (refused 7) s
+  set-7 l = refused-as (Set i v) s 7 e (set-past (read s .plain) i v (omega (arith, facts s e .hours-are, h .hours-is)))
+
+  pub set-asks : i < H .hours → Asked s i
+  set-asks l =
+      let f = facts s e in
+      record { is-sound = e; inside = omega (arith, f .hours-fit, h .hours-is); reached = omega (arith, f .hours-are, h .hours-is) }
+
+  pub set-go : {t : List ℕ} {r : Answer} → i < H .hours → Changes s i v r t → Called (Set i v) s r t
+  unfolding changeTo
+  set-go {t} {r} l w =
+      let f = facts s e in
+      changed-as (Set i v) s t i v r e (set-hour i v (read s .plain)) (set-room (read s .plain) i v (omega (arith, f .hours-are, h .hours-is))) w

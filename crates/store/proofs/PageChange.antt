@@ -1,0 +1,335 @@
+-- What is written to a page is the page's change. Assumes nothing.
+use mathlib.Core.Path.{_≡_, refl, sym, ap, ap₂, subst₂, _∙_}
+use mathlib.Core.List.{List, [], _∷_, _++_, append-assoc}
+use Prim.Native.Nat.{ℕ, zero, suc, _+_, _-_, _*_, _/_, _≤_, _<_, max}
+use native.Mathlib.Nat.{not-suc-le-zero, le-of-suc-le-suc}
+use native.Mathlib.Omega.{arith}
+use native.Mathlib.Decide.{ℕ-discrete}
+use lib.ListN.{length, getD, take, drop, set, replicate, length-append, length-take, length-drop, length-replicate, take-append-drop}
+use lib.Seq.{take-append-le, drop-append-le, drop-append-add, drop-drop, getD-set-same, getD-set-other}
+use Rattle.lists.specs.Lists.{concat, occurrences, part, sum}
+use Rattle.bits.specs.Numbers.{little, number, numberAt}
+use Rattle.store.specs.Layout.{Model, bytesOf, cellAt, header, resize}
+use Rattle.store.specs.Links.{Ready, Steps, cut, filled, joined, put, rewritten}
+use Rattle.store.specs.PageCode.{cells, pageBytes}
+use Rattle.store.specs.Plain.{need, page}
+use Rattle.store.specs.Sound.{Good, onChains}
+use Rattle.lists.proofs.Occurrences.{occurrences-append, occurrences-getD-concat, occurrences-split, one-other, one-same}
+use Rattle.lists.proofs.Tests.{both}
+use Rattle.store.proofs.Filling.{Filled}
+use Rattle.store.proofs.FreshLaws.{cell-is, cell-le}
+use Rattle.store.proofs.Holds.{holds-only}
+use Rattle.store.proofs.Keep.{Off, keep, need-off, page-off, spare-is}
+use Rattle.store.proofs.Moved.{Moves, moves, filled-same, linked-same}
+use Rattle.store.proofs.Numbers.{number-two}
+use Rattle.store.proofs.PageCodeLaws.{cells-most, length-page}
+use Rattle.store.proofs.ReadBack.{page-le}
+use Rattle.store.proofs.Spread.{Spread, spread-holds}
+use Rattle.store.proofs.Zeros.{Zeroed, filled-split, zeroed, zeros-filled}
+use Rattle.store.proofs.Writes.{Apart, Chain, Linked, put-length, put-off, put-same}
+
+-- ---- chains of a good model
+occurrences-two : (c : ℕ) (css : List (List ℕ)) (p q : ℕ) → (q ≡ p → ⊥) → p < length css → q < length css
+    → occurrences c (getD css p []) + occurrences c (getD css q []) ≤ occurrences c (concat css)
+unfolding concat
+occurrences-two c [] p q ne l r = absurd (not-suc-le-zero l)
+occurrences-two c (cs ∷ css) zero zero ne l r = absurd (ne refl)
+occurrences-two c (cs ∷ css) zero (suc q) ne l r = omega (
+  arith,
+  occurrences-append c cs (concat css),
+  occurrences-getD-concat c css q (le-of-suc-le-suc r),
+)
+occurrences-two c (cs ∷ css) (suc p) zero ne l r = omega (
+  arith,
+  occurrences-append c cs (concat css),
+  occurrences-getD-concat c css p (le-of-suc-le-suc l),
+)
+occurrences-two c (cs ∷ css) (suc p) (suc q) ne l r = omega (
+  arith,
+  occurrences-append c cs (concat css),
+  occurrences-two c css p q (λ e. ne (ap suc e)) (le-of-suc-le-suc l) (le-of-suc-le-suc r),
+)
+
+module _ (m : Model) (g : Good m) where
+  chain-of : (cs : List ℕ) → ((d : ℕ) → occurrences d cs ≤ occurrences d (onChains m)) → Chain (m .plain .cells) cs
+  chain-of cs h = record {
+    once = λ d. omega (arith, h d, g .once d, cell-le (m .plain .cells) d);
+    from = λ d q. cell-is (m .plain .cells) d (omega (arith, h d, g .once d)) .0;
+    upto = λ d q. cell-is (m .plain .cells) d (omega (arith, h d, g .once d)) .1;
+  }
+
+  pub page-and-spare : (p : ℕ) → p < m .plain .pages → Chain (m .plain .cells) (getD (m .chains) p [] ++ m .spare)
+  unfolding onChains
+  page-and-spare p l =
+      chain-of (getD (m .chains) p [] ++ m .spare)
+      (λ d. omega (
+        arith,
+        occurrences-append d (getD (m .chains) p []) (m .spare),
+        occurrences-append d (concat (m .chains)) (m .spare),
+        occurrences-getD-concat d (m .chains) p (omega (arith, g .rows)),
+      ))
+
+  -- another page's cells
+  page-other : (p q : ℕ) → p < m .plain .pages → q < m .plain .pages → (q ≡ p → ⊥) → (d : ℕ) → 1 ≤ occurrences d (getD (m .chains) q [])
+      → (1 ≤ d) × (occurrences d (getD (m .chains) p [] ++ m .spare) ≡ 0)
+  unfolding onChains
+  page-other p q l r ne d i =
+      let w = occurrences-two d (m .chains) p q ne (omega (arith, g .rows)) (omega (arith, g .rows)) in
+      let a = occurrences-append d (concat (m .chains)) (m .spare) in (
+        cell-is (m .plain .cells) d (omega (arith, w, a, g .once d)) .0,
+        omega (arith, w, a, g .once d, cell-le (m .plain .cells) d, occurrences-append d (getD (m .chains) p []) (m .spare)),
+      )
+
+  module _ (s : List ℕ) (h : Spread s m) (ys : List ℕ) (i : ℕ) (o : Off (m .plain .counts) ys i) (li : i < 64 * m .plain .pages)
+      (ly : length ys ≤ 64 * m .plain .pages) (lt : sum ys ≤ 4294967295) (ln : need ys (m .plain .pages) ≤ m .plain .cells) where
+    abbrev P : ℕ
+    P = m .plain .pages
+
+    abbrev C : ℕ
+    C = m .plain .cells
+
+    abbrev p : ℕ
+    p = i / 64
+
+    abbrev e : ℕ
+    e = 16 + 6 * p + 4
+
+    abbrev n : ℕ
+    n = cells (sum (page ys p))
+
+    abbrev cs : List ℕ
+    cs = getD (m .chains) p []
+
+    abbrev fs : List ℕ
+    fs = m .spare
+
+    abbrev k : ℕ
+    k = length cs
+
+    abbrev J : List ℕ
+    J = cs ++ fs
+
+    abbrev X : List ℕ
+    X = take n J
+
+    abbrev Y : List ℕ
+    Y = drop n J
+
+    abbrev Y₁ : List ℕ
+    Y₁ = take (max k n - n) Y
+
+    abbrev B : List ℕ
+    B = drop (max k n - n) Y
+
+    abbrev code : List ℕ
+    code = pageBytes (page ys p) ++ replicate (240 - 30 * n) 0
+
+    lp : p < P
+    lp = omega arith
+
+    lr : p < length (m .chains)
+    lr = omega (arith, lp, g .rows)
+
+    lJ : length J ≡ k + length fs
+    lJ = length-append cs fs
+
+    fits : n ≤ length J
+    fits = omega (arith, lJ, need-off (m .plain .counts) ys i P o lp, spare-is m g, g .lengths p lp)
+
+    lX : length X ≡ n
+    lX = omega (arith, length-take n J, fits)
+
+    lY : length Y ≡ length J - n
+    lY = length-drop n J
+
+    lY₁ : length Y₁ ≡ max k n - n
+    lY₁ = omega (arith, length-take (max k n - n) Y, lY, lJ, fits)
+
+    lA : length (X ++ Y₁) ≡ max k n
+    lA = omega (arith, length-append X Y₁, lX, lY₁)
+
+    eY : Y₁ ++ B ≡ Y
+    eY = take-append-drop (max k n - n) Y
+
+    eX : X ++ Y ≡ J
+    eX = take-append-drop n J
+
+    eA : (X ++ Y₁) ++ B ≡ J
+    eA = append-assoc X Y₁ B ∙ ap (λ (z : List ℕ). X ++ z) eY ∙ eX
+
+    eight : n ≤ 8
+    eight = cells-most (sum (page ys p)) (omega (arith, page-le ys p))
+
+    eight-old : k ≤ 8
+    eight-old = omega (arith, g .lengths p lp, cells-most (sum (page (m .plain .counts) p)) (omega (arith, page-le (m .plain .counts) p, g .total)))
+
+    lcode : length (pageBytes (page ys p)) ≡ 30 * n
+    lcode = length-page (page ys p)
+
+    long : 30 * length (X ++ Y₁) ≤ length code
+    long = omega (
+      arith,
+      length-append (pageBytes (page ys p)) (replicate (240 - 30 * n) 0),
+      lcode,
+      length-replicate {A = ℕ} (240 - 30 * n) 0,
+      lA,
+      eight,
+      eight-old,
+    )
+
+    -- the arguments of the lemmas on a moved chain
+    size-le : 16 + 6 * P + 32 * C ≤ length s
+    size-le = omega (arith, h .size)
+
+    t : List ℕ
+    t = cut (filled (joined s P e k) P e (length (X ++ Y₁)) code) P e (length X)
+
+    mv : Moves s t P e cs fs (X ++ Y₁) B X Y code
+    unfolding t
+    mv =
+        moves s P C e cs fs code (g .cells-high) size-le (omega arith) (omega (arith, lp)) (page-and-spare p lp) (h .links p lp) (h .free)
+        (X ++ Y₁) B X Y eA eX long
+
+    t-is : t ≡ cut (filled (joined s P e k) P e (max k n) code) P e n
+    unfolding t
+    t-is = ap₂ (λ (a b : ℕ). cut (filled (joined s P e k) P e a code) P e b) lA lX
+
+    -- ---- the numbers
+    spare-word : numberAt s 8 2 ≡ length fs
+    spare-word = ap number (h .free-count) ∙ number-two (length fs) (omega (arith, spare-is m g, g .cells-high))
+
+    final : List ℕ
+    final = put (put (put t 8 2 (numberAt s 8 2 + k - n)) (16 + 6 * p) 4 (sum (page ys p))) 12 4 (length ys)
+
+    final-is : final ≡ rewritten s P p k n code (sum (page ys p)) (length ys)
+    unfolding final rewritten
+    final-is = ap (λ (z : List ℕ). put (put (put z 8 2 (numberAt s 8 2 + k - n)) (16 + 6 * p) 4 (sum (page ys p))) 12 4 (length ys)) t-is
+
+    off : (b l : ℕ) → Apart 8 2 b l → Apart (16 + 6 * p) 4 b l → Apart 12 4 b l → part final b l ≡ part t b l
+    unfolding final
+    off b l x y z = put-off _ 12 4 (length ys) b l z ∙ put-off _ (16 + 6 * p) 4 (sum (page ys p)) b l y ∙ put-off t 8 2 (numberAt s 8 2 + k - n) b l x
+
+    far : (b l : ℕ) → 16 + 6 * P ≤ b → part final b l ≡ part t b l
+    far b l r = off b l (λ q. absurd (omega arith)) (λ q. absurd (omega (arith, lp))) (λ q. absurd (omega arith))
+
+    new-size : length final ≡ 16 + 6 * P + 32 * C
+    unfolding final
+    new-size = put-length _ 12 4 (length ys) ∙ put-length _ (16 + 6 * p) 4 (sum (page ys p)) ∙ put-length t 8 2 (numberAt s 8 2 + k - n) ∙ mv .long
+        ∙ h .size
+
+    new-count : part final 8 2 ≡ little 2 (length Y)
+    unfolding final
+    new-count =
+        put-off _ 12 4 (length ys) 8 2 (λ q. omega arith) ∙ put-off _ (16 + 6 * p) 4 (sum (page ys p)) 8 2 (λ q. omega arith)
+        ∙ put-same t 8 2 (numberAt s 8 2 + k - n) (omega (arith, mv .long, size-le))
+        ∙ ap (little 2) {x = numberAt s 8 2 + k - n} {y = length Y} (omega (arith, spare-word, lY, lJ))
+
+    new-hours : part final 12 4 ≡ little 4 (length ys)
+    unfolding final
+    new-hours = put-same _ 12 4 (length ys)
+        (omega (
+          arith,
+          put-length (put t 8 2 (numberAt s 8 2 + k - n)) (16 + 6 * p) 4 (sum (page ys p)),
+          put-length t 8 2 (numberAt s 8 2 + k - n),
+          mv .long,
+          size-le,
+        ))
+
+    new-sum : part final (16 + 6 * p) 4 ≡ little 4 (sum (page ys p))
+    unfolding final
+    new-sum =
+        put-off _ 12 4 (length ys) (16 + 6 * p) 4 (λ q. absurd (omega arith))
+        ∙ put-same _ (16 + 6 * p) 4 (sum (page ys p)) (omega (arith, lp, put-length t 8 2 (numberAt s 8 2 + k - n), mv .long, size-le))
+
+    sum-at : (q : ℕ) → q < P → Dec (q ≡ p) → part final (16 + 6 * q) 4 ≡ little 4 (sum (page ys q))
+    sum-at q l (yes r) = rw r new-sum
+    sum-at q l (no r) =
+        off (16 + 6 * q) 4 (λ b. absurd (omega arith)) (λ b. omega (arith, less q r b)) (λ b. absurd (omega arith))
+        ∙ mv .low (16 + 6 * q) 4 (omega arith) (λ b. absurd (omega arith)) (λ b. omega arith)
+        ∙ h .sums q l ∙ ap (λ (z : List ℕ). little 4 (sum z)) (sym (page-off (m .plain .counts) ys i q o r))
+      where
+        less : (q : ℕ) → (q ≡ p → ⊥) → 16 + 6 * q < 16 + 6 * p + 4 → q < p
+        less q r b = omega arith
+
+    link-at : (q : ℕ) → q < P → Dec (q ≡ p) → Linked final P (16 + 6 * q + 4) (getD (set (m .chains) p X) q []) 0
+    link-at q l (yes r) =
+        rw (r, getD-set-same (m .chains) p X [] lr)
+        (linked-same t final P e X 0 (off e 2 (λ b. absurd (omega arith)) (λ b. absurd (omega arith)) (λ b. absurd (omega arith)))
+        (λ d b. far (cellAt P d) 2 (omega arith)) (mv .own))
+    link-at q l (no r) =
+        rw (getD-set-other (m .chains) p q X [] r)
+        (linked-same s final P (16 + 6 * q + 4) (getD (m .chains) q []) 0
+        (off (16 + 6 * q + 4) 2 (λ b. absurd (omega arith)) (λ b. omega arith) (λ b. absurd (omega arith))
+        ∙ mv .low (16 + 6 * q + 4) 2 (omega arith) (λ b. absurd (omega arith)) (λ b. omega arith))
+        (λ d b. let w = page-other p q lp l r d b in far (cellAt P d) 2 (omega arith) ∙ mv .other-link d (w .0) (w .1)) (h .links q l))
+
+    split : Filled t P X (pageBytes (page ys p)) × Filled t P Y₁ (replicate (240 - 30 * n) 0)
+    split = filled-split t P X Y₁ (pageBytes (page ys p)) (replicate (240 - 30 * n) 0) (omega (arith, lcode, lX)) (mv .coded)
+
+    fill-at : (q : ℕ) → q < P → Dec (q ≡ p) → Filled final P (getD (set (m .chains) p X) q []) (pageBytes (page ys q))
+    fill-at q l (yes r) =
+        rw (r, getD-set-same (m .chains) p X [] lr)
+        (filled-same t final P X (pageBytes (page ys p)) (λ d b. far (cellAt P d + 2) 30 (omega arith)) (split .0))
+    fill-at q l (no r) =
+        rw (getD-set-other (m .chains) p q X [] r, page-off (m .plain .counts) ys i q o r)
+        (filled-same s final P (getD (m .chains) q []) (pageBytes (page (m .plain .counts) q))
+        (λ d b. let w = page-other p q lp l r d b in far (cellAt P d + 2) 30 (omega arith) ∙ mv .other-code d (w .0) (w .1)) (h .fills q l))
+
+    -- the cells behind are free cells as they were
+    in-spare : (d : ℕ) → occurrences d B ≤ occurrences d fs
+    in-spare d =
+        let e₁ : B ≡ drop (max k n - k) fs =
+        drop-drop (max k n - n) n J ∙ ap (λ (z : ℕ). drop z J) {x = n + (max k n - n)} {y = length cs + (max k n - k)} (omega arith)
+        ∙ drop-append-add cs fs (max k n - k) in
+        omega (arith, ap (occurrences d) e₁, occurrences-split d (max k n - k) fs)
+
+    new-zeros : Zeroed final P Y
+    new-zeros d b = far (cellAt P d + 2) 30 (omega arith) ∙ go (ℕ-discrete (occurrences d Y₁) 0)
+      where
+        go : Dec (occurrences d Y₁ ≡ 0) → part t (cellAt P d + 2) 30 ≡ replicate 30 0
+        go (no r) = zeroed t P Y₁ (240 - 30 * n) (omega (arith, lY₁, eight, eight-old)) (split .1) d (omega arith)
+        go (yes r) =
+            let q : 1 ≤ occurrences d B = omega (arith, occurrences-append d Y₁ B, ap (occurrences d) eY) in
+            mv .tail d q ∙ zeroed s P fs (30 * length fs) (omega arith) (h .zeros) d (omega (arith, in-spare d))
+
+    -- a page's link, with what stands before the cells
+    spread-new : Spread final (resize m ys p n)
+    unfolding resize header concat little
+    spread-new = record {
+      size = new-size;
+      fixed = off 0 6 (λ q. omega arith) (λ q. omega arith) (λ q. omega arith) ∙ mv .low 0 6 (omega arith) (λ q. omega arith) (λ q. omega arith)
+          ∙ h .fixed;
+      free = linked-same t final P 6 Y 0 (off 6 2 (λ q. omega arith) (λ q. omega arith) (λ q. omega arith))
+          (λ d q. far (cellAt P d) 2 (omega arith)) (mv .rest);
+      free-count = new-count;
+      gap = off 10 2 (λ q. omega arith) (λ q. omega arith) (λ q. omega arith)
+          ∙ mv .low 10 2 (omega arith) (λ q. absurd (omega arith)) (λ q. omega arith) ∙ h .gap;
+      hours = new-hours;
+      sums = λ q l. sum-at q l (ℕ-discrete q p);
+      links = λ q l. link-at q l (ℕ-discrete q p);
+      fills = λ q l. fill-at q l (ℕ-discrete q p);
+      zeros = zeros-filled final P Y (30 * length Y) (omega arith) new-zeros;
+    }
+
+    -- the bytes are those of the changed model
+    pub rewritten-bytes : rewritten s P p k n code (sum (page ys p)) (length ys) ≡ bytesOf (resize m ys p n)
+    unfolding resize
+    rewritten-bytes =
+        let g₂ : Good (resize m ys p n) = keep m ys i g o li ly lt ln in
+        sym final-is ∙ holds-only final (resize m ys p n) g₂ (spread-holds final (resize m ys p n) (g₂ .rows) spread-new)
+
+    -- and what the code asks for holds
+    pub ready : Ready s P p k n code (sum (page ys p)) (length ys)
+    ready = record {
+      pages = g .pages-high;
+      page = lp;
+      size = omega (arith, size-le);
+      long = rw (← lA) long;
+      small = omega (arith, page-le ys p);
+      short = omega (arith, g .pages-high);
+      fits = omega (arith, spare-word, spare-is m g, g .cells-high, eight-old);
+      own = mv .steps₀;
+      both = rw (← lA) (mv .steps₁);
+      kept = subst₂ (λ (a b : ℕ). Steps (filled (joined s P e k) P e a code) P e b) lA lX (mv .steps₂);
+      enough = omega (arith, spare-word, lJ, fits);
+    }

@@ -1,0 +1,68 @@
+-- What holds of the bytes of a sound store, in the numbers that the code reads. Assumes nothing.
+use mathlib.Core.Path.{_≡_, refl, sym, ap, subst, _∙_}
+use mathlib.Core.Bool.{true}
+use mathlib.Core.List.{List}
+use Prim.Native.Nat.{ℕ, _+_, _*_, _≤_, _<_}
+use native.Mathlib.Omega.{arith}
+use lib.ListN.{length}
+use Rattle.lists.specs.Lists.{sum}
+use Rattle.bits.specs.Numbers.{numberAt}
+use Rattle.store.specs.Plain.{need, page}
+use Rattle.store.specs.Layout.{Model, bytesOf, entryAt}
+use Rattle.store.specs.Reading.{read, readFor, spareIn, sumIn}
+use Rattle.store.specs.Sound.{Good, sound}
+use Rattle.store.proofs.Holds.{Holds, holds-bytes}
+use Rattle.store.proofs.Keep.{spare-is}
+use Rattle.store.proofs.ReadBack.{hours-is, page-le, spare-count, sum-is}
+use Rattle.store.proofs.SoundLaws.{sound-good}
+
+-- the numbers of the header and of the entries
+pub record Facts (s : List ℕ) : Type 0 where
+  pub good : Good (read s)
+  pub holds : Holds s (read s)
+  pub same : s ≡ bytesOf (read s)
+  pub pages-are : numberAt s 2 2 ≡ read s .plain .pages
+  pub cells-are : numberAt s 4 2 ≡ read s .plain .cells
+  pub free-is : numberAt s 8 2 ≡ length (read s .spare)
+  pub hours-are : numberAt s 12 4 ≡ length (read s .plain .counts)
+  pub long : length s ≡ 16 + 6 * numberAt s 2 2 + 32 * numberAt s 4 2
+  pub pages-low : 1 ≤ numberAt s 2 2
+  pub pages-high : numberAt s 2 2 ≤ 1024
+  pub cells-low : 1 ≤ numberAt s 4 2
+  pub cells-high : numberAt s 4 2 ≤ 1800
+  pub hours-fit : numberAt s 12 4 ≤ 64 * numberAt s 2 2
+  pub total-fits : sum (read s .plain .counts) ≤ 4294967295
+  pub free-and-need : numberAt s 8 2 + need (read s .plain .counts) (numberAt s 2 2) ≡ numberAt s 4 2
+  pub sums : (p : ℕ) → p < numberAt s 2 2 → sumIn s p ≡ sum (page (read s .plain .counts) p)
+  pub sum-fits : (p : ℕ) → p < numberAt s 2 2 → sumIn s p ≤ 4294967295
+
+pub facts : (s : List ℕ) → sound s ≡ true → Facts s
+unfolding read readFor
+facts s e =
+    let m : Model = read s in
+    let g : Good m = sound-good s e .0 in
+    let h : Holds s m = subst (λ (z : List ℕ). Holds z m) (sym (sound-good s e .1)) (holds-bytes m g) in
+    record {
+      good = g;
+      holds = h;
+      same = sound-good s e .1;
+      pages-are = refl;
+      cells-are = refl;
+      free-is = spare-count s m g h;
+      hours-are = hours-is s m g h;
+      long = h .size;
+      pages-low = g .pages-low;
+      pages-high = g .pages-high;
+      cells-low = g .cells-low;
+      cells-high = g .cells-high;
+      hours-fit = omega (arith, hours-is s m g h, g .hours);
+      total-fits = g .total;
+      free-and-need = omega (arith, spare-count s m g h, spare-is m g);
+      sums = sum-is s m g h;
+      sum-fits = λ p l. omega (arith, sum-is s m g h p l, page-le (m .plain .counts) p, g .total);
+    }
+
+-- the sum that the code reads in page p's entry, at address e
+pub sum-read : (s : List ℕ) (p e r : ℕ) → e ≡ entryAt p → r ≡ numberAt s e 4 → r ≡ sumIn s p
+unfolding sumIn
+sum-read s p e r a h = h ∙ ap (λ (z : ℕ). numberAt s z 4) a

@@ -1,0 +1,91 @@
+-- Each call keeps a store good and does to its list what the plain list does. Assumes nothing.
+use mathlib.Core.Path.{_≡_, refl}
+use mathlib.Core.Bool.{Bool, true, false}
+use mathlib.Core.List.{List, [], _∷_, _++_}
+use Prim.Native.Nat.{ℕ, _+_, _-_, _*_, _/_, _≤_, _<_}
+use native.Mathlib.Omega.{arith}
+use lib.ListN.{length, set, length-append, length-set}
+use lib.Seq.{getD-set-other}
+use lib.Dec.{ltb}
+use borrow.Author.Tests.{ltb-true, ltb-false, leb-false}
+use Rattle.lists.specs.Lists.{pick, sum}
+use Rattle.store.specs.Call.{after, apply, hour}
+use Rattle.store.specs.Layout.{Model, resize}
+use Rattle.store.specs.PageCode.{cells}
+use Rattle.store.specs.Plain.{Append, Call, Count, Day, Free, Outcome, Plain, Reach}
+use Rattle.store.specs.Plain.{Reading, Set, answered, change, changed, need, next, refused, step}
+use Rattle.store.specs.Sound.{Good}
+use Rattle.lists.proofs.Occurrences.{getD-snoc}
+use Rattle.store.proofs.Keep.{Off, keep}
+
+-- the three ends of a change, each with what holds there
+pub data Change (L : Plain) (ys : List ℕ) : Outcome → Type 0 where
+  over : 4294967295 < sum ys → Change L ys (record { answer = refused 3; counts = L .counts })
+  short : sum ys ≤ 4294967295 → L .cells < need ys (L .pages) → Change L ys (record { answer = refused 12; counts = L .counts })
+  done : (r f : ℕ) → sum ys ≤ 4294967295 → need ys (L .pages) ≤ L .cells → Change L ys (record { answer = changed r f; counts = ys })
+
+pub change-is : (L : Plain) (ys : List ℕ) → Change L ys (change L ys)
+unfolding change pick
+change-is L ys = go (ltb 4294967295 (sum ys)) (ltb (L .cells) (need ys (L .pages))) refl refl
+  where
+    go : (a b : Bool) → ltb 4294967295 (sum ys) ≡ a → ltb (L .cells) (need ys (L .pages)) ≡ b → Change L ys (change L ys)
+    go true b e d = rw e (over (ltb-true _ _ e))
+    go false true e d = rw (e, d) (short (ltb-false _ _ e) (ltb-true _ _ d))
+    go false false e d = rw (e, d) (done _ _ (ltb-false _ _ e) (ltb-false _ _ d))
+
+-- a call's end: a refusal or an answer that changes nothing, or a change of the hour i
+pub data End (L : Plain) (i : ℕ) : Outcome → Type 0 where
+  said : (n : ℕ) → End L i (record { answer = answered n; counts = L .counts })
+  not-done : (n : ℕ) → End L i (record { answer = refused n; counts = L .counts })
+  made : (r f : ℕ) (ys : List ℕ) → Off (L .counts) ys i → i < 64 * L .pages → length ys ≤ 64 * L .pages → sum ys ≤ 4294967295
+      → need ys (L .pages) ≤ L .cells → End L i (record { answer = changed r f; counts = ys })
+
+change-end : {L : Plain} {ys : List ℕ} {o : Outcome} (i : ℕ) → Off (L .counts) ys i → i < 64 * L .pages → length ys ≤ 64 * L .pages
+    → Change L ys o → End L i o
+change-end i o li ly (over h) = not-done 3
+change-end i o li ly (short h j) = not-done 12
+change-end i o li ly (done r f h j) = made r f _ o li ly h j
+
+pick-end : (L : Plain) (i : ℕ) (b : Bool) (x y : Outcome) → (b ≡ true → End L i x) → (b ≡ false → End L i y) → End L i (pick b x y)
+unfolding pick
+pick-end L i true x y h j = h refl
+pick-end L i false x y h j = j refl
+
+pub step-end : (c : Call) (L : Plain) → length (L .counts) ≤ 64 * L .pages → End L (hour c L) (step c L)
+unfolding step hour
+step-end (Append v) L h =
+    pick-end L _ _ _ _ (λ _. not-done 11) (λ e.
+    let l : length (L .counts) < 64 * L .pages = leb-false _ _ e in
+    change-end (length (L .counts)) (getD-snoc (L .counts) v) l (omega (arith, length-append (L .counts) (v ∷ [])))
+    (change-is L (L .counts ++ v ∷ [])))
+step-end (Set i v) L h =
+    pick-end L _ _ _ _ (λ _. not-done 7) (λ e.
+    let l : i < length (L .counts) = leb-false _ _ e in
+    change-end i (λ j ne. getD-set-other (L .counts) i j v 0 ne) (omega arith) (omega (arith, length-set (L .counts) i v))
+    (change-is L (set (L .counts) i v)))
+step-end (Count i) L h = pick-end L _ _ _ _ (λ _. not-done 7) (λ _. said _)
+step-end (Reading i) L h = pick-end L _ _ _ _ (λ _. not-done 7) (λ _. said _)
+step-end (Reach p) L h = pick-end L _ _ _ _ (λ _. not-done 8) (λ _. said _)
+step-end (Day d) L h = pick-end L _ _ _ _ (λ _. not-done 7) (λ _. said _)
+step-end Free L h = said _
+
+apply-good : (m : Model) (i : ℕ) {o : Outcome} → Good m → End (m .plain) i o → Good (apply m (i / 64) o (o .answer))
+unfolding apply
+apply-good m i g (said n) = g
+apply-good m i g (not-done n) = g
+apply-good m i g (made r f ys o li ly ls ln) = keep m ys i g o li ly ls ln
+
+pub after-good : (c : Call) (m : Model) → Good m → Good (after c m)
+unfolding after
+after-good c m g = apply-good m (hour c (m .plain)) g (step-end c (m .plain) (g .hours))
+
+apply-plain : (m : Model) (i : ℕ) {o : Outcome} → End (m .plain) i o
+    → apply m (i / 64) o (o .answer) .plain ≡ record { pages = m .plain .pages; cells = m .plain .cells; counts = o .counts }
+unfolding apply resize
+apply-plain m i (said n) = refl
+apply-plain m i (not-done n) = refl
+apply-plain m i (made r f ys o li ly ls ln) = refl
+
+pub after-plain : (c : Call) (m : Model) → Good m → after c m .plain ≡ next c (m .plain)
+unfolding after next
+after-plain c m g = apply-plain m (hour c (m .plain)) (step-end c (m .plain) (g .hours))

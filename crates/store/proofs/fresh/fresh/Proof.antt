@@ -1,0 +1,82 @@
+use mathlib.Core.Path.{_≡_, sym, _∙_}
+use mathlib.Core.Bool.{true}
+use native.Mathlib.Omega.{arith}
+use borrow.Author.Tests.{not-true, not-false}
+use Rattle.store.specs.Call.{freshFits}
+use Rattle.store.proofs.FreshBytes.{fitting, started, started-9}
+use borrow.Author.Needs.{needs}
+use Rattle.store.proofs.fresh.fresh.Statement.{statement}
+use Rattle.store.proofs.fresh.fresh.Tie as tie
+use Rattle.store.proofs.fresh.fresh.Reads as reads
+use Rattle.store.proofs.fresh.fresh.Lts as lts
+use Rattle.store.proofs.fresh.chain_cells.Reads as chain-cells-reads
+use Rattle.store.proofs.fresh.clear.Reads as clear-reads
+use Rattle.store.proofs.fresh.fits.Reads as fits-reads
+use Rattle.store.proofs.header.Header.fresh.Reads as fresh-reads
+use Rattle.store.proofs.header.put_header.Reads as put-header-reads
+
+fits-requires : tie.Need-fits-requires
+fits-requires c κs = search needs
+
+same-length : tie.Need-same-length
+same-length c = search needs
+
+returns : tie.Need-returns
+returns c =
+    let a = c .before .before .before .before .args in
+    started-9 (a .s .now) (a .pages) (a .cells) (sym (c .before .fits2 .ensures) ∙ not-true _ (c .if1 .taken))
+
+clear-requires : tie.Need-clear-requires
+clear-requires c κs = search needs
+
+fresh-requires : tie.Need-fresh-requires
+fresh-requires c κs =
+    let d = c .before .before .before .before .before in
+    let a = d .before .before .before .before .args in
+    let e : freshFits (a .s .now) (a .pages) (a .cells) ≡ true = sym (d .before .fits2 .ensures) ∙ not-false _ (d .if1 .left) in
+    let w = fitting (a .s .now) (a .pages) (a .cells) e in
+    w .cells-low
+
+put-header-requires : tie.Need-put-header-requires
+put-header-requires c κs =
+    let d = c .before .before .before .before .before .before in
+    let a = d .before .before .before .before .args in
+    let e : freshFits (a .s .now) (a .pages) (a .cells) ≡ true = sym (d .before .fits2 .ensures) ∙ not-false _ (d .if1 .left) in
+    let w = fitting (a .s .now) (a .pages) (a .cells) e in
+    omega (arith, w .long)
+
+chain-cells-requires : tie.Need-chain-cells-requires
+chain-cells-requires c κs =
+    let d = c .before .before .before .before .before .before .before .before .before .before in
+    let a = d .before .before .before .before .args in
+    let e : freshFits (a .s .now) (a .pages) (a .cells) ≡ true = sym (d .before .fits2 .ensures) ∙ not-false _ (d .if1 .left) in
+    let w = fitting (a .s .now) (a .pages) (a .cells) e in
+    (w .pages-high, w .cells-low, w .cells-high, omega (arith, w .long))
+
+same-length-2 : tie.Need-same-length-2
+same-length-2 c = search needs
+
+returns-2 : tie.Need-returns-2
+returns-2 c =
+    let d = c .before .before .before .before .before .before .before .before .before .before .before .before .before in
+    let a = d .before .before .before .before .args in
+    let e : freshFits (a .s .now) (a .pages) (a .cells) ≡ true = sym (d .before .fits2 .ensures) ∙ not-false _ (d .if1 .left) in
+    let k = c .before .before .before .before .before .before .before .fresh .ensures in
+    let h = c .before .before .before .before .before .before .put-header .ensures in
+    started (a .s .now) (a .pages) (a .cells) _ _ _ _ e
+    (c .before .before .before .before .before .before .before .before .before .before .before .clear .ensures) k h
+    (c .before .before .chain-cells .ensures)
+
+pub fresh-spec : {M : Type 1} → statement M
+fresh-spec =
+    tie.close
+    (tie.spec
+    fits-requires
+    same-length
+    returns
+    clear-requires
+    fresh-requires
+    put-header-requires
+    chain-cells-requires
+    same-length-2
+    returns-2)

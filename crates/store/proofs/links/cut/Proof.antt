@@ -1,0 +1,39 @@
+use Rattle.store.specs.Links.{cut}
+use borrow.Author.Needs.{needs}
+use Rattle.store.proofs.links.cut.Statement.{statement}
+use Rattle.store.proofs.links.cut.Tie as tie
+use Rattle.store.proofs.links.cut.Reads as reads
+use Rattle.store.proofs.links.cut.Lts as lts
+use Rattle.store.proofs.links.link.Reads as link-reads
+use Rattle.store.proofs.links.link_after.Reads as link-after-reads
+use Rattle.store.proofs.put.put_two.Reads as put-two-reads
+
+link-after-requires : tie.Need-link-after-requires
+link-after-requires c κs = search needs
+
+link-requires : tie.Need-link-requires
+link-requires c κs = search needs
+
+put-two-requires : tie.Need-put-two-requires
+put-two-requires c κs = search needs
+
+put-two-requires-2 : tie.Need-put-two-requires-2
+put-two-requires-2 c κs = search needs
+
+same-length : tie.Need-same-length
+same-length c = search needs
+
+returns : tie.Need-returns
+unfolding cut
+returns c = cc
+
+pub cut-spec : {M : Type 1} → statement M
+cut-spec =
+    tie.close
+    (tie.spec
+    link-after-requires
+    link-requires
+    put-two-requires
+    put-two-requires-2
+    same-length
+    returns)

@@ -1,0 +1,22 @@
+use Rattle.store.proofs.Writes.{put-splice}
+use mathlib.Core.Path.{_∙_}
+use borrow.Author.Needs.{needs}
+use Rattle.store.proofs.put.put_two.Statement.{statement}
+use Rattle.store.proofs.put.put_two.Tie as tie
+use Rattle.store.proofs.put.put_two.Reads as reads
+use Rattle.store.proofs.put.put_two.Lts as lts
+use Rattle.bits.proofs.numbers.put2.Reads as put2-reads
+
+put2-requires : tie.Need-put2-requires
+put2-requires c κs = search needs
+
+same-length : tie.Need-same-length
+same-length c = search needs
+
+returns : tie.Need-returns
+returns c =
+    let a = c .before .before .before .before .before .args in
+    c .before .before .put2 .ensures ∙ put-splice (a .s .now) (a .at) 2 (a .v) (c .before .before .before .before .before .pre)
+
+pub put-two-spec : {M : Type 1} → statement M
+put-two-spec = tie.close (tie.spec put2-requires same-length returns)

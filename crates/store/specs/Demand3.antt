@@ -1,0 +1,60 @@
+-- Mission demand 3: one claim about a whole list of calls on a fresh store. Assumes nothing.
+use mathlib.Core.Bool.{true}
+use mathlib.Core.List.{List, [], _∷_, _++_}
+use mathlib.Core.Logic.{_↔_}
+use mathlib.Core.Path.{_≡_}
+use Prim.Native.Nat.{ℕ, _+_, _-_, _*_, _≤_, _<_}
+use lib.ListN.{length, getD, take, set}
+use Rattle.lists.specs.Lists.{tabulate, concat, sum, occurrences}
+use Rattle.bits.specs.Numbers.{numberAt}
+use Rattle.store.specs.PageCode.{cells}
+use Rattle.store.specs.Plain.{Plain, Call, Append, Set, Free, Answer, answered, refused, page, need, plainEnd, plainAnswers, plainFresh}
+use Rattle.store.specs.Layout.{size}
+use Rattle.store.specs.Reading.{Runs, firstIn, sumIn, chainIn, spareIn, read}
+use Rattle.store.specs.Sound.{sound, isCell}
+use Rattle.store.specs.Call.{call, storeEnd, storeAnswers, freshCall}
+
+-- a store that fresh made in the buffer b, after a list of calls; and the plain list that was fed the same calls
+abbrev pub storeAfter : List ℕ → ℕ → ℕ → List Call → List ℕ
+storeAfter b P C cs = storeEnd cs (freshCall b P C .bytes)
+
+abbrev pub listAfter : ℕ → ℕ → List Call → Plain
+listAfter P C cs = plainEnd cs (plainFresh P C)
+
+-- answer n of the list of calls
+abbrev pub answerAt : List ℕ → ℕ → ℕ → List Call → ℕ → Answer
+answerAt b P C cs n = getD (storeAnswers cs (freshCall b P C .bytes)) n (answered 0)
+
+-- an append or set that passes the checks before 12, and the list that it asks for
+pub data Passes : Call → Plain → List ℕ → Type 0 where
+  appends : (v : ℕ) (L : Plain) → length (L .counts) < 64 * L .pages → sum (L .counts ++ v ∷ []) ≤ 4294967295
+      → Passes (Append v) L (L .counts ++ v ∷ [])
+  sets : (i v : ℕ) (L : Plain) → i < length (L .counts) → sum (set (L .counts) i v) ≤ 4294967295 → Passes (Set i v) L (set (L .counts) i v)
+
+-- For P pages, C cells, any buffer b of the right length and any list of calls. As the list is any list, all of this holds after every
+-- call of it.
+pub record Demand3 (b : List ℕ) (P C : ℕ) (cs : List Call) : Type 0 where
+  pub accepted : freshCall b P C .answer ≡ answered 0
+  -- each answer is the plain list's
+  pub answers : storeAnswers cs (freshCall b P C .bytes) ≡ plainAnswers cs (plainFresh P C)
+  -- the bytes are sound, as many as before, and say the plain list
+  pub is-sound : sound (storeAfter b P C cs) ≡ true
+  pub long : length (storeAfter b P C cs) ≡ size P C
+  pub list : read (storeAfter b P C cs) .plain ≡ listAfter P C cs
+  pub limits : (listAfter P C cs .pages ≡ P) × (listAfter P C cs .cells ≡ C)
+  -- in the bytes, each page's chain has the cells that the formula asks for, and ends; so has and does the free chain
+  pub page-sum : (p : ℕ) → p < P → sumIn (storeAfter b P C cs) p ≡ sum (page (listAfter P C cs .counts) p)
+  pub page-cells : (p : ℕ) → p < P → length (chainIn (storeAfter b P C cs) P p) ≡ cells (sum (page (listAfter P C cs .counts) p))
+  pub page-ends : (p : ℕ) → p < P → Runs (storeAfter b P C cs) P (firstIn (storeAfter b P C cs) p) (chainIn (storeAfter b P C cs) P p)
+  pub free-cells : length (spareIn (storeAfter b P C cs) P) ≡ C - need (listAfter P C cs .counts) P
+  pub free-ends : Runs (storeAfter b P C cs) P (numberAt (storeAfter b P C cs) 6 2) (spareIn (storeAfter b P C cs) P)
+  -- each cell, 1 to C, is on exactly one chain, and nothing else is on any
+  pub once : (c : ℕ) → occurrences c (concat (tabulate P (chainIn (storeAfter b P C cs) P)) ++ spareIn (storeAfter b P C cs) P) ≡ isCell C c
+  -- free cells are those that the formula leaves, and the figure that is answered is this
+  pub need-fits : need (listAfter P C cs .counts) P ≤ C
+  pub free : call Free (storeAfter b P C cs) .answer ≡ answered (C - need (listAfter P C cs .counts) P)
+  -- call n, an append or set that passes the earlier checks, is refused 12 exactly when the changed list needs more than C cells
+  pub when-12 : (n : ℕ) → n < length cs → (ys : List ℕ) → Passes (getD cs n Free) (listAfter P C (take n cs)) ys
+      → (answerAt b P C cs n ≡ refused 12) ↔ (C < need ys P)
+  -- and never with at least eight cells a page
+  pub never-12 : 8 * P ≤ C → (n : ℕ) → answerAt b P C cs n ≡ refused 12 → ⊥

@@ -1,0 +1,13 @@
+-- Definitions of the crate, in document 01's order.
+pub mod PageCode
+pub mod Plain
+pub mod Layout
+pub mod Reading
+pub mod Sound
+pub mod Call
+pub mod Demand3
+pub mod Links
+pub mod Heads
+pub mod Answers
+pub mod Hours
+pub mod Items

@@ -1,0 +1,96 @@
+-- Document 01, 'The plain list': its state, its calls, its refusals in order. It knows nothing of the store's bytes. Assumes nothing.
+use mathlib.Core.Bool.{Bool, true, false}
+use mathlib.Core.List.{List, [], _∷_, _++_}
+use Prim.Native.Nat.{ℕ, _+_, _-_, _*_}
+use lib.ListN.{length, getD, set}
+use lib.Dec.{leb, ltb}
+use Rattle.lists.specs.Lists.{tabulate, sum, pick, reading, reached}
+use Rattle.store.specs.PageCode.{cells}
+
+-- 'State: a list of counts, empty at first, and the P and C that fresh was given'
+pub record Plain : Type 0 where
+  pub pages : ℕ
+  pub cells : ℕ
+  pub counts : List ℕ
+
+pub data Call : Type 0 where
+  Append : ℕ → Call
+  Set : ℕ → ℕ → Call
+  Count : ℕ → Call
+  Reading : ℕ → Call
+  Reach : ℕ → Call
+  Day : ℕ → Call
+  Free : Call
+
+-- what a call answers: the cells taken and given back, a number, or a refusal
+pub data Answer : Type 0 where
+  changed : ℕ → ℕ → Answer
+  answered : ℕ → Answer
+  refused : ℕ → Answer
+
+-- the answer, and the list afterwards
+pub record Outcome : Type 0 where
+  pub answer : Answer
+  pub counts : List ℕ
+
+-- 'a refused call changes nothing', and a question does not either
+abbrev pub refuse : ℕ → Plain → Outcome
+refuse k L = record { answer = refused k; counts = L .counts }
+
+abbrev pub tell : ℕ → Plain → Outcome
+tell n L = record { answer = answered n; counts = L .counts }
+
+-- 'page p has hours 64p to 64p + 63': its 64 counts, zero from the list's end on
+unfoldable pub page : List ℕ → ℕ → List ℕ
+page xs p = tabulate 64 (λ j. getD xs (64 * p + j) 0)
+
+-- 'Need is the sum of the pages' cells by the formula': that of P pages
+unfoldable pub need : List ℕ → ℕ → ℕ
+need xs P = sum (tabulate P (λ p. cells (sum (page xs p))))
+
+-- '3 if the total would pass its limit, 12 if the new need is above C', else the list becomes ys. 'An accepted append or set answers the
+-- rise and the fall of need'
+unfoldable pub change : Plain → List ℕ → Outcome
+change L ys =
+    let old = need (L .counts) (L .pages) in
+    let new = need ys (L .pages) in
+    pick (ltb 4294967295 (sum ys)) (refuse 3 L)
+    (pick (ltb (L .cells) new) (refuse 12 L) (record { answer = changed (new - old) (old - new); counts = ys }))
+
+-- the hour at which day d begins
+abbrev pub dayStart : ℕ → ℕ
+dayStart d = 24 * d
+
+-- 'append v: refused 11 if 64P hours are logged, 3 .., 12 ..; else v joins the end'
+-- 'set i v: 7 if i ≥ N; 3; 12; else count i becomes v'
+-- 'count i: 7 if i ≥ N. Reading i: 7 if i > N'
+-- 'reach p: 8 if p is above the total; else the smallest i with reading at i ≥ p'
+-- 'day d: reading at 24d + 24 minus reading at 24d; 7 if 24d + 24 > N'
+-- 'free: C - need'
+unfoldable pub step : Call → Plain → Outcome
+step (Append v) L = pick (leb (64 * L .pages) (length (L .counts))) (refuse 11 L) (change L (L .counts ++ v ∷ []))
+step (Set i v) L = pick (leb (length (L .counts)) i) (refuse 7 L) (change L (set (L .counts) i v))
+step (Count i) L = pick (leb (length (L .counts)) i) (refuse 7 L) (tell (getD (L .counts) i 0) L)
+step (Reading i) L = pick (ltb (length (L .counts)) i) (refuse 7 L) (tell (reading (L .counts) i) L)
+step (Reach p) L = pick (ltb (sum (L .counts)) p) (refuse 8 L) (tell (reached p (L .counts)) L)
+step (Day d) L =
+    pick (ltb (length (L .counts)) (dayStart (d + 1))) (refuse 7 L)
+    (tell (reading (L .counts) (dayStart (d + 1)) - reading (L .counts) (dayStart d)) L)
+step Free L = tell (L .cells - need (L .counts) (L .pages)) L
+
+-- the plain list after a call
+unfoldable pub next : Call → Plain → Plain
+next c L = record { pages = L .pages; cells = L .cells; counts = step c L .counts }
+
+-- after a list of calls, and what these are answered, one by one
+unfoldable pub plainEnd : List Call → Plain → Plain
+plainEnd [] L = L
+plainEnd (c ∷ cs) L = plainEnd cs (next c L)
+
+unfoldable pub plainAnswers : List Call → Plain → List Answer
+plainAnswers [] L = []
+plainAnswers (c ∷ cs) L = step c L .answer ∷ plainAnswers cs (next c L)
+
+-- the list that fresh starts
+abbrev pub plainFresh : ℕ → ℕ → Plain
+plainFresh P C = record { pages = P; cells = C; counts = [] }

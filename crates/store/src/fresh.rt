@@ -1,0 +1,70 @@
+// A fresh store.
+use crate::answer::Answer;
+use crate::header::Header;
+use crate::header::cell_at;
+use crate::header::put_header;
+use crate::put::put_two;
+ghost use mathlib.Core.Path.{_≡_};
+ghost use Prim.Native.Nat.{_+_, _-_, _*_, _≤_};
+ghost use lib.ListN.{length, replicate};
+ghost use Rattle.store.specs.Layout.{size};
+ghost use Rattle.store.specs.Heads.{chained};
+ghost use Rattle.store.specs.Call.{Started, freshFits};
+ghost use Rattle.store.specs.Answers.{told};
+
+// Whether so many pages and cells are within the limits, and the buffer has their length.
+fn fits(s: &[u8], pages: usize, cells: usize) -> bool
+    ensures { λ r. ⌜ r ≡ freshFits (now (s .entry)) pages cells ⌝ }
+{
+    if pages < 1 {
+        return false;
+    }
+    if Header::MAX_PAGES < pages {
+        return false;
+    }
+    if cells < 1 {
+        return false;
+    }
+    if Header::MAX_CELLS < cells {
+        return false;
+    }
+    s.len() == Header::SIZE + Header::ENTRY * pages + Header::CELL * cells
+}
+
+// Makes every byte 0.
+fn clear(s: &mut [u8])
+    ensures { λ _. ⌜ now (s .exit) ≡ replicate (length (now (s .entry))) 0 ⌝ }
+{
+    let mut i = 0;
+    while i < s.len() {
+        s[i] = 0;
+        i = i + 1;
+    }
+}
+
+// Links each cell to the next one; the last keeps its link.
+fn chain_cells(s: &mut [u8], pages: usize, cells: usize)
+    requires { ⌜ (pages ≤ 1024) × (1 ≤ cells) × (cells ≤ 1800) × (length (now s) ≡ size pages cells) ⌝ }
+    ensures { λ _. ⌜ now (s .exit) ≡ chained (now (s .entry)) pages (cells - 1) ⌝ }
+{
+    let mut c = 1;
+    while c < cells {
+        put_two(s, cell_at(pages, c), c + 1);
+        c = c + 1;
+    }
+}
+
+// Makes the buffer a fresh store of so many pages and cells.
+pub fn fresh(s: &mut [u8], pages: u32, cells: u32) -> Answer
+    ensures { λ r. ⌜ Started (now (s .entry)) pages cells (told r) (now (s .exit)) ⌝ }
+{
+    let p = pages as usize;
+    let c = cells as usize;
+    if !fits(s, p, c) {
+        return Answer::Refused(9);
+    }
+    clear(s);
+    put_header(s, Header::fresh(p, c));
+    chain_cells(s, p, c);
+    Answer::Number(0)
+}

@@ -1,0 +1,95 @@
+// The header of a store, and where its other parts start.
+use crate::put::put_four;
+use crate::put::put_two;
+ghost use mathlib.Core.Path.{_≡_};
+ghost use Prim.Native.Nat.{_≤_, _<_};
+ghost use lib.ListN.{length};
+ghost use Rattle.store.specs.Layout.{entryAt, cellAt, fresh as freshModel};
+ghost use Rattle.store.specs.Heads.{Heads, HeadOf, Headed};
+
+pub struct Header {
+    pub pages: usize,
+    pub cells: usize,
+    pub first_free: usize,
+    pub free: usize,
+    pub hours: usize,
+}
+
+impl Header {
+    // The limits of the store.
+    pub const MAX_PAGES: usize = 1024;
+
+    pub const MAX_CELLS: usize = 1800;
+
+    pub const MAX_TOTAL: u64 = 4294967295;
+
+    pub const EDITION: usize = 1;
+    // The hours of a page.
+    pub const HOURS: usize = 64;
+    // The bytes of the header, of a page entry, of a cell, and of a cell's code.
+    pub const SIZE: usize = 16;
+
+    pub const ENTRY: usize = 6;
+
+    pub const CELL: usize = 32;
+
+    pub const CODE: usize = 30;
+
+    // The header of a fresh store: all cells are free.
+    pub fn fresh(pages: usize, cells: usize) -> Self
+        requires { ⌜ 1 ≤ cells ⌝ }
+        ensures { λ r. ⌜ HeadOf (freshModel pages cells) r ⌝ }
+    {
+        Self {
+            pages,
+            cells,
+            first_free: 1,
+            free: cells,
+            hours: 0,
+        }
+    }
+
+    // The header that stands in a store's bytes.
+    pub fn of(s: &[u8]) -> Self
+        requires { ⌜ 16 ≤ length (now s) ⌝ }
+        ensures { λ r. ⌜ Heads (now (s .entry)) r ⌝ }
+    {
+        Self {
+            pages: bits::numbers::get2(s, 2) as usize,
+            cells: bits::numbers::get2(s, 4) as usize,
+            first_free: bits::numbers::get2(s, 6) as usize,
+            free: bits::numbers::get2(s, 8) as usize,
+            hours: bits::numbers::get4(s, 12) as usize,
+        }
+    }
+}
+
+// Puts a header into a store's first 16 bytes.
+pub(crate) fn put_header(s: &mut [u8], h: Header)
+    requires { ⌜ 16 ≤ length (now s) ⌝ }
+    ensures { λ _. ⌜ Headed (now (s .entry)) h (now (s .exit)) ⌝ }
+{
+    put_two(s, 0, Header::EDITION);
+    put_two(s, 2, h.pages);
+    put_two(s, 4, h.cells);
+    put_two(s, 6, h.first_free);
+    put_two(s, 8, h.free);
+    put_two(s, 10, 0);
+    put_four(s, 12, h.hours as u64);
+}
+
+// Where page p's entry starts.
+pub fn entry_at(p: usize) -> usize
+    requires { ⌜ p ≤ 1024 ⌝ }
+    ensures { λ r. ⌜ r ≡ entryAt p ⌝ }
+{
+    Header::SIZE + Header::ENTRY * p
+}
+
+// Where cell c starts.
+pub fn cell_at(pages: usize, c: usize) -> usize
+    requires { ⌜ (pages ≤ 1024) × (1 ≤ c) × (c < 65536) ⌝ }
+    ensures { λ r. ⌜ r ≡ cellAt pages c ⌝ }
+{
+    Header::SIZE + Header::ENTRY * pages + Header::CELL * (c - 1)
+}

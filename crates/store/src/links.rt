@@ -1,0 +1,51 @@
+// Chains of cells. A link is a number of two bytes: a page's first cell, the first free cell, or a cell's next one.
+use crate::header::cell_at;
+use crate::put::put_two;
+ghost use mathlib.Core.Path.{_≡_};
+ghost use Prim.Native.Nat.{_+_, _≤_, _<_};
+ghost use lib.ListN.{length};
+ghost use Rattle.bits.specs.Numbers.{Number};
+ghost use Rattle.store.specs.Links.{linkAfter, Steps, joined, cut as cutAt};
+
+// The cell that the link at address at names.
+pub fn link(s: &[u8], at: usize) -> usize
+    requires { ⌜ at + 2 ≤ length (now s) ⌝ }
+    ensures { λ r. ⌜ Number (now (s .entry)) at 2 r ⌝ }
+{
+    bits::numbers::get2(s, at) as usize
+}
+
+// The address of the link that k cells from the link at address a lead to.
+pub(crate) fn link_after(s: &[u8], pages: usize, a: usize, k: usize) -> usize
+    requires { ⌜ (pages ≤ 1024) × Steps (now s) pages a k ⌝ }
+    ensures { λ r. ⌜ (r ≡ linkAfter (now (s .entry)) pages a k) × (r + 2 ≤ length (now (s .entry))) ⌝ }
+{
+    let mut at = a;
+    let mut left = k;
+    while 0 < left {
+        at = cell_at(pages, link(s, at));
+        left = left - 1;
+    }
+    at
+}
+
+// Puts the free chain behind the chain of k cells from the link at address e on.
+pub(crate) fn join(s: &mut [u8], pages: usize, e: usize, k: usize)
+    requires { ⌜ (pages ≤ 1024) × (8 ≤ length (now s)) × Steps (now s) pages e k ⌝ }
+    ensures { λ _. ⌜ now (s .exit) ≡ joined (now (s .entry)) pages e k ⌝ }
+{
+    let end = link_after(s, pages, e, k);
+    let free = link(s, 6);
+    put_two(s, end, free);
+}
+
+// Cuts the chain from the link at address e on after k cells: the rest is the free chain.
+pub(crate) fn cut(s: &mut [u8], pages: usize, e: usize, k: usize)
+    requires { ⌜ (pages ≤ 1024) × (8 ≤ length (now s)) × Steps (now s) pages e k ⌝ }
+    ensures { λ _. ⌜ now (s .exit) ≡ cutAt (now (s .entry)) pages e k ⌝ }
+{
+    let end = link_after(s, pages, e, k);
+    let rest = link(s, end);
+    put_two(s, 6, rest);
+    put_two(s, end, 0);
+}

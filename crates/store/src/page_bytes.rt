@@ -1,0 +1,12 @@
+// A page's code as the bytes of its cells.
+ghost use mathlib.Core.Path.{_≡_};
+ghost use Prim.Native.Nat.{_≤_};
+ghost use Rattle.store.specs.PageCode.{cells};
+
+// How many cells a page of sum s has.
+pub fn cells_of(s: u64) -> usize
+    requires { ⌜ s ≤ 4294967295 ⌝ }
+    ensures { λ r. ⌜ (r ≡ cells s) × (r ≤ 8) ⌝ }
+{
+    (reserve::reserve_of(6, s) + 239) / 240
+}

@@ -1,0 +1,76 @@
+-- One step of the check of a tree, as the code takes it. Assumes nothing.
+use mathlib.Core.Path.{_≡_, refl, sym, ap, ap₂, _∙_}
+use mathlib.Core.Bool.{Bool, true, false, _&&_}
+use mathlib.Core.List.{List}
+use Prim.Native.Nat.{ℕ, zero, suc, _+_, _-_, _≤_}
+use native.Mathlib.Omega.{arith}
+use borrow.Author.Tests.{le-leb}
+use Rattle.lists.specs.Lists.{every}
+use Rattle.reserve.specs.Reserve.{digits, reserve}
+use Rattle.tree.specs.Read.{leftOf, leftAt, rightAt}
+use Rattle.tree.specs.Exact.{clear, spareAt, spareLen, exact}
+use Rattle.tree.specs.Code.{Node}
+use Rattle.tree.specs.declared.node.Split.{Split}
+use Rattle.tree.proofs.Exacts.{exact-zero}
+use Rattle.tree.proofs.Rooting.{Inner}
+
+and-true : (x : Bool) → (x && true) ≡ x
+and-true true = refl
+and-true false = refl
+
+and-false : (x : Bool) → (x && false) ≡ false
+and-false true = refl
+and-false false = refl
+
+exact-suc : (h s l : ℕ) (b : List ℕ) (a : ℕ) → leftOf s b a ≡ l → l ≤ s
+    → exact (suc h) s b a ≡ (exact h l b (leftAt s a) && (exact h (s - l) b (rightAt h s l a) && clear b (spareAt h s l a) (spareLen h s l)))
+unfolding exact every
+exact-suc h s l b a e i = rw (e, le-leb l s i, and-true (clear b (spareAt h s l a) (spareLen h s l)))
+
+up : (h : ℕ) → (h ≡ 0 → ⊥) → suc (h - 1) ≡ h
+up h p = omega (arith, p)
+
+module _ (h s : ℕ) (b : List ℕ) (a : ℕ) where
+  pub exact-leaf : h ≡ 0 → true ≡ exact h s b a
+  unfolding exact
+  exact-leaf e = rw e
+
+  -- a tree of sum 0 has no bits
+  pub exact-none : s ≡ 0 → true ≡ exact h s b a
+  exact-none e = sym (ap (λ (z : ℕ). exact h z b a) e ∙ exact-zero h b a)
+
+  pub exact-bad : (h ≡ 0 → ⊥) → {r : Split} → Node b a (h - 1) s r → r .ok ≡ false → false ≡ exact h s b a
+  unfolding exact every
+  exact-bad p n e = sym (rw (sym (n .ok-is) ∙ e)) ∙ ap (λ (k : ℕ). exact k s b a) (up h p)
+
+module _ {h s : ℕ} {b : List ℕ} {a : ℕ} {r : Split} (i : Inner b a h s r) where
+  -- the three tests below the node
+  abbrev on-left : Bool
+  on-left = exact (h - 1) (r .left) b (r .first)
+
+  abbrev on-right : Bool
+  on-right = exact (h - 1) (s - r .left) b (r .second)
+
+  abbrev on-spare : Bool
+  on-spare = clear b (r .second + reserve (h - 1) (s - r .left)) (spareLen (h - 1) s (r .left))
+
+  tests : exact h s b a ≡ (on-left && (on-right && on-spare))
+  tests =
+      ap (λ (k : ℕ). exact k s b a) (sym (up h (i .high)))
+      ∙ exact-suc (h - 1) s (r .left) b a (sym (i .root .left-is (i .sound))) (i .root .left-le (i .sound))
+      ∙ sym (rw (i .root .first-is (i .sound), i .root .second-is (i .sound)))
+
+  pub exact-left-not : exact (h - 1) (r .left) b (r .first) ≡ false → false ≡ exact h s b a
+  exact-left-not f = sym (tests ∙ ap (λ (x : Bool). x && (on-right && on-spare)) f)
+
+  pub exact-right-not : exact (h - 1) (s - r .left) b (r .second) ≡ false → false ≡ exact h s b a
+  exact-right-not f = sym (tests ∙ ap (λ (x : Bool). on-left && (x && on-spare)) f ∙ and-false on-left)
+
+  -- what the left-over bits decide: they start at the right subtree's start and its reserve u, and go on to a and the node's reserve v
+  pub exact-last : exact (h - 1) (r .left) b (r .first) ≡ true → exact (h - 1) (s - r .left) b (r .second) ≡ true
+      → {u v : ℕ} → u ≡ reserve (h - 1) (s - r .left) → v ≡ reserve h s
+      → clear b (r .second + u) (a + v - (r .second + u)) ≡ exact h s b a
+  exact-last f g {u} {v} eu ev =
+      let whole : reserve (suc (h - 1)) s ≡ reserve h s = ap (λ (k : ℕ). reserve k s) (up h (i .high)) in
+      let rest : a + v - (r .second + u) ≡ spareLen (h - 1) s (r .left) = omega (arith, i .root .second-is (i .sound)) in
+      sym (tests ∙ ap₂ (λ (x y : Bool). x && (y && on-spare)) f g ∙ sym (ap₂ (clear b) (ap (λ (z : ℕ). r .second + z) eu) rest))

@@ -1,0 +1,68 @@
+-- The search by prefix sum in a tree's code finds the least index. Assumes nothing.
+use mathlib.Core.Path.{_≡_, refl, sym, ap, ap₂, _∙_}
+use mathlib.Core.Bool.{Bool, true, false, _&&_}
+use mathlib.Core.List.{List, [], _∷_, _++_, append-assoc, append-nil}
+use Prim.Native.Nat.{ℕ, zero, suc, _+_, _-_, _*_, _/_, _%_, _^_, _≤_, _<_}
+use native.Mathlib.Nat.{pow-succ', add-zero}
+use native.Mathlib.Omega.{arith}
+use native.Mathlib.Decide.{decLe, ℕ-discrete}
+use lib.ListN.{length, getD, take, drop, replicate, length-append, length-take, length-drop, length-replicate, take-append-drop}
+use lib.Seq.{take-at, drop-at, getD-take, getD-drop, take-take, drop-drop, length-take-le, take-add}
+use lib.Dec.{leb, ltb, eqb}
+use borrow.Author.Tests.{le-leb, lt-leb, lt-ltb, le-ltb, eq-eqb, ne-eqb}
+use Rattle.bits.specs.Bits.{field, value}
+use Rattle.bits.proofs.Laws.{length-field}
+use Rattle.reserve.specs.Reserve.{digits, reserve}
+use Rattle.reserve.proofs.Exact.{digits-is}
+use Rattle.reserve.proofs.Fit.{fit-all, one-cell}
+use Rattle.lists.specs.Lists.{sum, pick, part, fill, reached}
+use Rattle.tree.specs.Tree.{tree}
+use Rattle.tree.specs.Read.{leftOf, leftAt, rightAt, counts, Found, damaged, found, later, walk, Place, nowhere, place, shifted, seek}
+use Rattle.lists.proofs.Parts.{part-sub, part-in, mid, piece}
+use Rattle.lists.proofs.Sums.{sum-append, sum-halves, sum-take-le}
+use Rattle.lists.proofs.Reach.{reached-suc, reached-nil, reached-left, reached-right}
+use Rattle.bits.proofs.Packing.{Bits, bits-join, bits-field, bits-fill, length-fill, value-field}
+use Rattle.tree.proofs.Shape.{left-read, left-region, right-region, rest-is, left-long, right-long}
+
+moved : (n i : ℕ) → shifted n (place i) ≡ place (n + i)
+unfolding shifted
+moved n i = refl
+
+pub seek-left : (h s l : ℕ) (b : List ℕ) (a q : ℕ) → leftOf s b a ≡ l → l ≤ s → q ≤ l → seek (suc h) s b a q ≡ seek h l b (leftAt s a) q
+unfolding seek pick
+seek-left h s l b a q e i k = rw (e, le-leb l s i, le-leb q l k)
+
+pub seek-right : (h s l : ℕ) (b : List ℕ) (a q : ℕ) → leftOf s b a ≡ l → l ≤ s → l < q → seek (suc h) s b a q ≡ shifted (2 ^ h) (seek h (s - l) b (rightAt h s l a) (q - l))
+unfolding seek pick
+seek-right h s l b a q e i k = rw (e, le-leb l s i, lt-leb q l k)
+
+lone : (l : List ℕ) (q : ℕ) → length l ≡ 1 → 1 ≤ q → place 1 ≡ place (reached q l)
+unfolding reached
+lone [] q e k = absurd (omega (arith, e))
+lone (x ∷ []) q e k = ap place (sym (reached-suc q x [] k ∙ ap suc (reached-nil (q - x))))
+lone (x ∷ y ∷ l) q e k = absurd (omega (arith, e))
+
+pub seek-tree : (h : ℕ) (xs b : List ℕ) (a q : ℕ) → length xs ≡ 2 ^ h → 1 ≤ q → q ≤ sum xs → part b a (reserve h (sum xs)) ≡ tree h xs
+    → seek h (sum xs) b a q ≡ place (reached q xs)
+unfolding seek
+seek-tree zero xs b a q n k m e = lone xs q n k
+seek-tree (suc h) xs b a q n k m e =
+    go (decLe q (sum (take (2 ^ h) xs))) (λ i. seek-tree h (take (2 ^ h) xs) b (leftAt (sum xs) a) q (left-long h xs n) k i (left-region h xs b a e))
+    (λ i j. seek-tree h (drop (2 ^ h) xs) b (rightAt h (sum xs) (sum (take (2 ^ h) xs)) a) (q - sum (take (2 ^ h) xs)) (right-long h xs n) i j (right-region h xs b a e))
+  where
+    whole : (r : ℕ) → reached r (take (2 ^ h) xs ++ drop (2 ^ h) xs) ≡ reached r xs
+    whole r = ap (reached r) (take-append-drop (2 ^ h) xs)
+
+    go : Dec (q ≤ sum (take (2 ^ h) xs)) → (q ≤ sum (take (2 ^ h) xs) → seek h (sum (take (2 ^ h) xs)) b (leftAt (sum xs) a) q ≡ place (reached q (take (2 ^ h) xs)))
+        → (1 ≤ q - sum (take (2 ^ h) xs) → q - sum (take (2 ^ h) xs) ≤ sum (drop (2 ^ h) xs)
+        → seek h (sum (drop (2 ^ h) xs)) b (rightAt h (sum xs) (sum (take (2 ^ h) xs)) a) (q - sum (take (2 ^ h) xs)) ≡ place (reached (q - sum (take (2 ^ h) xs)) (drop (2 ^ h) xs)))
+        → seek (suc h) (sum xs) b a q ≡ place (reached q xs)
+    go (yes i) p r =
+        seek-left h (sum xs) (sum (take (2 ^ h) xs)) b a q (left-read h xs b a e) (sum-take-le (2 ^ h) xs) i ∙ p i
+        ∙ ap place (sym (reached-left q (take (2 ^ h) xs) (drop (2 ^ h) xs) i) ∙ whole q)
+    go (no i) p r =
+        seek-right h (sum xs) (sum (take (2 ^ h) xs)) b a q (left-read h xs b a e) (sum-take-le (2 ^ h) xs) (omega arith)
+        ∙ ap (λ (z : ℕ). shifted (2 ^ h) (seek h z b (rightAt h (sum xs) (sum (take (2 ^ h) xs)) a) (q - sum (take (2 ^ h) xs)))) (rest-is h xs b a e)
+        ∙ ap (shifted (2 ^ h)) (r (omega arith) (omega (arith, sum-halves (2 ^ h) xs)))
+        ∙ moved (2 ^ h) (reached (q - sum (take (2 ^ h) xs)) (drop (2 ^ h) xs))
+        ∙ ap place (ap (λ (z : ℕ). z + reached (q - sum (take (2 ^ h) xs)) (drop (2 ^ h) xs)) (sym (left-long h xs n)) ∙ sym (reached-right q (take (2 ^ h) xs) (drop (2 ^ h) xs) (omega arith)) ∙ whole q)

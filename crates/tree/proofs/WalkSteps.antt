@@ -1,0 +1,58 @@
+-- One step of the walk to a count, as the code takes it: its answer is one number. Assumes nothing.
+use mathlib.Core.Path.{_≡_, refl, sym, ap, _∙_}
+use mathlib.Core.Bool.{false}
+use mathlib.Core.List.{List}
+use Prim.Native.Nat.{ℕ, suc, _+_, _-_, _*_, _^_, _≤_, _<_}
+use native.Mathlib.Nat.{mul-le-mul-right}
+use native.Mathlib.Omega.{arith}
+use lib.Dec.{leb}
+use Rattle.lists.specs.Lists.{pick}
+use Rattle.tree.specs.Read.{leftOf, Found, damaged, found, later, walk}
+use Rattle.tree.specs.Code.{Node, told}
+use Rattle.tree.specs.declared.node.Split.{Split}
+use Rattle.tree.proofs.WalkLaws.{walk-left, walk-right}
+use Rattle.tree.proofs.Rooting.{Inner}
+
+-- the part of a left sum that is kept
+pub kept : (k l : ℕ) → k ≤ 1 → k * l ≤ l
+kept k l h = omega (arith, mul-le-mul-right l h)
+
+-- what stands before can be counted in acc or in the walk
+told-later : (acc k l : ℕ) (f : Found) → told (acc + k * l) k f ≡ told acc k (later l f)
+unfolding told later
+told-later acc k l damaged = refl
+told-later acc k l (found x c) = omega arith
+
+walk-damaged : (h s : ℕ) (b : List ℕ) (a j : ℕ) → leb (leftOf s b a) s ≡ false → walk (suc h) s b a j ≡ damaged
+unfolding walk pick
+walk-damaged h s b a j e = rw e
+
+module _ (h s : ℕ) (b : List ℕ) (a j acc k : ℕ) where
+  pub walk-leaf : h ≡ 0 → acc + s ≡ told acc k (walk h s b a j)
+  unfolding walk told
+  walk-leaf e = rw e (omega arith)
+
+  up : (h ≡ 0 → ⊥) → told acc k (walk h s b a j) ≡ told acc k (walk (suc (h - 1)) s b a j)
+  up p = ap (λ (i : ℕ). told acc k (walk i s b a j)) {x = h} {y = suc (h - 1)} (omega (arith, p))
+
+  pub walk-bad : (h ≡ 0 → ⊥) → {r : Split} → Node b a (h - 1) s r → r .ok ≡ false → 2 ^ 63 ≡ told acc k (walk h s b a j)
+  unfolding told
+  walk-bad p n e = rw (up p, walk-damaged (h - 1) s b a j (sym (n .ok-is) ∙ e))
+
+module _ {h s : ℕ} {b : List ℕ} {a : ℕ} {r : Split} (i : Inner b a h s r) where
+  said : leftOf s b a ≡ r .left
+  said = sym (i .root .left-is (i .sound))
+
+  small : r .left ≤ s
+  small = i .root .left-le (i .sound)
+
+  module _ (j acc k : ℕ) {m : ℕ} (half : m ≡ 2 ^ (h - 1)) where
+    pub walk-low : j < m → told acc k (walk (h - 1) (r .left) b (r .first) j) ≡ told acc k (walk h s b a j)
+    walk-low o =
+        rw (up h s b a j acc k (i .high), walk-left (h - 1) s (r .left) b a j said small (omega arith), i .root .first-is (i .sound))
+
+    pub walk-high : m ≤ j
+        → told (acc + k * r .left) k (walk (h - 1) (s - r .left) b (r .second) (j - m)) ≡ told acc k (walk h s b a j)
+    walk-high o =
+        rw (up h s b a j acc k (i .high), walk-right (h - 1) s (r .left) b a j said small (omega arith), i .root .second-is (i .sound), half)
+        (told-later acc k (r .left) _)

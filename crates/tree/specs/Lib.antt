@@ -1,0 +1,6 @@
+-- Definitions of the crate.
+pub mod Tree
+pub mod Read
+pub mod Exact
+pub mod Ranges
+pub mod Code

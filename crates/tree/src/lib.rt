@@ -1,0 +1,7 @@
+// The tree code: 2^h counts with a known sum as bits. Each function is a recursion in which h falls; a tree's bits are read and written
+// by their address in the whole slice.
+pub mod check;
+pub mod decode;
+mod node;
+pub mod walk;
+pub mod write;

@@ -1,0 +1,90 @@
+//! Compares the hour log's library with a plain second implementation and with
+//! the plain list of document 01.
+//!
+//! `second` runs the comparison; `second self-test` spoils the library's
+//! answers and bytes and sees that the comparison notices; `second program
+//! PATH` compares the session program. HOURLOG_ROUNDS makes the run so many
+//! times as long; HOURLOG_SEED plays one seed alone.
+
+mod bits;
+mod draw;
+mod ffi;
+mod image;
+mod image_calls;
+mod plain;
+mod program;
+mod random;
+mod refusal;
+mod reserve;
+mod run;
+mod self_test;
+mod session;
+mod store;
+mod store_bytes;
+mod store_calls;
+mod suites;
+mod tree;
+
+use ffi::{Function, Library};
+use run::Run;
+use std::process::ExitCode;
+use std::time::Instant;
+
+fn main() -> ExitCode {
+    let arguments: Vec<String> = std::env::args().skip(1).collect();
+    let good = match arguments.iter().map(String::as_str).collect::<Vec<_>>()[..] {
+        [] => compare_all(),
+        ["self-test"] => self_test::play(),
+        ["program", path] => program::play(path),
+        _ => {
+            eprintln!("usage: second [self-test | program PATH]");
+            false
+        }
+    };
+    if good {
+        ExitCode::SUCCESS
+    } else {
+        ExitCode::FAILURE
+    }
+}
+
+fn compare_all() -> bool {
+    let mut run = Run::new();
+    for suite in &suites::ALL {
+        let (start, before) = (Instant::now(), run.library.calls());
+        let outcome = (suite.play)(&mut run);
+        let calls = run.library.calls() - before;
+        let seconds = start.elapsed().as_secs_f32();
+        println!("{}: {calls} calls, {seconds:.1} s", suite.name);
+        if outcome.is_err() {
+            break;
+        }
+    }
+    let unmet = if run.whole() { unmet(&run.library) } else { 0 };
+    println!(
+        "second implementation: {} calls compared, {} differences",
+        run.library.calls(),
+        run.differences
+    );
+    run.differences == 0 && unmet == 0
+}
+
+/// Prints what each function answered; gives how many of them have not met
+/// all that document 01 lets them answer.
+fn unmet(library: &Library) -> usize {
+    let mut unmet = 0;
+    for function in Function::ALL {
+        let seen = &library.seen[function as usize];
+        let refusals = function.refusals();
+        let met: Vec<String> = refusals
+            .iter()
+            .map(|&number| format!("refused {number}: {}", seen[number]))
+            .collect();
+        println!("  {function:?}: answered {}, {}", seen[0], met.join(", "));
+        if seen[0] == 0 || refusals.iter().any(|&number| seen[number] == 0) {
+            println!("MISSING: {function:?} has not met all its outcomes");
+            unmet += 1;
+        }
+    }
+    unmet
+}

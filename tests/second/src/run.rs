@@ -1,0 +1,122 @@
+//! One run of the comparison: the library, how much to do, what was found.
+
+use crate::ffi::{Fault, Library};
+use std::fmt::Display;
+use std::ops::Range;
+
+/// Enough was found to end the run.
+pub struct Stopped;
+
+pub type Outcome = Result<(), Stopped>;
+
+/// Differences after which a run ends.
+const MOST_DIFFERENCES: u64 = 20;
+
+pub struct Run {
+    pub library: Library,
+    pub differences: u64,
+    amount: Amount,
+}
+
+enum Amount {
+    /// The default run so many times over, or one seed of it.
+    Rounds(u64, Option<u64>),
+    /// A hundredth of the default run, ended in silence by a difference.
+    SelfTest,
+}
+
+impl Run {
+    /// A run as long as HOURLOG_ROUNDS says, or of the seed HOURLOG_SEED alone.
+    pub fn new() -> Run {
+        let rounds = number_from("HOURLOG_ROUNDS").unwrap_or(1);
+        Run {
+            library: Library::default(),
+            differences: 0,
+            amount: Amount::Rounds(rounds, number_from("HOURLOG_SEED")),
+        }
+    }
+
+    pub fn self_test(fault: Option<Fault>) -> Run {
+        Run {
+            library: Library {
+                fault,
+                ..Library::default()
+            },
+            differences: 0,
+            amount: Amount::SelfTest,
+        }
+    }
+
+    pub fn is_self_test(&self) -> bool {
+        matches!(self.amount, Amount::SelfTest)
+    }
+
+    /// Whether every suite runs with all its seeds.
+    pub fn whole(&self) -> bool {
+        matches!(self.amount, Amount::Rounds(_, None))
+    }
+
+    /// Plays a case for each of a suite's seeds; `first` sets suites apart.
+    pub fn each_seed(
+        &mut self,
+        first: u64,
+        cases: u64,
+        case: fn(&mut Run, u64) -> Result<(), String>,
+    ) -> Outcome {
+        for seed in self.seeds(first, cases) {
+            let result = case(self, seed);
+            self.note(format!("seed {seed}"), result)?;
+        }
+        Ok(())
+    }
+
+    fn seeds(&self, first: u64, cases: u64) -> Range<u64> {
+        match self.amount {
+            Amount::Rounds(rounds, only) => {
+                let all = first..first + cases * rounds;
+                match only {
+                    None => all,
+                    Some(seed) if all.contains(&seed) => seed..seed + 1,
+                    Some(_) => 0..0,
+                }
+            }
+            Amount::SelfTest => first..first + cases.div_ceil(100),
+        }
+    }
+
+    /// The page sizes that a suite goes through.
+    pub fn page_sizes(&self) -> Range<u32> {
+        match self.amount {
+            Amount::Rounds(..) => 2..9,
+            Amount::SelfTest => 2..3,
+        }
+    }
+
+    /// Takes a case's result; a difference is printed and counted.
+    pub fn note(&mut self, case: impl Display, result: Result<(), String>) -> Outcome {
+        let Err(difference) = result else {
+            return Ok(());
+        };
+        self.differences += 1;
+        let enough = match self.amount {
+            Amount::SelfTest => 1,
+            Amount::Rounds(..) => {
+                println!("DIFFERENCE, {case}: {difference}");
+                MOST_DIFFERENCES
+            }
+        };
+        if self.differences < enough {
+            Ok(())
+        } else {
+            Err(Stopped)
+        }
+    }
+}
+
+fn number_from(variable: &str) -> Option<u64> {
+    let text = std::env::var(variable).ok()?;
+    Some(
+        text.parse()
+            .unwrap_or_else(|_| panic!("{variable} is no number: {text}")),
+    )
+}

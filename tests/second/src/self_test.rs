@@ -1,0 +1,61 @@
+//! Whether the comparison can fail: one answer or one byte of the library is
+//! spoilt, for each function in each suite, and each time it must be noticed.
+
+use crate::ffi::{Fault, Function, Spoilt};
+use crate::image::Reached;
+use crate::image_calls::allowed;
+use crate::refusal::Refusal;
+use crate::run::Run;
+use crate::suites::{self, Suite};
+
+pub fn play() -> bool {
+    check_latitude();
+    let mut unnoticed = 0;
+    let mut spoilt = 0;
+    for suite in &suites::ALL {
+        for fault in faults_of(suite) {
+            spoilt += 1;
+            if !notices(suite, fault) {
+                println!("UNNOTICED: {:?} of {:?}", fault.spoilt, fault.function);
+                unnoticed += 1;
+            }
+        }
+        println!("{}: done", suite.name);
+    }
+    println!("self-test: {spoilt} calls spoilt, {unnoticed} unnoticed");
+    unnoticed == 0
+}
+
+/// What can be spoilt in a suite: the functions that a clean run calls.
+fn faults_of(suite: &Suite) -> Vec<Fault> {
+    let mut clean = Run::self_test(None);
+    let outcome = (suite.play)(&mut clean);
+    assert!(outcome.is_ok(), "{}: a clean run differs", suite.name);
+    let called = |function: &Function| clean.library.calls_of(*function) > 0;
+    let mut faults = Vec::new();
+    for function in Function::ALL.into_iter().filter(called) {
+        for spoilt in [Spoilt::Answer, Spoilt::Byte] {
+            // Length is lent no bytes.
+            if (function, spoilt) != (Function::ImageLength, Spoilt::Byte) {
+                faults.push(Fault { function, spoilt });
+            }
+        }
+    }
+    faults
+}
+
+fn notices(suite: &Suite, fault: Fault) -> bool {
+    let mut run = Run::self_test(Some(fault));
+    (suite.play)(&mut run).is_err()
+}
+
+/// Reach on an image that is not accepted has exactly document 01's latitude.
+fn check_latitude() {
+    let free = Reached::BodyOrIndexTo(5);
+    assert!([-6, 0, 3, 5].iter().all(|&word| allowed(&free, word)));
+    assert!(![-8, -7, -5, -1, 6, 7]
+        .iter()
+        .any(|&word| allowed(&free, word)));
+    let bound = Reached::Exactly(Err(Refusal::Figure));
+    assert!(allowed(&bound, -8) && !allowed(&bound, -6) && !allowed(&bound, 0));
+}

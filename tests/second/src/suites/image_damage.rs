@@ -1,0 +1,130 @@
+//! Images that are damaged: verdict and every query must agree.
+
+use crate::bits::turn;
+use crate::image::image_of;
+use crate::image_calls::{compare_looking, Questions};
+use crate::random::{counts, Random, Size};
+use crate::run::{Outcome, Run};
+
+const FIRST_SEED: u64 = 4_000_000;
+const EACH_BIT: u64 = 60;
+const RANDOM: u64 = 4_000;
+const GARBAGE: u64 = 4_000;
+const LONGER: u64 = 60;
+
+pub fn play(run: &mut Run) -> Outcome {
+    run.each_seed(FIRST_SEED, EACH_BIT, each_bit_and_length)?;
+    run.each_seed(FIRST_SEED + 100_000, RANDOM, random_damage)?;
+    run.each_seed(FIRST_SEED + 200_000, GARBAGE, garbage_body)?;
+    run.each_seed(FIRST_SEED + 300_000, LONGER, longer_image)
+}
+
+/// An image of a few dozen hours, so that several pages and all parts of a
+/// page come under few bits.
+fn small_image(random: &mut Random) -> Vec<u8> {
+    let e = random.pick(&[2, 2, 3, 3, 4, 6, 8]);
+    let length = random.between(0, 30) as usize;
+    let size = random.pick(&Size::ALL);
+    image_of(&counts(random, length, size), e)
+}
+
+fn look(run: &mut Run, bytes: &[u8], random: &mut Random) -> Result<(), String> {
+    let questions = Questions::of(bytes, random, 40);
+    compare_looking(&mut run.library, bytes, &questions)
+}
+
+/// The image as it is, with each bit turned, at each shorter length and at
+/// some longer ones.
+fn each_bit_and_length(run: &mut Run, seed: u64) -> Result<(), String> {
+    let mut random = Random::new(seed);
+    let image = small_image(&mut random);
+    look(run, &image, &mut random)?;
+    for bit in 0..8 * image.len() {
+        let mut damaged = image.clone();
+        turn(&mut damaged, bit);
+        look(run, &damaged, &mut random).map_err(|text| format!("bit {bit}: {text}"))?;
+    }
+    for length in (0..image.len()).chain(image.len() + 1..image.len() + 10) {
+        let mut cut = image.clone();
+        cut.resize(length, 0);
+        look(run, &cut, &mut random).map_err(|text| format!("length {length}: {text}"))?;
+    }
+    Ok(())
+}
+
+/// An image of many pages with single bits turned here and there.
+fn longer_image(run: &mut Run, seed: u64) -> Result<(), String> {
+    let mut random = Random::new(seed);
+    let e = random.between(2, 8) as u32;
+    let length = random.between(100, 3_000) as usize;
+    let size = random.pick(&Size::ALL);
+    let image = image_of(&counts(&mut random, length, size), e);
+    for _ in 0..8 {
+        let mut damaged = image.clone();
+        let bit = random.below(8 * image.len() as u64) as usize;
+        turn(&mut damaged, bit);
+        let questions = Questions::of(&damaged, &mut random, 300);
+        compare_looking(&mut run.library, &damaged, &questions)
+            .map_err(|text| format!("bit {bit}: {text}"))?;
+    }
+    Ok(())
+}
+
+/// Several changes at once, of kinds that single bits do not give.
+fn random_damage(run: &mut Run, seed: u64) -> Result<(), String> {
+    let mut random = Random::new(seed);
+    let mut image = small_image(&mut random);
+    for _ in 0..random.between(1, 3) {
+        damage(&mut image, &mut random);
+    }
+    look(run, &image, &mut random)
+}
+
+fn damage(image: &mut [u8], random: &mut Random) {
+    let any = random.below(image.len() as u64) as usize;
+    let body = image.len() as u64 - 16;
+    match random.below(5) {
+        0 => image[any] = random.next() as u8,
+        1 => image[any] = random.pick(&[0, 1, 127, 128, 255]),
+        2 if body > 0 => image[16 + random.below(body) as usize] = random.next() as u8,
+        3 => nudge(image, random.pick(&[4, 8, 12]), random),
+        _ => nudge(image, 16, random),
+    }
+}
+
+/// Moves a number of four bytes a little up or down: N, S, L or a start.
+fn nudge(image: &mut [u8], at: usize, random: &mut Random) {
+    let Some(four) = image.get(at..at + 4) else {
+        return;
+    };
+    let value = u32::from_le_bytes(four.try_into().expect("four bytes"));
+    let moved = value.wrapping_add(random.below(17) as u32).wrapping_sub(8);
+    image[at..at + 4].copy_from_slice(&moved.to_le_bytes());
+}
+
+/// A good header over a body of random bytes, starts within or near L: the
+/// queries get past their first tests and meet every later one.
+fn garbage_body(run: &mut Run, seed: u64) -> Result<(), String> {
+    let mut random = Random::new(seed);
+    let e = random.pick(&[2, 3, 4, 5, 6, 8]) as u32;
+    let hours = random.between(0, 3 << e) as u32;
+    let code_bits = random.between(0, 700) as u32;
+    let total = random.next() as u32 >> random.below(32);
+    let mut image = vec![1, e as u8, 0, 0];
+    for number in [hours, total, code_bits] {
+        image.extend(number.to_le_bytes());
+    }
+    for _ in 0..hours.div_ceil(1 << e) {
+        let start = random.below(u64::from(code_bits) + 3) as u32;
+        image.extend(start.to_le_bytes());
+    }
+    let thin = random.one_in(2);
+    for byte in random.bytes(code_bits.div_ceil(8) as usize) {
+        image.push(if thin {
+            byte & random.next() as u8
+        } else {
+            byte
+        });
+    }
+    look(run, &image, &mut random)
+}
