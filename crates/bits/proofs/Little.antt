@@ -1,15 +1,15 @@
 -- Numbers of several bytes, low byte first. Assumes nothing.
 use mathlib.Core.Path.{_≡_, refl, sym, ap, ap₂, _∙_}
-use mathlib.Core.List.{List, [], _∷_, _++_}
+use mathlib.Core.List.{List, [], _∷_}
 use Prim.Native.Nat.{ℕ, zero, suc, _+_, _-_, _*_, _/_, _%_, _^_, _≤_, _<_}
 use native.Mathlib.Nat.{pow-succ'}
 use native.Mathlib.Omega.{arith}
 use native.Mathlib.Numerals.{add-one, add-two, add-three}
-use lib.ListN.{length, getD, take, drop, set, length-take, length-drop}
+use lib.ListN.{length, getD, take, drop, replicate, set}
 use lib.Seq.{drop-cons}
 use Rattle.lists.specs.Lists.{part, splice}
 use Rattle.bits.specs.Numbers.{little, number, numberAt, Number}
-use Rattle.lists.proofs.Parts.{sets-splice}
+use Rattle.lists.proofs.Parts.{length-part, sets-splice}
 
 pub length-little : (w v : ℕ) → length (little w v) ≡ w
 unfolding little
@@ -32,6 +32,11 @@ unfolding little
 bytes-little zero v = tt
 bytes-little (suc w) v = (omega arith, bytes-little w (v / 256))
 
+pub little-zeros : (w : ℕ) → little w 0 ≡ replicate w 0
+unfolding little
+little-zeros zero = refl
+little-zeros (suc w) = ap (λ (z : List ℕ). 0 ∷ z) (little-zeros w)
+
 -- and bytes are those of the number that they stand for
 pub little-number : (bs : List ℕ) → Bytes bs → little (length bs) (number bs) ≡ bs
 unfolding little number
@@ -45,6 +50,35 @@ pub number-small : (bs : List ℕ) → Bytes bs → number bs < 256 ^ length bs
 unfolding number
 number-small [] h = omega arith
 number-small (b ∷ bs) h = omega (arith, h .0, number-small bs (h .1), pow-succ' 256 (length bs))
+
+-- ---- lists of bytes, as a slice says it: whatever the place
+pub bytes-of : (s : List ℕ) → ((i : ℕ) → getD s i 0 < 256) → Bytes s
+bytes-of [] h = tt
+bytes-of (x ∷ s) h = (h 0, bytes-of s (λ i. h (suc i)))
+
+pub bytes-take : (n : ℕ) (s : List ℕ) → Bytes s → Bytes (take n s)
+bytes-take zero s h = tt
+bytes-take (suc n) [] h = tt
+bytes-take (suc n) (x ∷ s) h = (h .0, bytes-take n s (h .1))
+
+bytes-drop : (n : ℕ) (s : List ℕ) → Bytes s → Bytes (drop n s)
+bytes-drop zero s h = h
+bytes-drop (suc n) [] h = tt
+bytes-drop (suc n) (x ∷ s) h = bytes-drop n s (h .1)
+
+pub bytes-part : (s : List ℕ) → ((i : ℕ) → getD s i 0 < 256) → (a n : ℕ) → Bytes (part s a n)
+bytes-part s h a n = bytes-take n (drop a s) (bytes-drop a s (bytes-of s h))
+
+pub byte-take : (n : ℕ) (s : List ℕ) → ((i : ℕ) → getD s i 0 < 256) → (i : ℕ) → getD (take n s) i 0 < 256
+byte-take zero s h i = omega arith
+byte-take (suc n) [] h i = omega arith
+byte-take (suc n) (x ∷ s) h zero = h 0
+byte-take (suc n) (x ∷ s) h (suc i) = byte-take n s (λ j. h (suc j)) i
+
+-- the bytes of a part are those of the number that stands in them
+pub stored : (s : List ℕ) → ((i : ℕ) → getD s i 0 < 256) → (a w : ℕ) → a + w ≤ length s → part s a w ≡ little w (numberAt s a w)
+stored s h a w l =
+    sym (ap (λ (z : ℕ). little z (numberAt s a w)) (sym (length-part s a w l)) ∙ little-number (part s a w) (bytes-part s h a w))
 
 -- ---- reading: byte by byte
 number-next : (s : List ℕ) (a w : ℕ) → a < length s → numberAt s a (suc w) ≡ getD s a 0 + 256 * numberAt s (a + 1) w

@@ -2,13 +2,15 @@
 use mathlib.Core.Path.{_≡_, refl, sym, ap, ap₂, _∙_}
 use mathlib.Core.List.{List, [], _∷_, _++_, append-assoc, append-nil}
 use Prim.Native.Nat.{ℕ, zero, suc, _+_, _-_, _*_, _/_, _%_, _^_, _≤_, _<_}
-use native.Mathlib.Nat.{add-zero, add-suc}
+use native.Mathlib.Nat.{add-zero, mul-le-mul-right, pow-succ'}
 use native.Mathlib.Omega.{arith}
-use lib.ListN.{length, take, drop, replicate, length-append, length-take, length-drop, length-replicate, take-append-drop}
+use lib.ListN.{length, getD, take, drop, replicate, length-append, length-take, length-drop, length-replicate, take-append-drop}
+use lib.Seq.{take-nil, take-at, take-append-le, take-append-add, drop-at, drop-append-le}
 use Rattle.lists.specs.Lists.{fill}
+use Rattle.lists.proofs.Zeros.{zeros-split}
 use Rattle.bits.specs.Bits.{field, valueFrom, value, bits}
 use Rattle.bits.specs.Pack.{pack}
-use Rattle.bits.proofs.Laws.{length-field, valueFrom-field, length-bits, bits-append}
+use Rattle.bits.proofs.Laws.{length-field, valueFrom-field}
 
 -- each is 0 or 1
 abbrev pub Bits : List ℕ → Type 0
@@ -63,6 +65,15 @@ field-value bs h = ap (λ (z : ℕ). field z (value bs)) {x = length bs} {y = 0 
 pub value-field : (w v : ℕ) → v < 2 ^ w → value (field w v) ≡ v
 value-field w v h = valueFrom-field w 0 v h ∙ omega arith
 
+-- the number that bits make has no more digits
+pub value-lt : (bs : List ℕ) (a : ℕ) → Bits bs → valueFrom a bs < (a + 1) * 2 ^ length bs
+unfolding valueFrom
+value-lt [] a h = omega arith
+value-lt (b ∷ bs) a h =
+    let w : valueFrom (a * 2 + b) bs < (a * 2 + b + 1) * 2 ^ length bs = value-lt bs (a * 2 + b) (h .1) in
+    let u : (a * 2 + b + 1) * 2 ^ length bs ≤ (a + 1) * 2 * 2 ^ length bs = mul-le-mul-right (2 ^ length bs) (omega (arith, h .0)) in
+    rw (pow-succ' 2 (length bs)) (omega arith)
+
 -- ---- bytes
 pub length-pack : (n : ℕ) (bs : List ℕ) → length (pack n bs) ≡ n
 unfolding pack
@@ -86,3 +97,46 @@ length-fill n bs l = omega (arith, length-append bs (replicate (n - length bs) 0
 pub bits-fill : (n : ℕ) (bs : List ℕ) → Bits bs → Bits (fill n bs)
 unfolding fill
 bits-fill n bs h = bits-join bs (replicate (n - length bs) 0) h (bits-zeros (n - length bs))
+
+-- ---- bytes as their bits
+
+-- bytes are the bytes of their bits
+pub pack-bits : (z : List ℕ) → ((i : ℕ) → getD z i 0 < 256) → pack (length z) (bits z) ≡ z
+unfolding pack bits
+pack-bits [] h = refl
+pack-bits (b ∷ z) h =
+    ap₂ _∷_ (ap value (take-at (field 8 b) (bits z) 8 (length-field 8 b)) ∙ value-field 8 b (h 0))
+    (ap (pack (length z)) (drop-at (field 8 b) (bits z) 8 (length-field 8 b)) ∙ pack-bits z (λ i. h (suc i)))
+
+-- the bytes of two lists of bits, the first of whole bytes
+pub pack-append : (m n : ℕ) (a b : List ℕ) → length a ≡ 8 * m → pack (m + n) (a ++ b) ≡ pack m a ++ pack n b
+unfolding pack
+pack-append zero n [] b e = ap (λ (z : ℕ). pack z b) {x = 0 + n} {y = n} (omega arith)
+pack-append zero n (x ∷ a) b e = absurd (omega (arith, e))
+pack-append (suc m) n a b e =
+    ap (λ (z : ℕ). pack z (a ++ b)) {x = suc m + n} {y = suc (m + n)} (omega arith)
+    ∙ ap₂ _∷_ (ap value (take-append-le 8 a b (omega arith)))
+    (ap (pack (m + n)) (drop-append-le 8 a b (omega arith)) ∙ pack-append m n (drop 8 a) b (omega (arith, length-drop 8 a)))
+
+-- zeros are the bytes of zeros
+zero-byte : (n : ℕ) → replicate {A = ℕ} (8 * suc n) 0 ≡ replicate 8 0 ++ replicate (8 * n) 0
+zero-byte n = zeros-split (8 * suc n) 8 (8 * n) (omega arith)
+
+pub pack-zeros : (n : ℕ) → pack n (replicate (8 * n) 0) ≡ replicate n 0
+unfolding pack valueFrom
+pack-zeros zero = refl
+pack-zeros (suc n) = ap (pack (suc n)) (zero-byte n) ∙ ap (λ (z : List ℕ). 0 ∷ z) (pack-zeros n)
+
+pub zeros-bits : (n : ℕ) → bits (replicate n 0) ≡ replicate (8 * n) 0
+unfolding bits field
+zeros-bits zero = refl
+zeros-bits (suc n) = ap (λ (z : List ℕ). replicate 8 0 ++ z) (zeros-bits n) ∙ sym (zero-byte n)
+
+-- the bits of the first n bytes
+pub take-bits : (n : ℕ) (s : List ℕ) → take (8 * n) (bits s) ≡ bits (take n s)
+unfolding bits
+take-bits zero s = refl
+take-bits (suc n) [] = take-nil (8 * suc n)
+take-bits (suc n) (b ∷ s) =
+    ap (λ (k : ℕ). take k (field 8 b ++ bits s)) {x = 8 * suc n} {y = length (field 8 b) + 8 * n} (omega (arith, length-field 8 b))
+    ∙ take-append-add (field 8 b) (bits s) (8 * n) ∙ ap (λ (z : List ℕ). field 8 b ++ z) (take-bits n s)

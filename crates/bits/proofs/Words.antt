@@ -1,10 +1,10 @@
 -- Laws of words of several bytes: a field within a word, a word of bytes. Assumes nothing.
 use mathlib.Core.Path.{_≡_, refl, sym, ap, ap₂, _∙_, subst}
-use mathlib.Core.List.{List, [], _∷_, _++_, append-assoc}
+use mathlib.Core.List.{List, _++_, append-assoc}
 use Prim.Native.Nat.{ℕ, zero, suc, _+_, _-_, _*_, _/_, _%_, _^_, _≤_, _<_}
 use native.Mathlib.Nat.{mod-lt, add-assoc, div-one, mod-eq-of-lt, lt-of-lt-of-le}
 use native.Mathlib.Omega.{arith}
-use lib.ListN.{length, take, drop, set, getD, length-append, length-set, length-drop, take-append-drop}
+use lib.ListN.{length, take, drop, set, getD, length-append, length-set, take-append-drop}
 use lib.Seq.{length-take-le, take-add, drop-drop}
 use lib.Pow.{pow-pos, pow-mono, shl-lt, shr-lt, shr-shr}
 use Rattle.bits.specs.Bits.{field, value, valueFrom, bits}
@@ -13,7 +13,7 @@ use Rattle.lists.proofs.Parts.{mid, splice-at, splice-more, splice-nil}
 use Rattle.bits.proofs.Laws.{field-cat, field-more, length-field, length-bits, bits-at, bits-set, byte-is, valueFrom-field, joined-lt}
 
 -- a number of k digits as those before off, the n digits there, and the low ones
-parts : (k off n low hi m lo : ℕ) → off + (n + low) ≡ k → m < 2 ^ n → lo < 2 ^ low
+pub parts : (k off n low hi m lo : ℕ) → off + (n + low) ≡ k → m < 2 ^ n → lo < 2 ^ low
     → field k ((hi * 2 ^ n + m) * 2 ^ low + lo) ≡ field off hi ++ (field n m ++ field low lo)
 parts k off n low hi m lo e hm hl =
     ap (λ (x : ℕ). field x ((hi * 2 ^ n + m) * 2 ^ low + lo)) (sym e ∙ sym (add-assoc off n low))
@@ -57,7 +57,8 @@ module _ (l : List ℕ) (a k off n low w : ℕ) (e : off + (n + low) ≡ k) (g :
       → splice l a (field k ((w / 2 ^ (low + n) * 2 ^ n + m) * 2 ^ low + w % 2 ^ low)) ≡ splice l (a + off) (field n m)
   field-put m hm =
       ap (λ (x : List ℕ). splice x a (field k ((w / 2 ^ (low + n) * 2 ^ n + m) * 2 ^ low + w % 2 ^ low))) opened
-      ∙ splice-at (take a l) (field k w) (field k ((w / 2 ^ (low + n) * 2 ^ n + m) * 2 ^ low + w % 2 ^ low)) (drop k (drop a l)) a (length-take-le a l (omega arith)) (rw (length-field, length-field))
+      ∙ splice-at (take a l) (field k w) (field k ((w / 2 ^ (low + n) * 2 ^ n + m) * 2 ^ low + w % 2 ^ low)) (drop k (drop a l)) a
+      (length-take-le a l (omega arith)) (rw (length-field, length-field))
       ∙ around m hm
       ∙ sym (splice-at front (field n (w / 2 ^ low % 2 ^ n)) (field n m) back (a + off) front-length (rw (length-field, length-field)))
       ∙ ap (λ (x : List ℕ). splice x (a + off) (field n m)) (sym here)
@@ -83,13 +84,15 @@ join-put l m r a d n k x em er h =
 
 byte-get : (s : List ℕ) (i : ℕ) → i < length s → field 8 (getD s i 0) ≡ take 8 (drop (8 * i) (bits s))
 byte-get s i h =
-    sym (mid (bits (take i s)) (field 8 (getD s i 0)) (bits (drop (suc i) s)) (8 * i) 8 (rw (length-bits, length-take-le i s (omega arith))) (length-field 8 (getD s i 0)))
+    sym (mid (bits (take i s)) (field 8 (getD s i 0)) (bits (drop (suc i) s)) (8 * i) 8
+    (rw (length-bits, length-take-le i s (omega arith))) (length-field 8 (getD s i 0)))
     ∙ ap (λ (l : List ℕ). take 8 (drop (8 * i) l)) (sym (bits-at s i h))
 
-byte-put : (s : List ℕ) (i v : ℕ) → i < length s → bits (set s i v) ≡ splice (bits s) (8 * i) (field 8 v)
+pub byte-put : (s : List ℕ) (i v : ℕ) → i < length s → bits (set s i v) ≡ splice (bits s) (8 * i) (field 8 v)
 byte-put s i v h =
     bits-set s i v h
-    ∙ sym (splice-at (bits (take i s)) (field 8 (getD s i 0)) (field 8 v) (bits (drop (suc i) s)) (8 * i) (rw (length-bits, length-take-le i s (omega arith))) (rw (length-field, length-field)))
+    ∙ sym (splice-at (bits (take i s)) (field 8 (getD s i 0)) (field 8 v) (bits (drop (suc i) s)) (8 * i)
+    (rw (length-bits, length-take-le i s (omega arith))) (rw (length-field, length-field)))
     ∙ ap (λ (l : List ℕ). splice l (8 * i) (field 8 v)) (sym (bits-at s i h))
 
 -- the byte d bits after the byte at i
@@ -162,11 +165,27 @@ high-fits w n low hw h =
 pub both-fit : (w n low v x : ℕ) → w < 2 ^ 64 → n + low ≤ 64 → v < 2 ^ n → x ≡ w / 2 ^ low / 2 ^ n * 2 ^ n + v → x * 2 ^ low < 2 ^ 64
 both-fit w n low v x hw h hv ex =
     let j : 64 - (low + n) + n + low ≤ 64 = omega arith in
-    rw (ex, shr-shr w low n) (lt-of-lt-of-le (shl-lt (64 - (low + n) + n) low (joined-lt (64 - (low + n)) n (high-lt w (low + n) hw (omega arith)) hv)) (pow-mono j))
+    rw (ex, shr-shr w low n)
+    (lt-of-lt-of-le (shl-lt (64 - (low + n) + n) low (joined-lt (64 - (low + n)) n (high-lt w (low + n) hw (omega arith)) hv)) (pow-mono j))
 
 pub with-is : (w n low v x y r : ℕ) → x ≡ w / 2 ^ low / 2 ^ n * 2 ^ n + v → y ≡ w % 2 ^ low → r ≡ x * 2 ^ low + y
     → r ≡ (w / 2 ^ (low + n) * 2 ^ n + v) * 2 ^ low + w % 2 ^ low
 with-is w n low v x y r ex ey er = rw (er, ex, ey, shr-shr w low n)
+
+-- ---- a word to which a field is added where it has zeros
+
+module _ (w n low v : ℕ) (z : w / 2 ^ low % 2 ^ n ≡ 0) where
+  pub added-is : w + v * 2 ^ low ≡ (w / 2 ^ (low + n) * 2 ^ n + v) * 2 ^ low + w % 2 ^ low
+  added-is =
+      let h : ℕ = w / 2 ^ (low + n) * 2 ^ n in
+      let e : (h + 0) * 2 ^ low + w % 2 ^ low ≡ w = ap (λ (m : ℕ). (h + m) * 2 ^ low + w % 2 ^ low) (sym z) ∙ byte-is w n low in
+      omega (arith, e)
+
+  pub added-fits : w < 2 ^ 64 → n + low ≤ 64 → v < 2 ^ n → w + v * 2 ^ low < 2 ^ 64
+  added-fits hw h hv =
+      let j : 64 - (low + n) + n + low ≤ 64 = omega arith in
+      rw added-is (lt-of-lt-of-le (joined-lt (64 - (low + n) + n) low (joined-lt (64 - (low + n)) n (high-lt w (low + n) hw (omega arith)) hv)
+      (mod-lt w (pow-pos low))) (pow-mono j))
 
 -- ---- the field in the eight bytes at o
 
@@ -202,3 +221,10 @@ put-is s o at n w v ho hl hn g hv =
 pub empty-put : (l : List ℕ) (a n v : ℕ) → n ≡ 0 → l ≡ splice l a (field n v)
 unfolding field
 empty-put l a n v e = sym (ap (λ (k : ℕ). splice l a (field k v)) e ∙ splice-nil l a)
+
+-- the bits of a field that is 0 are 0 in its word
+pub none-is : (s : List ℕ) (o at n w : ℕ) → 8 * o ≤ at → o + 8 ≤ length s → at + n ≤ 8 * o + 64 → 1 ≤ n
+    → field 64 w ≡ take 64 (drop (8 * o) (bits s)) → value (take n (drop at (bits s))) ≡ 0
+    → w / 2 ^ (64 - (at - 8 * o) - n) % 2 ^ n ≡ 0
+none-is s o at n w ho hl hn h1 g z =
+    ap (λ (k : ℕ). w / 2 ^ k % 2 ^ n) (sym (mod-eq-of-lt (omega arith))) ∙ get-is s o at n w _ ho hl hn g refl ∙ z

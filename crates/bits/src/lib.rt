@@ -1,5 +1,6 @@
 // Fields of up to 57 bits at any bit address of a slice of bytes: bit 0 is the high bit of byte 0, a field's high bit comes first.
 // A field of 57 bits lies in 8 bytes wherever it starts, so one load or store of 8 bytes serves: slices here have 8 bytes or more.
+pub mod clear;
 pub mod numbers;
 pub mod word;
 
@@ -30,7 +31,7 @@ pub fn get_field(s: &[u8], at: usize, width: u32) -> u64
     word::low_bits(word::load8(s, o) >> ((64 - off - width) % 64), width)
 }
 
-// Puts the number v into the width bits of out that start at bit at, and changes no other bit.
+// Puts the number v into the width bits of out that start at bit at, and changes no other bit. Whatever stood there is replaced.
 pub fn put_field(out: &mut [u8], at: usize, width: u32, v: u64)
     requires { ⌜ (at + width ≤ 8 * length (now out)) × (at + width < 2 ^ 64) × (width ≤ 57) ⌝ }
     requires { ⌜ v < 2 ^ width ⌝ }
@@ -44,4 +45,17 @@ pub fn put_field(out: &mut [u8], at: usize, width: u32, v: u64)
     let low = 64 - (at - 8 * o) as u32 - width;
     let w = word::load8(out, o);
     word::store8(out, o, word::with_field(w, width, low, v));
+}
+
+// The same where these bits are all 0: v is added, and nothing need be taken out of the word first.
+pub fn add_field(out: &mut [u8], at: usize, width: u32, v: u64)
+    requires { ⌜ (at + width ≤ 8 * length (now out)) × (at + width < 2 ^ 64) × (1 ≤ width) × (width ≤ 57) ⌝ }
+    requires { ⌜ (v < 2 ^ width) × (8 ≤ length (now out)) ⌝ }
+    requires { ⌜ value (take width (drop at (bits (now out)))) ≡ 0 ⌝ }
+    ensures { λ _. ⌜ bits (now (out .exit)) ≡ splice (bits (now (out .entry))) at (field width v) ⌝ }
+{
+    let o = place(at, width, out.len());
+    let low = 64 - (at - 8 * o) as u32 - width;
+    let w = word::load8(out, o);
+    word::store8(out, o, word::with_added(w, width, low, v));
 }

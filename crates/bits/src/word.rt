@@ -14,7 +14,7 @@ pub fn low_bits(x: u64, n: u32) -> u64
 }
 
 // The bits of x with the n bits of y after them.
-fn joined(x: u64, n: u32, y: u64) -> u64
+pub fn joined(x: u64, n: u32, y: u64) -> u64
     requires { ⌜ (n < 64) × (y < 2 ^ n) × (x * 2 ^ n < 2 ^ 64) ⌝ }
     ensures { λ r. ⌜ r ≡ x * 2 ^ n + y ⌝ }
 {
@@ -29,7 +29,16 @@ pub(crate) fn with_field(w: u64, n: u32, low: u32, v: u64) -> u64
     joined(joined((w >> low) >> n, n, v), low, low_bits(w, low))
 }
 
-fn wide(x: u8) -> u64
+// The same where these n bits of w are 0.
+pub(crate) fn with_added(w: u64, n: u32, low: u32, v: u64) -> u64
+    requires { ⌜ (n + low ≤ 64) × (n < 64) × (low < 64) × (v < 2 ^ n) × (w / 2 ^ low % 2 ^ n ≡ 0) ⌝ }
+    ensures { λ r. ⌜ r ≡ (w / 2 ^ (low + n) * 2 ^ n + v) * 2 ^ low + w % 2 ^ low ⌝ }
+{
+    w + (v << low)
+}
+
+// A byte as a number.
+pub(crate) fn wide(x: u8) -> u64
     ensures { λ r. ⌜ (r ≡ x) × (r < 256) ⌝ }
 {
     x as u64
@@ -40,7 +49,8 @@ fn load4(s: &[u8], i: usize) -> u64
     requires { ⌜ i + 4 ≤ length (now s) ⌝ }
     ensures { λ r. ⌜ (r < 2 ^ 32) × (field 32 r ≡ take 32 (drop (8 * i) (bits (now (s .entry))))) ⌝ }
 {
-    ((wide(s[i]) * 256 + wide(s[i + 1])) * 256 + wide(s[i + 2])) * 256 + wide(s[i + 3])
+    let front = joined(wide(s[i]), 8, wide(s[i + 1]));
+    joined(joined(front, 8, wide(s[i + 2])), 8, wide(s[i + 3]))
 }
 
 // The eight bytes from index i on as one number: one load and a byte swap.
@@ -48,7 +58,7 @@ pub(crate) fn load8(s: &[u8], i: usize) -> u64
     requires { ⌜ i + 8 ≤ length (now s) ⌝ }
     ensures { λ r. ⌜ field 64 r ≡ take 64 (drop (8 * i) (bits (now (s .entry)))) ⌝ }
 {
-    load4(s, i) * 4294967296 + load4(s, i + 4)
+    joined(load4(s, i), 32, load4(s, i + 4))
 }
 
 // The byte of w above its k low bits.

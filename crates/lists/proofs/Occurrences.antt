@@ -1,14 +1,14 @@
 -- How often a number stands in a list. Assumes nothing.
 use mathlib.Core.Path.{_≡_, refl, sym, ap, ap₂, _∙_}
-use mathlib.Core.Bool.{Bool, true, false, _&&_}
-use mathlib.Core.List.{List, [], _∷_, _++_, append-assoc, append-nil}
-use Prim.Native.Nat.{ℕ, zero, suc, _+_, _-_, _*_, _≤_, _<_}
-use native.Mathlib.Nat.{not-suc-le-zero, le-of-suc-le-suc, mul-zero, mul-suc, add-zero, add-assoc}
+use mathlib.Core.List.{List, [], _∷_, _++_}
+use Prim.Native.Nat.{ℕ, zero, suc, _+_, _-_, _≤_, _<_}
+use native.Mathlib.Nat.{not-suc-le-zero, le-of-suc-le-suc}
 use native.Mathlib.Omega.{arith}
 use lib.ListN.{length, getD, take, drop, set, length-append, take-append-drop}
 use lib.Dec.{eqb}
 use borrow.Author.Tests.{eq-eqb, ne-eqb}
 use Rattle.lists.specs.Lists.{tabulate, concat, sum, one, occurrences}
+use Rattle.lists.proofs.Tables.{getD-tabulate, length-tabulate}
 
 pub one-same : (c : ℕ) → one (eqb c c) ≡ 1
 unfolding one
@@ -65,3 +65,7 @@ unfolding concat
 occurrences-getD-concat c [] p h = absurd (not-suc-le-zero h)
 occurrences-getD-concat c (cs ∷ css) zero h = omega (arith, occurrences-append c cs (concat css))
 occurrences-getD-concat c (cs ∷ css) (suc p) h = omega (arith, occurrences-append c cs (concat css), occurrences-getD-concat c css p (le-of-suc-le-suc h))
+
+pub occurrences-tabulate : (d n : ℕ) (f : ℕ → List ℕ) (p : ℕ) → p < n → occurrences d (f p) ≤ occurrences d (concat (tabulate n f))
+occurrences-tabulate d n f p l =
+    omega (arith, occurrences-getD-concat d (tabulate n f) p (omega (arith, length-tabulate n f)), ap (occurrences d) (getD-tabulate n f p [] l))

@@ -1,15 +1,14 @@
 -- Document 01's reach: the least index whose prefix sum is at least a figure. Assumes nothing.
 use mathlib.Core.Path.{_≡_, refl, sym, ap, ap₂, _∙_}
-use mathlib.Core.Bool.{Bool, true, false, _&&_}
-use mathlib.Core.List.{List, [], _∷_, _++_, append-assoc, append-nil}
-use Prim.Native.Nat.{ℕ, zero, suc, _+_, _-_, _*_, _≤_, _<_}
-use native.Mathlib.Nat.{not-suc-le-zero, le-of-suc-le-suc, mul-zero, mul-suc, add-zero, add-assoc}
+use mathlib.Core.Bool.{Bool}
+use mathlib.Core.List.{List, [], _∷_, _++_}
+use Prim.Native.Nat.{ℕ, zero, suc, _+_, _-_, _≤_, _<_}
 use native.Mathlib.Omega.{arith}
-use lib.ListN.{length, getD, take, drop}
-use lib.Dec.{leb, ltb, eqb}
+use lib.ListN.{length, getD, take}
+use lib.Dec.{leb}
 use native.Mathlib.Decide.{ℕ-discrete, decLe}
-use borrow.Author.Tests.{le-leb, lt-leb, eq-eqb, ne-eqb}
-use Rattle.lists.specs.Lists.{sum, pick, least, reached}
+use borrow.Author.Tests.{le-leb, lt-leb}
+use Rattle.lists.specs.Lists.{tabulate, sum, pick, least, reached}
 
 -- least goes by the values of its test
 least-ext : (n : ℕ) (f g : ℕ → Bool) → ((i : ℕ) → f i ≡ g i) → least n f ≡ least n g
@@ -42,7 +41,9 @@ reached-suc q x xs h =
 
 pub reached-left : (q : ℕ) (xs ys : List ℕ) → q ≤ sum xs → reached q (xs ++ ys) ≡ reached q xs
 unfolding sum
-reached-left q [] ys h = ap (λ (z : ℕ). reached z ys) {x = q} {y = 0} (omega arith) ∙ reached-zero ys ∙ sym (reached-zero []) ∙ ap (λ (z : ℕ). reached z []) {x = 0} {y = q} (omega arith)
+reached-left q [] ys h =
+    ap (λ (z : ℕ). reached z ys) {x = q} {y = 0} (omega arith) ∙ reached-zero ys ∙ sym (reached-zero [])
+    ∙ ap (λ (z : ℕ). reached z []) {x = 0} {y = q} (omega arith)
 reached-left zero (x ∷ xs) ys h = reached-zero (x ∷ xs ++ ys) ∙ sym (reached-zero (x ∷ xs))
 reached-left (suc q) (x ∷ xs) ys h =
     reached-suc (suc q) x (xs ++ ys) (omega arith) ∙ ap suc (reached-left (suc q - x) xs ys (omega arith)) ∙ sym (reached-suc (suc q) x xs (omega arith))
@@ -53,6 +54,20 @@ reached-right q [] ys h = ap (λ (z : ℕ). reached z ys) {x = q} {y = q - 0} (o
 reached-right q (x ∷ xs) ys h =
     let e : q - x - sum xs ≡ q - (x + sum xs) = omega arith in
     reached-suc q x (xs ++ ys) (omega arith) ∙ ap suc (reached-right (q - x) xs ys (omega arith)) ∙ omega (arith, ap (λ (z : ℕ). reached z ys) e)
+
+-- zeros behind a list, and what is behind its first n, do not matter to a figure that these reach
+pub reached-tabulate : (n q : ℕ) (xs : List ℕ) → q ≤ sum (take n xs) → reached q (tabulate n (λ j. getD xs j 0)) ≡ reached q xs
+unfolding tabulate sum
+reached-tabulate zero q xs h = rw (at-zero q h) (reached-zero [] ∙ sym (reached-zero xs))
+  where
+    at-zero : (q : ℕ) → q ≤ 0 → q ≡ 0
+    at-zero q h = omega arith
+reached-tabulate (suc n) zero xs h = reached-zero (tabulate (suc n) (λ j. getD xs j 0)) ∙ sym (reached-zero xs)
+reached-tabulate (suc n) (suc q) [] h = absurd (omega arith)
+reached-tabulate (suc n) (suc q) (x ∷ xs) h =
+    reached-suc (suc q) x (tabulate n (λ j. getD xs j 0)) (omega arith)
+    ∙ ap suc (reached-tabulate n (suc q - x) xs (omega arith))
+    ∙ sym (reached-suc (suc q) x xs (omega arith))
 
 below : (q x : ℕ) (xs : List ℕ) (j : ℕ) → j < reached (suc q - x) xs → x < suc q
 below q x xs j h = go (ℕ-discrete (suc q - x) 0)

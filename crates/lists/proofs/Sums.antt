@@ -1,14 +1,15 @@
 -- Sums of lists. Assumes nothing.
-use mathlib.Core.Path.{_≡_, refl, sym, ap, ap₂, _∙_}
-use mathlib.Core.Bool.{Bool, true, false, _&&_}
-use mathlib.Core.List.{List, [], _∷_, _++_, append-assoc, append-nil}
+use mathlib.Core.Path.{_≡_, refl, sym, ap, _∙_}
+use mathlib.Core.List.{List, [], _∷_, _++_}
 use Prim.Native.Nat.{ℕ, zero, suc, _+_, _-_, _*_, _≤_, _<_}
-use native.Mathlib.Nat.{not-suc-le-zero, le-of-suc-le-suc, mul-zero, mul-suc, add-zero, add-assoc}
+use native.Mathlib.Nat.{not-suc-le-zero, le-of-suc-le-suc, mul-suc}
+use native.Mathlib.Numerals.{add-one}
 use native.Mathlib.Omega.{arith}
-use lib.ListN.{length, getD, take, drop, take-append-drop}
+use lib.ListN.{getD, take, drop, take-append-drop}
 use Rattle.lists.specs.Lists.{tabulate, concat, sum}
-use Rattle.lists.proofs.Tables.{tabulate-ext}
+use Rattle.lists.proofs.Tables.{tabulate-ext, tabulate-snoc}
 
+-- ---- parts of a list
 pub sum-append : (xs ys : List ℕ) → sum (xs ++ ys) ≡ sum xs + sum ys
 unfolding sum
 sum-append [] ys = omega arith
@@ -20,16 +21,31 @@ sum-halves k xs = sym (sum-append (take k xs) (drop k xs)) ∙ ap sum (take-appe
 pub sum-take-le : (k : ℕ) (xs : List ℕ) → sum (take k xs) ≤ sum xs
 sum-take-le k xs = omega (arith, sum-halves k xs)
 
--- the sum of a list's first n elements, zeros behind it
-sum-zeros : (n : ℕ) → sum (tabulate n (λ j. getD {A = ℕ} [] j 0)) ≡ 0
-unfolding sum tabulate
-sum-zeros zero = refl
-sum-zeros (suc n) = omega (arith, sum-zeros n)
+pub sum-snoc : (xs : List ℕ) (v : ℕ) → sum (xs ++ v ∷ []) ≡ sum xs + v
+unfolding sum
+sum-snoc xs v = omega (arith, sum-append xs (v ∷ []))
 
+-- ---- sums of tables
+pub sum-nones : (n : ℕ) (f : ℕ → ℕ) → ((j : ℕ) → f j ≡ 0) → sum (tabulate n f) ≡ 0
+unfolding sum tabulate
+sum-nones zero f h = refl
+sum-nones (suc n) f h = omega (arith, h 0, sum-nones n (λ j. f (suc j)) (λ j. h (suc j)))
+
+-- entries of at most b
+pub sum-most : (b n : ℕ) (f : ℕ → ℕ) → ((j : ℕ) → f j ≤ b) → sum (tabulate n f) ≤ b * n
+unfolding sum tabulate
+sum-most b zero f h = omega arith
+sum-most b (suc n) f h = omega (arith, h 0, mul-suc b n, sum-most b n (λ j. f (suc j)) (λ j. h (suc j)))
+
+-- one entry more
+pub sum-next : (f : ℕ → ℕ) (n : ℕ) → sum (tabulate (n + 1) f) ≡ sum (tabulate n f) + f n
+sum-next f n = ap (λ (z : ℕ). sum (tabulate z f)) (add-one n) ∙ ap sum (tabulate-snoc n f) ∙ sum-snoc (tabulate n f) (f n)
+
+-- the sum of a list's first n elements, zeros behind it
 pub sum-tabulate : (n : ℕ) (xs : List ℕ) → sum (tabulate n (λ j. getD xs j 0)) ≡ sum (take n xs)
 unfolding sum tabulate
 sum-tabulate zero xs = refl
-sum-tabulate (suc n) [] = omega (arith, sum-zeros n)
+sum-tabulate (suc n) [] = omega (arith, sum-nones n (λ j. getD {A = ℕ} [] (suc j) 0) (λ j. refl))
 sum-tabulate (suc n) (x ∷ xs) = omega (arith, sum-tabulate n xs)
 
 pub sum-concat : (n : ℕ) (f : ℕ → List ℕ) → sum (concat (tabulate n f)) ≡ sum (tabulate n (λ p. sum (f p)))
@@ -45,4 +61,20 @@ sum-tabulate-one zero f g i l h = absurd (not-suc-le-zero l)
 sum-tabulate-one (suc n) f g zero l h =
     omega (arith, ap sum (tabulate-ext n (λ j. f (suc j)) (λ j. g (suc j)) (λ j _. h (suc j) (λ e. omega (arith, e)))))
 sum-tabulate-one (suc n) f g (suc i) l h =
-    omega (arith, h 0 (λ e. omega (arith, e)), sum-tabulate-one n (λ j. f (suc j)) (λ j. g (suc j)) i (le-of-suc-le-suc l) (λ j e. h (suc j) (λ e′. e (omega (arith, e′)))))
+    omega (
+      arith,
+      h 0 (λ e. omega (arith, e)),
+      sum-tabulate-one n (λ j. f (suc j)) (λ j. g (suc j)) i (le-of-suc-le-suc l) (λ j e. h (suc j) (λ e′. e (omega (arith, e′)))),
+    )
+
+-- ---- lists of sum 0 are lists of zeros
+pub zero-at : (xs : List ℕ) (i : ℕ) → sum xs ≡ 0 → getD xs i 0 ≡ 0
+unfolding sum
+zero-at [] i q = refl
+zero-at (x ∷ xs) zero q = omega arith
+zero-at (x ∷ xs) (suc i) q = zero-at xs i (omega arith)
+
+pub sum-none : (xs : List ℕ) → ((i : ℕ) → getD xs i 0 ≡ 0) → sum xs ≡ 0
+unfolding sum
+sum-none [] h = refl
+sum-none (x ∷ xs) h = omega (arith, h 0, sum-none xs (λ i. h (suc i)))

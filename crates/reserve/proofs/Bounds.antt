@@ -4,7 +4,8 @@
 use mathlib.Core.Path.{_≡_, refl, sym, ap, _∙_}
 use Prim.Native.Nat.{ℕ, zero, suc, _+_, _-_, _*_, _/_, _%_, _^_, _≤_, _<_, min}
 use mathlib.Core.Bool.{Bool, true, false}
-use native.Mathlib.Nat.{one-mul, mul-le-mul, mul-le-mul-left, mul-le-mul-right, div-le-self, div-mul-le-self, lt-div-mul-add, div-eq-of-lt-le, pow-succ', mod-eq-of-lt}
+use native.Mathlib.Nat.{one-mul, mul-le-mul, mul-le-mul-left, mul-le-mul-right, div-le-self}
+use native.Mathlib.Nat.{div-mul-le-self, lt-div-mul-add, div-eq-of-lt-le, pow-succ', mod-eq-of-lt}
 use native.Mathlib.Decide.{decLe}
 use native.Mathlib.Omega.{arith}
 use lib.Count.{leadingZeros, leading-length}

@@ -3,7 +3,8 @@
 use mathlib.Core.Path.{_≡_, refl, sym, ap, ap₂, _∙_}
 use mathlib.Core.Bool.{Bool, true, false}
 use Prim.Native.Nat.{ℕ, zero, suc, _+_, _-_, _*_, _/_, _^_, _≤_, _<_, max}
-use native.Mathlib.Nat.{pow-succ', mul-le-mul-left, mul-le-mul-right, le-trans, le-of-lt, le-refl, sub-add-cancel, div-mul-le-self, lt-div-mul-add, add-sub-cancel-left}
+use native.Mathlib.Nat.{pow-succ', mul-le-mul-left, mul-le-mul-right, le-trans, le-of-lt}
+use native.Mathlib.Nat.{le-refl, sub-add-cancel, div-mul-le-self, lt-div-mul-add, add-sub-cancel-left}
 use native.Mathlib.Decide.{decLe}
 use native.Mathlib.Omega.{arith}
 use lib.Arith.{half-le}

@@ -1,4 +1,4 @@
--- `fields::joined` meets its contract: the shift loses nothing, and y is below 2 ^ n, so `|` adds it. Assumes nothing.
+-- `bits::word::joined` meets its contract: the shift loses nothing, and y is below 2 ^ n, so `|` adds it. Assumes nothing.
 use borrow.Author.Needs.{needs}
 use native.Mathlib.Nat.{mod-eq-of-lt}
 use lib.Bits.{or-shifted}

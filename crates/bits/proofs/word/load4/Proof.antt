@@ -1,20 +1,18 @@
+-- `bits::word::load4` meets its contract. Assumes nothing.
+use mathlib.Core.Path.{ap, _∙_}
+use Prim.Native.Nat.{ℕ, _+_, _*_}
 use native.Mathlib.Omega.{arith}
+use Rattle.bits.specs.Bits.{field}
 use Rattle.bits.proofs.Words.{word4-is}
 use borrow.Author.Needs.{needs}
 use Rattle.bits.proofs.word.load4.Statement.{statement}
 use Rattle.bits.proofs.word.load4.Tie as tie
-use Rattle.bits.proofs.word.load4.Reads as reads
-use Rattle.bits.proofs.word.load4.Lts as lts
-use Rattle.bits.proofs.word.wide.Reads as wide-reads
 
 shared-slice-read-wide : tie.Need-shared-slice-read-wide
 shared-slice-read-wide c = search needs
 
 wide-requires : tie.Need-wide-requires
 wide-requires c κs = search needs
-
-mul-result : tie.Need-mul-result
-mul-result c = search needs
 
 add-wide : tie.Need-add-wide
 add-wide c = search needs
@@ -25,11 +23,8 @@ shared-slice-read-wide-2 c = search needs
 wide-requires-2 : tie.Need-wide-requires-2
 wide-requires-2 c κs = search needs
 
-add-result : tie.Need-add-result
-add-result c = search needs
-
-mul-result-2 : tie.Need-mul-result-2
-mul-result-2 c = search needs
+joined-requires : tie.Need-joined-requires
+joined-requires c κs = search needs
 
 add-wide-2 : tie.Need-add-wide-2
 add-wide-2 c = search needs
@@ -40,11 +35,8 @@ shared-slice-read-wide-3 c = search needs
 wide-requires-3 : tie.Need-wide-requires-3
 wide-requires-3 c κs = search needs
 
-add-result-2 : tie.Need-add-result-2
-add-result-2 c = search needs
-
-mul-result-3 : tie.Need-mul-result-3
-mul-result-3 c = search needs
+joined-requires-2 : tie.Need-joined-requires-2
+joined-requires-2 c κs = search needs
 
 add-wide-3 : tie.Need-add-wide-3
 add-wide-3 c = search needs
@@ -55,16 +47,23 @@ shared-slice-read-wide-4 c = search needs
 wide-requires-4 : tie.Need-wide-requires-4
 wide-requires-4 c κs = search needs
 
-add-result-3 : tie.Need-add-result-3
-add-result-3 c = search needs
+joined-requires-3 : tie.Need-joined-requires-3
+joined-requires-3 c κs = search needs
 
 returns : tie.Need-returns
 returns c =
-    let s = c .before .before .before .before .before .before .before .before .before in (
-      omega arith,
-      word4-is (s .args .s .now) (s .args .i) (c .before .before .before .before .before .before .wide .result) (c .before .before .before .before .wide2 .result) (c .before .before .wide3 .result) (c .wide4 .result) (s .pre)
-          (c .before .before .before .before .wide2 .ensures .1) (c .before .before .wide3 .ensures .1) (c .wide4 .ensures .1)
-          (c .before .before .before .before .before .before .wide .ensures .0) (c .before .before .before .before .wide2 .ensures .0) (c .before .before .wide3 .ensures .0) (c .wide4 .ensures .0),
+    let b₀ = c .before .before .before .before .before .before .before .before .before .wide in
+    let b₁ = c .before .before .before .before .before .before .before .wide2 in
+    let b₂ = c .before .before .before .before .wide3 in
+    let b₃ = c .before .wide4 in
+    let s = c .before .before .before .before .before .before .before .before .before .before .before .before in
+    let one = c .before .before .before .before .before .before .joined in
+    let two = c .before .before .before .joined2 in
+    let e = c .joined3 .ensures ∙ ap (λ (z : ℕ). z * 256 + b₃ .result) (two .ensures ∙ ap (λ (z : ℕ). z * 256 + b₂ .result) (one .ensures)) in (
+      omega (arith, e),
+      ap (field 32) e
+          ∙ word4-is (s .args .s .now) (s .args .i) (b₀ .result) (b₁ .result) (b₂ .result) (b₃ .result) (s .pre)
+          (b₁ .ensures .1) (b₂ .ensures .1) (b₃ .ensures .1) (b₀ .ensures .0) (b₁ .ensures .0) (b₂ .ensures .0) (b₃ .ensures .0),
     )
 
 pub load4-spec : {M : Type 1} → statement M
@@ -73,19 +72,16 @@ load4-spec =
     (tie.spec
     shared-slice-read-wide
     wide-requires
-    mul-result
     add-wide
     shared-slice-read-wide-2
     wide-requires-2
-    add-result
-    mul-result-2
+    joined-requires
     add-wide-2
     shared-slice-read-wide-3
     wide-requires-3
-    add-result-2
-    mul-result-3
+    joined-requires-2
     add-wide-3
     shared-slice-read-wide-4
     wide-requires-4
-    add-result-3
+    joined-requires-3
     returns)

@@ -1,4 +1,4 @@
--- `fields::low_bits` meets its contract: 1 << n is 2 ^ n, so the mask keeps the n low digits. Assumes nothing.
+-- `bits::word::low_bits` meets its contract: 1 << n is 2 ^ n, so the mask keeps the n low digits. Assumes nothing.
 use borrow.Author.Needs.{needs}
 use mathlib.Core.Path.{_≡_, _∙_}
 use Prim.Native.Nat.{ℕ, _*_, _%_, _^_, _<_}

@@ -48,8 +48,12 @@ same-length c = search needs
 returns : tie.Need-returns
 returns c =
     let s = c .before .before .before .before .before in
-    put4-is (s .args .out .now) _ _ _ _ (s .args .i) (s .args .x) (c .before .before .before .byte-of .result) (c .before .before .byte-of2 .result) (c .before .byte-of3 .result) (c .byte-of4 .result)
-    (s .pre) refl refl refl refl (c .before .before .before .byte-of .ensures) (c .before .before .byte-of2 .ensures) (c .before .byte-of3 .ensures) (c .byte-of4 .ensures)
+    let b₀ = c .before .before .before .byte-of in
+    let b₁ = c .before .before .byte-of2 in
+    let b₂ = c .before .byte-of3 in
+    let b₃ = c .byte-of4 in
+    put4-is (s .args .out .now) _ _ _ _ (s .args .i) (s .args .x) (b₀ .result) (b₁ .result) (b₂ .result) (b₃ .result)
+    (s .pre) refl refl refl refl (b₀ .ensures) (b₁ .ensures) (b₂ .ensures) (b₃ .ensures)
 
 pub store4-spec : {M : Type 1} → statement M
 store4-spec =

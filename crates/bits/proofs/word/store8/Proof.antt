@@ -1,6 +1,5 @@
 use mathlib.Core.Path.{refl}
 use Prim.Native.Nat.{_/_, _^_}
-use native.Mathlib.Omega.{arith}
 use Rattle.bits.proofs.Words.{put8-is}
 use borrow.Author.Needs.{needs}
 use Rattle.bits.proofs.word.store8.Statement.{statement}
@@ -28,8 +27,10 @@ same-length c = search needs
 returns : tie.Need-returns
 returns c =
     let s = c .before .before .before .before .before .before .before .before .before .before in
-    put8-is (s .args .out .now) (c .before .before .before .before .before .before .before .store4 .last .0) (c .before .before .store42 .last .0) (s .args .i) (s .args .w) (s .args .w / 2 ^ 32) (c .before .before .before .low-bits .result)
-    (s .pre) refl (c .before .before .before .low-bits .ensures) (c .before .before .before .before .before .before .before .store4 .ensures) (c .before .before .store42 .ensures)
+    let high = c .before .before .before .before .before .before .before .store4 in
+    let low = c .before .before .before .low-bits in
+    put8-is (s .args .out .now) (high .last .0) (c .before .before .store42 .last .0) (s .args .i) (s .args .w) (s .args .w / 2 ^ 32) (low .result)
+    (s .pre) refl (low .ensures) (high .ensures) (c .before .before .store42 .ensures)
 
 pub store8-spec : {M : Type 1} → statement M
 store8-spec =

@@ -27,7 +27,8 @@ joined-requires-2 c κs =
     let s = c .before .before in (
       omega arith,
       rw (c .low-bits .ensures) (mod-lt (s .args .w) (pow-pos (s .args .low))),
-      both-fit (s .args .w) (s .args .n) (s .args .low) (s .args .v) (c .before .joined .result) (s .fits .w .fits) (s .pre .0) (s .pre .3) (c .before .joined .ensures),
+      both-fit (s .args .w) (s .args .n) (s .args .low) (s .args .v) (c .before .joined .result)
+          (s .fits .w .fits) (s .pre .0) (s .pre .3) (c .before .joined .ensures),
     )
 
 returns : tie.Need-returns
