@@ -1,6 +1,6 @@
 -- One step of the check of a tree, as the code takes it. Assumes nothing.
 use mathlib.Core.Path.{_≡_, refl, sym, ap, ap₂, _∙_}
-use mathlib.Core.Bool.{Bool, true, false, _&&_}
+use mathlib.Core.Bool.{Bool, true, false, _&&_, and-false, and-true}
 use mathlib.Core.List.{List}
 use Prim.Native.Nat.{ℕ, zero, suc, _+_, _-_, _≤_}
 use native.Mathlib.Omega.{arith}
@@ -13,14 +13,6 @@ use Rattle.tree.specs.Code.{Node}
 use Rattle.tree.specs.declared.node.Split.{Split}
 use Rattle.tree.proofs.Exacts.{exact-zero}
 use Rattle.tree.proofs.Rooting.{Inner}
-
-and-true : (x : Bool) → (x && true) ≡ x
-and-true true = refl
-and-true false = refl
-
-and-false : (x : Bool) → (x && false) ≡ false
-and-false true = refl
-and-false false = refl
 
 exact-suc : (h s l : ℕ) (b : List ℕ) (a : ℕ) → leftOf s b a ≡ l → l ≤ s
     → exact (suc h) s b a ≡ (exact h l b (leftAt s a) && (exact h (s - l) b (rightAt h s l a) && clear b (spareAt h s l a) (spareLen h s l)))

@@ -8,27 +8,16 @@ use lib.ListN.{length, take, drop, replicate, length-replicate, replicate-append
 use lib.Dec.{eqb}
 use borrow.Author.Tests.{eq-eqb, ne-eqb, eqb-true}
 use Rattle.lists.specs.Lists.{same, part}
-use Rattle.lists.proofs.Tests.{same-refl, same-is}
+use Rattle.lists.proofs.Parts.{length-part, part-more}
+use Rattle.lists.proofs.Tests.{agree, same-refl, same-is, same-join}
 use Rattle.bits.specs.Bits.{field, valueFrom, value, bits}
 use Rattle.bits.proofs.Laws.{length-bits}
 use Rattle.bits.proofs.Packing.{Bits, bits-bytes}
+use Rattle.bits.proofs.Zeros.{field-zero}
 use Rattle.tree.specs.Exact.{clear}
-use Rattle.tree.proofs.Exacts.{part-more, length-part, field-part}
+use Rattle.tree.proofs.Exacts.{field-part}
 
--- two tests that imply each other
-agree : (x y : Bool) → (x ≡ true → y ≡ true) → (y ≡ true → x ≡ true) → x ≡ y
-agree true y f g = sym (f refl)
-agree false true f g = g refl
-agree false false f g = refl
-
-pub field-zero : (n : ℕ) → field n 0 ≡ replicate n 0
-unfolding field
-field-zero zero = refl
-field-zero (suc n) =
-    ap (λ (z : List ℕ). z ++ (0 ∷ [])) (field-zero n) ∙ replicate-append-replicate n 1 0
-    ∙ ap (λ (z : ℕ). replicate z 0) {x = n + 1} {y = suc n} (omega arith)
-
-value-zeros : (n : ℕ) → value (replicate n 0) ≡ 0
+pub value-zeros : (n : ℕ) → value (replicate n 0) ≡ 0
 unfolding valueFrom
 value-zeros zero = refl
 value-zeros (suc n) = value-zeros n
@@ -41,18 +30,6 @@ clear-value b a n h l =
     (λ e. eq-eqb (value (part b a n)) 0 (ap value (same-is (part b a n) (replicate n 0) e) ∙ value-zeros n))
     (λ e. ap (λ (z : List ℕ). same z (replicate n 0))
     (field-part b a n h l ∙ ap (field n) (eqb-true (value (part b a n)) 0 e) ∙ field-zero n) ∙ same-refl (replicate n 0))
-
-same-join : (xs ys us vs : List ℕ) → length xs ≡ length us → same (xs ++ ys) (us ++ vs) ≡ (same xs us && same ys vs)
-unfolding same
-same-join [] ys [] vs e = refl
-same-join [] ys (u ∷ us) vs e = absurd (omega (arith, e))
-same-join (x ∷ xs) ys [] vs e = absurd (omega (arith, e))
-same-join (x ∷ xs) ys (u ∷ us) vs e = go (eqb x u) (same-join xs ys us vs (omega arith))
-  where
-    go : (t : Bool) → same (xs ++ ys) (us ++ vs) ≡ (same xs us && same ys vs)
-        → (t && same (xs ++ ys) (us ++ vs)) ≡ ((t && same xs us) && same ys vs)
-    go true q = q
-    go false q = refl
 
 clear-more : (b : List ℕ) (a m n : ℕ) → a + m ≤ length b → clear b a (m + n) ≡ (clear b a m && clear b (a + m) n)
 unfolding clear

@@ -15,7 +15,7 @@ use Rattle.tree.specs.Exact.{clear, spareAt, spareLen, exact}
 use Rattle.tree.specs.Code.{Node}
 use Rattle.tree.specs.declared.node.Split.{Split}
 use Rattle.tree.proofs.Shape.{length-counts}
-use Rattle.tree.proofs.Writing.{splice-then}
+use Rattle.lists.proofs.Parts.{splice-then}
 use Rattle.tree.proofs.Rooting.{Inner, halved}
 
 -- ---- the halves of a code are codes

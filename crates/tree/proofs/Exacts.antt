@@ -16,25 +16,23 @@ use Rattle.reserve.proofs.Fit.{fit-all, one-cell}
 use Rattle.lists.specs.Lists.{sum, every, same, part, fill}
 use Rattle.tree.specs.Tree.{tree}
 use Rattle.tree.specs.Read.{leftOf, leftAt, rightAt, counts}
-use Rattle.tree.specs.Exact.{clear, spareAt, spareLen, exact}
-use Rattle.lists.proofs.Parts.{piece}
+use Rattle.tree.specs.Exact.{Coded, clear, spareAt, spareLen, exact}
+use Rattle.lists.proofs.Parts.{length-part, part-more, piece}
 use Rattle.lists.proofs.Sums.{sum-append, sum-halves, sum-take-le}
 use Rattle.lists.proofs.Tests.{same-refl, same-is, each, every-of}
 use Rattle.bits.proofs.Packing.{Bits, bits-take, bits-drop, field-value}
 use Rattle.tree.proofs.Shape.{tree-none, length-tree, length-counts, left-read, left-region, right-region, rest-is}
 
-pub part-more : (b : List ℕ) (a m n : ℕ) → part b a (m + n) ≡ part b a m ++ part b (a + m) n
-part-more b a m n = take-add m n (drop a b) ∙ ap (λ (z : List ℕ). part b a m ++ take n z) (drop-drop m a b)
-
-pub length-part : (b : List ℕ) (a n : ℕ) → a + n ≤ length b → length (part b a n) ≡ n
-length-part b a n l = length-take-le n (drop a b) (omega (arith, length-drop a b))
-
 -- a field that is in the bits
 pub field-part : (b : List ℕ) (a w : ℕ) → Bits b → a + w ≤ length b → part b a w ≡ field w (value (part b a w))
-field-part b a w h l = sym (ap (λ (z : ℕ). field z (value (part b a w))) (sym (length-part b a w l)) ∙ field-value (part b a w) (bits-take w (drop a b) (bits-drop a b h)))
+field-part b a w h l =
+    sym
+    (ap (λ (z : ℕ). field z (value (part b a w))) (sym (length-part b a w l))
+    ∙ field-value (part b a w) (bits-take w (drop a b) (bits-drop a b h)))
 
 -- the tree of two halves
-tree-join : (h : ℕ) (X Y : List ℕ) → length X ≡ 2 ^ h → tree (suc h) (X ++ Y) ≡ fill (reserve (suc h) (sum (X ++ Y))) (field (digits (sum (X ++ Y))) (sum X) ++ (tree h X ++ tree h Y))
+tree-join : (h : ℕ) (X Y : List ℕ) → length X ≡ 2 ^ h
+    → tree (suc h) (X ++ Y) ≡ fill (reserve (suc h) (sum (X ++ Y))) (field (digits (sum (X ++ Y))) (sum X) ++ (tree h X ++ tree h Y))
 unfolding tree
 tree-join h X Y e = rw (take-at X Y (2 ^ h) e, drop-at X Y (2 ^ h) e)
 
@@ -42,12 +40,9 @@ fill-is : (n k : ℕ) (bs : List ℕ) → length bs ≡ k → fill n bs ≡ bs +
 unfolding fill
 fill-is n k bs e = ap (λ (z : ℕ). bs ++ replicate (n - z) 0) e
 
-pub record Coded (h s : ℕ) (b : List ℕ) (a : ℕ) : Type 0 where
-  pub total : sum (counts h s b a) ≡ s
-  pub code : part b a (reserve h s) ≡ tree h (counts h s b a)
-
 -- the four pieces of a node
-join-parts : (b : List ℕ) (a t i j r : ℕ) → t + i + j ≤ r → part b a r ≡ (part b a t ++ (part b (a + t) i ++ part b (a + t + i) j)) ++ part b (a + t + i + j) (r - (t + i + j))
+join-parts : (b : List ℕ) (a t i j r : ℕ) → t + i + j ≤ r → part b a r ≡ (part b a t ++ (part b (a + t) i ++ part b (a + t + i) j)) ++ part b
+    (a + t + i + j) (r - (t + i + j))
 join-parts b a t i j r l =
     let e : r ≡ (t + (i + j)) + (r - (t + i + j)) = omega arith in
     let f : a + (t + (i + j)) ≡ a + t + i + j = omega arith in
@@ -64,7 +59,16 @@ node-coded h s l b a X Y bb fits el le nX sX sY cX cY cZ =
     let fld : part b a (digits s) ≡ field (digits s) l = field-part b a (digits s) bb (omega arith) ∙ ap (field (digits s)) (sym el) in
     let F : List ℕ = field (digits s) l in
     let lF : length (F ++ (tree h X ++ tree h Y)) ≡ digits s + reserve h l + reserve h (s - l) =
-    omega (arith, length-append F (tree h X ++ tree h Y), length-append (tree h X) (tree h Y), length-field (digits s) l, length-tree h X, length-tree h Y, ap (reserve h) sX, ap (reserve h) sY) in (
+    omega (
+      arith,
+      length-append F (tree h X ++ tree h Y),
+      length-append (tree h X) (tree h Y),
+      length-field (digits s) l,
+      length-tree h X,
+      length-tree h Y,
+      ap (reserve h) sX,
+      ap (reserve h) sY,
+    ) in (
       tot,
       join-parts b a (digits s) (reserve h l) (reserve h (s - l)) (reserve (suc h) s) fit
           ∙ ap₂ _++_ (ap₂ _++_ fld (ap₂ _++_ cX cY)) cZ
@@ -82,7 +86,8 @@ exact-coded (suc h) s b a bb fits e =
     let fit : digits s + reserve h l + reserve h (s - l) ≤ reserve (suc h) s = fit-all h s l (s - l) (omega arith) in
     let p : Coded h l b (leftAt s a) = exact-coded h l b (leftAt s a) bb (omega arith) (w .1 .0) in
     let q : Coded h (s - l) b (rightAt h s l a) = exact-coded h (s - l) b (rightAt h s l a) bb (omega arith) (w .1 .1 .0) in
-    let r = node-coded h s l b a (counts h l b (leftAt s a)) (counts h (s - l) b (rightAt h s l a)) bb fits refl le (length-counts h l b (leftAt s a)) (p .total) (q .total) (p .code) (q .code)
+    let r = node-coded h s l b a (counts h l b (leftAt s a)) (counts h (s - l) b (rightAt h s l a)) bb fits refl le
+    (length-counts h l b (leftAt s a)) (p .total) (q .total) (p .code) (q .code)
     (same-is (part b (spareAt h s l a) (spareLen h s l)) (replicate (spareLen h s l) 0) (w .1 .1 .1 .0)) in
     record { total = r .0; code = r .1 }
 
@@ -109,9 +114,11 @@ spare-clear h xs b a e =
     ) in
     let fit : n ≤ reserve (suc h) s = fit-all h s i (s - i) (omega (arith, sum-take-le (2 ^ h) xs)) in
     let Z : List ℕ = replicate (reserve (suc h) s - n) 0 in
-    let r : part b a (reserve (suc h) s) ≡ I ++ (Z ++ []) = e ∙ ap (λ (z : ℕ). I ++ replicate (reserve (suc h) s - z) 0) lI ∙ ap (λ (z : List ℕ). I ++ z) (sym (append-nil Z)) in
+    let r : part b a (reserve (suc h) s) ≡ I ++ (Z ++ []) = e ∙ ap (λ (z : ℕ). I ++ replicate (reserve (suc h) s - z) 0) lI
+    ∙ ap (λ (z : List ℕ). I ++ z) (sym (append-nil Z)) in
     ap (λ (z : List ℕ). same z Z)
-    (ap (λ (z : ℕ). part b z (reserve (suc h) s - n)) {x = spareAt h s i a} {y = a + n} (omega arith) ∙ piece b a (reserve (suc h) s) I Z [] n (reserve (suc h) s - n) r lI (length-replicate {A = ℕ} (reserve (suc h) s - n) 0) (omega arith))
+    (ap (λ (z : ℕ). part b z (reserve (suc h) s - n)) {x = spareAt h s i a} {y = a + n} (omega arith)
+    ∙ piece b a (reserve (suc h) s) I Z [] n (reserve (suc h) s - n) r lI (length-replicate {A = ℕ} (reserve (suc h) s - n) 0) (omega arith))
     ∙ same-refl Z
 
 pub tree-exact : (h : ℕ) (xs b : List ℕ) (a : ℕ) → part b a (reserve h (sum xs)) ≡ tree h xs → exact h (sum xs) b a ≡ true
@@ -124,7 +131,8 @@ tree-exact (suc h) xs b a e =
       (
         tree-exact h (take (2 ^ h) xs) b (leftAt (sum xs) a) (left-region h xs b a e),
         (
-          ap (λ (z : ℕ). exact h z b (rightAt h (sum xs) (sum (take (2 ^ h) xs)) a)) (rest-is h xs b a e) ∙ tree-exact h (drop (2 ^ h) xs) b (rightAt h (sum xs) (sum (take (2 ^ h) xs)) a) (right-region h xs b a e),
+          ap (λ (z : ℕ). exact h z b (rightAt h (sum xs) (sum (take (2 ^ h) xs)) a)) (rest-is h xs b a e)
+              ∙ tree-exact h (drop (2 ^ h) xs) b (rightAt h (sum xs) (sum (take (2 ^ h) xs)) a) (right-region h xs b a e),
           (spare-clear h xs b a e, tt),
         ),
       ),

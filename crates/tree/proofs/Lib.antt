@@ -1,6 +1,7 @@
 -- Laws of the definitions.
 pub mod Shape
 pub mod Windows
+pub mod Blank
 pub mod Writing
 pub mod Decoding
 pub mod WalkLaws
@@ -11,6 +12,7 @@ pub mod Rooting
 pub mod Clearing
 pub mod Local
 pub mod Lowest
+pub mod Fours
 pub mod WalkSteps
 pub mod SeekSteps
 pub mod CheckSteps

@@ -1,9 +1,9 @@
 -- The lowest two levels of a tree, out of one number: the four counts' bits as the number v in r bits. Assumes nothing.
 use mathlib.Core.Path.{_≡_, refl, sym, ap, ap₂, _∙_}
-use mathlib.Core.Bool.{Bool, true, false, _&&_}
+use mathlib.Core.Bool.{Bool, true, false, and-true}
 use mathlib.Core.List.{List, [], _∷_}
 use Prim.Native.Nat.{ℕ, zero, suc, _+_, _-_, _*_, _/_, _%_, _^_, _≤_, _<_}
-use native.Mathlib.Nat.{pow-succ', lt-of-mul-lt-mul-left, mod-lt, mod-eq-of-lt, mul-le-mul-right, lt-of-lt-of-le}
+use native.Mathlib.Nat.{pow-succ', lt-of-mul-lt-mul-left, mod-lt, mod-eq-of-lt}
 use native.Mathlib.Omega.{arith}
 use lib.ListN.{length, take, drop, replicate}
 use lib.Seq.{take-all}
@@ -11,9 +11,10 @@ use lib.Dec.{leb, eqb}
 use lib.Pow.{pow-pos, shr-lt}
 use borrow.Author.Tests.{le-leb, lt-leb}
 use Rattle.lists.specs.Lists.{every, same, part}
-use Rattle.bits.specs.Bits.{field, valueFrom, value, bits}
+use Rattle.lists.proofs.Parts.{length-part}
+use Rattle.bits.specs.Bits.{field, value, bits}
 use Rattle.bits.proofs.Laws.{length-field, length-bits}
-use Rattle.bits.proofs.Packing.{Bits, bits-bytes, bits-field, bits-take, bits-drop, value-field}
+use Rattle.bits.proofs.Packing.{Bits, bits-bytes, bits-field, bits-take, bits-drop, value-field, value-lt}
 use Rattle.bits.proofs.Words.{field-get}
 use Rattle.reserve.specs.Reserve.{digits, reserve}
 use Rattle.reserve.proofs.Line.{A, B}
@@ -23,7 +24,7 @@ use Rattle.tree.specs.Read.{leftOf, leftAt, rightAt}
 use Rattle.tree.specs.Exact.{clear, spareAt, spareLen, exact}
 use Rattle.tree.proofs.Clearing.{clear-value}
 use Rattle.tree.specs.Code.{Lies}
-use Rattle.tree.proofs.Exacts.{length-part, field-part}
+use Rattle.tree.proofs.Exacts.{field-part}
 use Rattle.tree.proofs.Local.{tests, exact-tests, exact-local}
 
 -- ---- two counts: their tree is one field
@@ -47,10 +48,6 @@ clear-nothing : (b : List ℕ) (a n : ℕ) → n ≡ 0 → clear b a n ≡ true
 unfolding clear same
 clear-nothing b a zero e = refl
 clear-nothing b a (suc n) e = absurd (omega (arith, e))
-
-and-true : (x : Bool) → (x && true) ≡ x
-and-true true = refl
-and-true false = refl
 
 pub exact-pair : (s : ℕ) (b : List ℕ) (a : ℕ) → exact 1 s b a ≡ leb (leftOf s b a) s
 unfolding exact every
@@ -194,22 +191,13 @@ module _ {s r v t l : ℕ} (q : Quad s r v t l) where
         sym (tested x y z ex ey ez ∙ rw (le-leb l s le, le-leb x l kx, le-leb y (s - l) ky, and-true (eqb z 0)))
 
 -- ---- the number in a tree's own bits
-value-from-lt : (bs : List ℕ) (a : ℕ) → Bits bs → valueFrom a bs < (a + 1) * 2 ^ length bs
-unfolding valueFrom
-value-from-lt [] a h = omega arith
-value-from-lt (b ∷ bs) a h =
-    let w : valueFrom (a * 2 + b) bs < (a * 2 + b + 1) * 2 ^ length bs = value-from-lt bs (a * 2 + b) (h .1) in
-    let u : (a * 2 + b + 1) * 2 ^ length bs ≤ (a + 1) * 2 * 2 ^ length bs = mul-le-mul-right (2 ^ length bs) (omega (arith, h .0)) in
-    let e : (a + 1) * 2 * 2 ^ length bs ≡ (a + 1) * 2 ^ suc (length bs) = rw (pow-succ' 2 (length bs)) (omega arith) in
-    lt-of-lt-of-le w (rw e at u)
-
 module _ (b : List ℕ) (a h s r v : ℕ) (y : Lies b a h s) (er : r ≡ reserve h s) (ev : v ≡ value (part (bits b) a r)) where
   inside : a + r ≤ length (bits b)
   inside = omega (arith, er, y .inside, length-bits b)
 
   pub own-lt : v < 2 ^ r
   own-lt =
-      let w = value-from-lt (part (bits b) a r) 0 (bits-take r (drop a (bits b)) (bits-drop a (bits b) (bits-bytes b))) in
+      let w = value-lt (part (bits b) a r) 0 (bits-take r (drop a (bits b)) (bits-drop a (bits b) (bits-bytes b))) in
       let n : 2 ^ length (part (bits b) a r) ≡ 2 ^ r = ap (λ (k : ℕ). 2 ^ k) (length-part (bits b) a r inside) in
       omega (arith, ev)
 

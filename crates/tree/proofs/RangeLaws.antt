@@ -41,7 +41,12 @@ pub apart : (cs ds es : List Side) (h : ℕ) (xs : List ℕ) (a : ℕ) → lengt
 unfolding node child
 apart cs ds es zero xs a l = absurd (not-suc-le-zero l)
 apart [] ds es (suc h) xs a l =
-    omega (arith, inside ds h (take (2 ^ h) xs) (a + digits (sum xs)) .1, inside es h (drop (2 ^ h) xs) (a + digits (sum xs) + reserve h (sum (take (2 ^ h) xs))) .0)
+    omega (
+      arith,
+      inside ds h (take (2 ^ h) xs) (a + digits (sum xs)) .1,
+      inside es h (drop (2 ^ h) xs)
+          (a + digits (sum xs) + reserve h (sum (take (2 ^ h) xs))) .0,
+    )
 apart (left ∷ cs) ds es (suc h) xs a l = apart cs ds es h (take (2 ^ h) xs) (a + digits (sum xs)) (omega arith)
 apart (right ∷ cs) ds es (suc h) xs a l = apart cs ds es h (drop (2 ^ h) xs) (a + digits (sum xs) + reserve h (sum (take (2 ^ h) xs))) (omega arith)
 
@@ -52,4 +57,5 @@ unfolding node child
 holds-code [] h xs b a e = e
 holds-code (d ∷ ds) zero xs b a e = e
 holds-code (left ∷ ds) (suc h) xs b a e = holds-code ds h (take (2 ^ h) xs) b (a + digits (sum xs)) (left-region h xs b a e)
-holds-code (right ∷ ds) (suc h) xs b a e = holds-code ds h (drop (2 ^ h) xs) b (a + digits (sum xs) + reserve h (sum (take (2 ^ h) xs))) (right-region h xs b a e)
+holds-code (right ∷ ds) (suc h) xs b a e =
+    holds-code ds h (drop (2 ^ h) xs) b (a + digits (sum xs) + reserve h (sum (take (2 ^ h) xs))) (right-region h xs b a e)

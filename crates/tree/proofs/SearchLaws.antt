@@ -32,7 +32,8 @@ pub seek-left : (h s l : ℕ) (b : List ℕ) (a q : ℕ) → leftOf s b a ≡ l 
 unfolding seek pick
 seek-left h s l b a q e i k = rw (e, le-leb l s i, le-leb q l k)
 
-pub seek-right : (h s l : ℕ) (b : List ℕ) (a q : ℕ) → leftOf s b a ≡ l → l ≤ s → l < q → seek (suc h) s b a q ≡ shifted (2 ^ h) (seek h (s - l) b (rightAt h s l a) (q - l))
+pub seek-right : (h s l : ℕ) (b : List ℕ) (a q : ℕ) → leftOf s b a ≡ l → l ≤ s → l < q
+    → seek (suc h) s b a q ≡ shifted (2 ^ h) (seek h (s - l) b (rightAt h s l a) (q - l))
 unfolding seek pick
 seek-right h s l b a q e i k = rw (e, le-leb l s i, lt-leb q l k)
 
@@ -48,14 +49,17 @@ unfolding seek
 seek-tree zero xs b a q n k m e = lone xs q n k
 seek-tree (suc h) xs b a q n k m e =
     go (decLe q (sum (take (2 ^ h) xs))) (λ i. seek-tree h (take (2 ^ h) xs) b (leftAt (sum xs) a) q (left-long h xs n) k i (left-region h xs b a e))
-    (λ i j. seek-tree h (drop (2 ^ h) xs) b (rightAt h (sum xs) (sum (take (2 ^ h) xs)) a) (q - sum (take (2 ^ h) xs)) (right-long h xs n) i j (right-region h xs b a e))
+    (λ i j. seek-tree h (drop (2 ^ h) xs) b (rightAt h (sum xs) (sum (take (2 ^ h) xs)) a) (q - sum (take (2 ^ h) xs)) (right-long h xs n) i j
+    (right-region h xs b a e))
   where
     whole : (r : ℕ) → reached r (take (2 ^ h) xs ++ drop (2 ^ h) xs) ≡ reached r xs
     whole r = ap (reached r) (take-append-drop (2 ^ h) xs)
 
-    go : Dec (q ≤ sum (take (2 ^ h) xs)) → (q ≤ sum (take (2 ^ h) xs) → seek h (sum (take (2 ^ h) xs)) b (leftAt (sum xs) a) q ≡ place (reached q (take (2 ^ h) xs)))
+    go : Dec (q ≤ sum (take (2 ^ h) xs)) → (q ≤ sum (take (2 ^ h) xs)
+        → seek h (sum (take (2 ^ h) xs)) b (leftAt (sum xs) a) q ≡ place (reached q (take (2 ^ h) xs)))
         → (1 ≤ q - sum (take (2 ^ h) xs) → q - sum (take (2 ^ h) xs) ≤ sum (drop (2 ^ h) xs)
-        → seek h (sum (drop (2 ^ h) xs)) b (rightAt h (sum xs) (sum (take (2 ^ h) xs)) a) (q - sum (take (2 ^ h) xs)) ≡ place (reached (q - sum (take (2 ^ h) xs)) (drop (2 ^ h) xs)))
+        → seek h (sum (drop (2 ^ h) xs)) b (rightAt h (sum xs) (sum (take (2 ^ h) xs)) a) (q - sum (take (2 ^ h) xs)) ≡ place
+        (reached (q - sum (take (2 ^ h) xs)) (drop (2 ^ h) xs)))
         → seek (suc h) (sum xs) b a q ≡ place (reached q xs)
     go (yes i) p r =
         seek-left h (sum xs) (sum (take (2 ^ h) xs)) b a q (left-read h xs b a e) (sum-take-le (2 ^ h) xs) i ∙ p i
@@ -65,4 +69,5 @@ seek-tree (suc h) xs b a q n k m e =
         ∙ ap (λ (z : ℕ). shifted (2 ^ h) (seek h z b (rightAt h (sum xs) (sum (take (2 ^ h) xs)) a) (q - sum (take (2 ^ h) xs)))) (rest-is h xs b a e)
         ∙ ap (shifted (2 ^ h)) (r (omega arith) (omega (arith, sum-halves (2 ^ h) xs)))
         ∙ moved (2 ^ h) (reached (q - sum (take (2 ^ h) xs)) (drop (2 ^ h) xs))
-        ∙ ap place (ap (λ (z : ℕ). z + reached (q - sum (take (2 ^ h) xs)) (drop (2 ^ h) xs)) (sym (left-long h xs n)) ∙ sym (reached-right q (take (2 ^ h) xs) (drop (2 ^ h) xs) (omega arith)) ∙ whole q)
+        ∙ ap place (ap (λ (z : ℕ). z + reached (q - sum (take (2 ^ h) xs)) (drop (2 ^ h) xs)) (sym (left-long h xs n))
+        ∙ sym (reached-right q (take (2 ^ h) xs) (drop (2 ^ h) xs) (omega arith)) ∙ whole q)

@@ -30,7 +30,8 @@ F h xs = field (digits (sum xs)) (sum (take (2 ^ h) xs))
 abbrev inner : ℕ → List ℕ → List ℕ
 inner h xs = F h xs ++ (tree h (take (2 ^ h) xs) ++ tree h (drop (2 ^ h) xs))
 
-length-inner : (h : ℕ) (xs : List ℕ) → length (tree h (take (2 ^ h) xs)) ≡ reserve h (sum (take (2 ^ h) xs)) → length (tree h (drop (2 ^ h) xs)) ≡ reserve h (sum (drop (2 ^ h) xs))
+length-inner : (h : ℕ) (xs : List ℕ) → length (tree h (take (2 ^ h) xs)) ≡ reserve h (sum (take (2 ^ h) xs))
+    → length (tree h (drop (2 ^ h) xs)) ≡ reserve h (sum (drop (2 ^ h) xs))
     → length (inner h xs) ≡ digits (sum xs) + (reserve h (sum (take (2 ^ h) xs)) + reserve h (sum (drop (2 ^ h) xs)))
 length-inner h xs a b =
     length-append (F h xs) (tree h (take (2 ^ h) xs) ++ tree h (drop (2 ^ h) xs))
@@ -42,7 +43,8 @@ unfolding tree
 length-tree zero xs = sym (one-cell (sum xs))
 length-tree (suc h) xs =
     let i = length-inner h xs (length-tree h (take (2 ^ h) xs)) (length-tree h (drop (2 ^ h) xs)) in
-    length-fill (reserve (suc h) (sum xs)) (inner h xs) (omega (arith, i, fit-all h (sum xs) (sum (take (2 ^ h) xs)) (sum (drop (2 ^ h) xs)) (sum-halves (2 ^ h) xs)))
+    length-fill (reserve (suc h) (sum xs)) (inner h xs) (omega
+    (arith, i, fit-all h (sum xs) (sum (take (2 ^ h) xs)) (sum (drop (2 ^ h) xs)) (sum-halves (2 ^ h) xs)))
 
 pub bits-tree : (h : ℕ) (xs : List ℕ) → Bits (tree h xs)
 unfolding tree
@@ -88,16 +90,20 @@ module _ (h : ℕ) (xs b : List ℕ) (a : ℕ) (e : part b a (reserve (suc h) (s
   pub left-read : leftOf (sum xs) b a ≡ sum L
   unfolding leftOf
   left-read =
-      ap value (ap (λ (k : ℕ). part b k (digits (sum xs))) (sym (add-zero a)) ∙ piece b a (reserve (suc h) (sum xs)) [] (F h xs) (tree h L ++ (tree h M ++ Z)) 0 (digits (sum xs)) parts refl lF (omega (arith, fits)))
+      ap value (ap (λ (k : ℕ). part b k (digits (sum xs))) (sym (add-zero a))
+      ∙ piece b a (reserve (suc h) (sum xs)) [] (F h xs) (tree h L ++ (tree h M ++ Z)) 0 (digits (sum xs)) parts refl lF (omega (arith, fits)))
       ∙ value-field (digits (sum xs)) (sum L) (omega (arith, digits-is (sum xs), halves))
 
   pub left-region : part b (leftAt (sum xs) a) (reserve h (sum L)) ≡ tree h L
-  left-region = piece b a (reserve (suc h) (sum xs)) (F h xs) (tree h L) (tree h M ++ Z) (digits (sum xs)) (reserve h (sum L)) parts lF (length-tree h L) (omega (arith, fits))
+  left-region =
+      piece b a (reserve (suc h) (sum xs)) (F h xs) (tree h L) (tree h M ++ Z) (digits (sum xs)) (reserve h (sum L)) parts lF (length-tree h L)
+      (omega (arith, fits))
 
   pub right-region : part b (rightAt h (sum xs) (sum L) a) (reserve h (sum M)) ≡ tree h M
   right-region =
       ap (λ (k : ℕ). part b k (reserve h (sum M))) assoc
-      ∙ piece b a (reserve (suc h) (sum xs)) (F h xs ++ tree h L) (tree h M) Z (digits (sum xs) + reserve h (sum L)) (reserve h (sum M)) (parts ∙ sym (append-assoc (F h xs) (tree h L) (tree h M ++ Z)))
+      ∙ piece b a (reserve (suc h) (sum xs)) (F h xs ++ tree h L) (tree h M) Z (digits (sum xs) + reserve h (sum L)) (reserve h (sum M))
+      (parts ∙ sym (append-assoc (F h xs) (tree h L) (tree h M ++ Z)))
       (length-append (F h xs) (tree h L) ∙ ap₂ _+_ lF (length-tree h L)) (length-tree h M) (omega (arith, fits))
     where
       assoc : a + digits (sum xs) + reserve h (sum L) ≡ a + (digits (sum xs) + reserve h (sum L))

@@ -28,7 +28,8 @@ pub walk-left : (h s l : ℕ) (b : List ℕ) (a j : ℕ) → leftOf s b a ≡ l 
 unfolding walk pick
 walk-left h s l b a j e i k = rw (e, le-leb l s i, lt-ltb j (2 ^ h) k)
 
-pub walk-right : (h s l : ℕ) (b : List ℕ) (a j : ℕ) → leftOf s b a ≡ l → l ≤ s → 2 ^ h ≤ j → walk (suc h) s b a j ≡ later l (walk h (s - l) b (rightAt h s l a) (j - 2 ^ h))
+pub walk-right : (h s l : ℕ) (b : List ℕ) (a j : ℕ) → leftOf s b a ≡ l → l ≤ s → 2 ^ h ≤ j
+    → walk (suc h) s b a j ≡ later l (walk h (s - l) b (rightAt h s l a) (j - 2 ^ h))
 unfolding walk pick
 walk-right h s l b a j e i k = rw (e, le-leb l s i, le-ltb j (2 ^ h) k)
 
@@ -47,7 +48,9 @@ pub walk-tree : (h : ℕ) (xs b : List ℕ) (a j : ℕ) → length xs ≡ 2 ^ h 
     → walk h (sum xs) b a j ≡ found (sum (take j xs)) (getD xs j 0)
 unfolding walk
 walk-tree zero xs b a j n k e = alone xs j n k
-walk-tree (suc h) xs b a j n k e = go (decLe (suc j) (2 ^ h)) (λ i. walk-tree h L b (leftAt (sum xs) a) j (left-long h xs n) i (left-region h xs b a e)) (λ i. walk-tree h M b (rightAt h (sum xs) (sum L) a) (j - 2 ^ h) (right-long h xs n) i (right-region h xs b a e))
+walk-tree (suc h) xs b a j n k e =
+    go (decLe (suc j) (2 ^ h)) (λ i. walk-tree h L b (leftAt (sum xs) a) j (left-long h xs n) i (left-region h xs b a e))
+    (λ i. walk-tree h M b (rightAt h (sum xs) (sum L) a) (j - 2 ^ h) (right-long h xs n) i (right-region h xs b a e))
   where
     L : List ℕ
     L = take (2 ^ h) xs
@@ -58,8 +61,10 @@ walk-tree (suc h) xs b a j n k e = go (decLe (suc j) (2 ^ h)) (λ i. walk-tree h
     le : sum (take (2 ^ h) xs) ≤ sum xs
     le = sum-take-le (2 ^ h) xs
 
-    go : Dec (suc j ≤ 2 ^ h) → (j < 2 ^ h → walk h (sum (take (2 ^ h) xs)) b (leftAt (sum xs) a) j ≡ found (sum (take j (take (2 ^ h) xs))) (getD (take (2 ^ h) xs) j 0))
-        → (j - 2 ^ h < 2 ^ h → walk h (sum (drop (2 ^ h) xs)) b (rightAt h (sum xs) (sum (take (2 ^ h) xs)) a) (j - 2 ^ h) ≡ found (sum (take (j - 2 ^ h) (drop (2 ^ h) xs))) (getD (drop (2 ^ h) xs) (j - 2 ^ h) 0))
+    go : Dec (suc j ≤ 2 ^ h) → (j < 2 ^ h → walk h (sum (take (2 ^ h) xs)) b (leftAt (sum xs) a) j ≡ found (sum (take j (take (2 ^ h) xs)))
+        (getD (take (2 ^ h) xs) j 0))
+        → (j - 2 ^ h < 2 ^ h → walk h (sum (drop (2 ^ h) xs)) b (rightAt h (sum xs) (sum (take (2 ^ h) xs)) a) (j - 2 ^ h) ≡ found
+        (sum (take (j - 2 ^ h) (drop (2 ^ h) xs))) (getD (drop (2 ^ h) xs) (j - 2 ^ h) 0))
         → walk (suc h) (sum xs) b a j ≡ found (sum (take j xs)) (getD xs j 0)
     go (yes i) p q =
         walk-left h (sum xs) (sum (take (2 ^ h) xs)) b a j (left-read h xs b a e) le i ∙ p i

@@ -1,13 +1,15 @@
 -- One step of the walk to a count, as the code takes it: its answer is one number. Assumes nothing.
 use mathlib.Core.Path.{_≡_, refl, sym, ap, _∙_}
-use mathlib.Core.Bool.{false}
+use mathlib.Core.Bool.{Bool, true, false}
 use mathlib.Core.List.{List}
-use Prim.Native.Nat.{ℕ, suc, _+_, _-_, _*_, _^_, _≤_, _<_}
+use Prim.Native.Nat.{ℕ, zero, suc, _+_, _-_, _*_, _^_, _≤_, _<_}
 use native.Mathlib.Nat.{mul-le-mul-right}
 use native.Mathlib.Omega.{arith}
-use lib.Dec.{leb}
+use lib.Dec.{leb, ltb}
 use Rattle.lists.specs.Lists.{pick}
-use Rattle.tree.specs.Read.{leftOf, Found, damaged, found, later, walk}
+use Rattle.bits.specs.Bits.{valueFrom}
+use Rattle.reserve.specs.Reserve.{digits}
+use Rattle.tree.specs.Read.{leftOf, leftAt, rightAt, Found, damaged, found, later, walk}
 use Rattle.tree.specs.Code.{Node, told}
 use Rattle.tree.specs.declared.node.Split.{Split}
 use Rattle.tree.proofs.WalkLaws.{walk-left, walk-right}
@@ -27,7 +29,23 @@ walk-damaged : (h s : ℕ) (b : List ℕ) (a j : ℕ) → leb (leftOf s b a) s �
 unfolding walk pick
 walk-damaged h s b a j e = rw e
 
+-- either way finds a 0
+either : (t : Bool) (x y : Found) → x ≡ found 0 0 → y ≡ found 0 0 → pick t x (later 0 y) ≡ found 0 0
+unfolding later pick
+either true x y ex ey = ex
+either false x y ex ey = ap (later 0) ey
+
+-- in a tree of sum 0 every count is 0
+walk-zero : (h : ℕ) (b : List ℕ) (a j : ℕ) → walk h 0 b a j ≡ found 0 0
+unfolding walk leftOf digits valueFrom pick
+walk-zero zero b a j = refl
+walk-zero (suc h) b a j = either (ltb j (2 ^ h)) _ _ (walk-zero h b (leftAt 0 a) j) (walk-zero h b (rightAt h 0 0 a) (j - 2 ^ h))
+
 module _ (h s : ℕ) (b : List ℕ) (a j acc k : ℕ) where
+  pub walk-none : s ≡ 0 → acc ≡ told acc k (walk h s b a j)
+  unfolding told
+  walk-none e = rw (e, walk-zero h b a j) (omega arith)
+
   pub walk-leaf : h ≡ 0 → acc + s ≡ told acc k (walk h s b a j)
   unfolding walk told
   walk-leaf e = rw e (omega arith)

@@ -76,6 +76,14 @@ window-whole xs from n i l u p = go (decLe (from + n) i)
         let q = sum-window-past xs (from + (i - from)) (n - (i - from)) (omega (arith, p (omega arith))) in
         omega (arith, ap (λ (z : ℕ). sum (window xs from z)) e, sum-window-add xs from (i - from) (n - (i - from)), q)
 
+-- ---- windows of one count and of two
+pub one-count : (xs : List ℕ) (i : ℕ) → sum (window xs i 1) ≡ getD xs i 0
+unfolding window tabulate sum
+one-count xs i = omega (arith, same-place xs (i + 0) i (omega arith))
+
+pub two-counts : (xs : List ℕ) (i : ℕ) → sum (window xs i 2) ≡ getD xs i 0 + getD xs (i + 1) 0
+two-counts xs i = omega (arith, sum-window-add xs i 1 1, one-count xs i, one-count xs (i + 1))
+
 -- ---- the halves of a window
 
 in-halves : (xs : List ℕ) (i h : ℕ) → window xs i (2 ^ suc h) ≡ window xs i (2 ^ h) ++ window xs (i + 2 ^ h) (2 ^ h)

@@ -3,9 +3,9 @@ use mathlib.Core.Bool.{Bool, true, false}
 use mathlib.Core.List.{List}
 use mathlib.Core.Path.{_≡_}
 use Prim.Native.Nat.{ℕ, suc, _+_, _-_, _*_, _^_, _≤_, _<_}
-use lib.ListN.{length, getD}
+use lib.ListN.{length, getD, replicate}
 use lib.Dec.{leb}
-use Rattle.lists.specs.Lists.{tabulate, sum}
+use Rattle.lists.specs.Lists.{tabulate, part, sum}
 use Rattle.bits.specs.Bits.{bits}
 use Rattle.reserve.specs.Reserve.{reserve}
 use Rattle.tree.specs.Read.{leftOf, leftAt, rightAt, Found, damaged, found, Place, nowhere, place}
@@ -26,6 +26,10 @@ pub record Node (b : List ℕ) (a h s : ℕ) (r : Split) : Type 0 where
   pub left-le : r .ok ≡ true → r .left ≤ s
   pub first-is : r .ok ≡ true → r .first ≡ leftAt s a
   pub second-is : r .ok ≡ true → r .second ≡ rightAt h s (r .left) a
+
+-- n bits from a on are zeros
+abbrev pub Blank : List ℕ → ℕ → ℕ → Type 0
+Blank b a n = part b a n ≡ replicate n 0
 
 -- how a walk answers in one number: the count, k times the sum before it, and acc; above all such numbers for damage
 unfoldable pub told : ℕ → ℕ → Found → ℕ

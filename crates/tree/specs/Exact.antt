@@ -2,12 +2,14 @@
 -- Assumes nothing.
 use mathlib.Core.Bool.{Bool, true, false}
 use mathlib.Core.List.{List, [], _∷_}
+use mathlib.Core.Path.{_≡_}
 use Prim.Native.Nat.{ℕ, zero, suc, _+_, _-_}
 use lib.ListN.{replicate}
 use lib.Dec.{leb}
-use Rattle.lists.specs.Lists.{every, same, part}
+use Rattle.lists.specs.Lists.{every, same, part, sum}
 use Rattle.reserve.specs.Reserve.{digits, reserve}
-use Rattle.tree.specs.Read.{leftOf, leftAt, rightAt}
+use Rattle.tree.specs.Tree.{tree}
+use Rattle.tree.specs.Read.{leftOf, leftAt, rightAt, counts}
 
 -- n bits from a on are 0
 unfoldable pub clear : List ℕ → ℕ → ℕ → Bool
@@ -26,3 +28,8 @@ exact zero s b a = true
 exact (suc h) s b a =
     let l = leftOf s b a in
     every (leb l s ∷ exact h l b (leftAt s a) ∷ exact h (s - l) b (rightAt h s l a) ∷ clear b (spareAt h s l a) (spareLen h s l) ∷ [])
+
+-- the bits are the code of the counts that they say, and these have the sum
+pub record Coded (h s : ℕ) (b : List ℕ) (a : ℕ) : Type 0 where
+  pub total : sum (counts h s b a) ≡ s
+  pub code : part b a (reserve h s) ≡ tree h (counts h s b a)

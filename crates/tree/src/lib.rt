@@ -3,5 +3,6 @@
 pub mod check;
 pub mod decode;
 mod node;
+pub mod sums;
 pub mod walk;
 pub mod write;

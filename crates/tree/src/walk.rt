@@ -10,13 +10,16 @@ ghost use Rattle.tree.specs.Code.{Lies, told, spotted};
 pub const DAMAGED: u64 = 9223372036854775808;
 
 // Walks to count j of the tree of 2^h counts with sum s at bit at. Answers acc and the count, and with keep = 1 the counts before it
-// too; with keep = 0 the count alone.
+// too; with keep = 0 the count alone. A tree of sum 0 has zeros alone, and its walk ends at once.
 pub fn walk(b: &[u8], at: usize, h: u32, s: u64, j: u64, acc: u64, keep: u64) -> u64
     requires { ⌜ Lies (now b) at h s × (acc + s < 1099511627776) × (keep ≤ 1) ⌝ }
     ensures { λ r. ⌜ r ≡ told acc keep (walked h s (bits (now (b .entry))) at j) ⌝ }
 {
     if h == 0 {
         return acc + s;
+    }
+    if s == 0 {
+        return acc;
     }
     let down = h - 1;
     let r = root(b, at, down, s);

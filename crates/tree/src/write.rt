@@ -1,59 +1,78 @@
-// The code of a tree of counts, written into bits.
+// The code of a tree of counts, written into bits. The bits are made 0 first and each field is then added to them, so that left-over bits
+// need no thought and no reserve but a left half's is worked out.
+use crate::sums::count_at;
+use crate::sums::sum_of;
+use bits::add_field;
+use bits::clear::clear_bits;
+use bits::put_field;
+use bits::word::joined;
+use reserve::digits_of;
+use reserve::reserve_of;
 ghost use mathlib.Core.Path.{_≡_};
-ghost use Prim.Native.Nat.{_+_, _*_, _≤_, _<_, _^_};
-ghost use lib.ListN.{length, replicate};
+ghost use Prim.Native.Nat.{_+_, _≤_, _^_};
 ghost use Rattle.lists.specs.Lists.{splice, sum};
 ghost use Rattle.bits.specs.Bits.{bits};
+ghost use Rattle.reserve.specs.Reserve.{reserve as reserved};
 ghost use Rattle.tree.specs.Tree.{tree};
-ghost use Rattle.tree.specs.Code.{Lies, window};
+ghost use Rattle.tree.specs.Code.{Blank, Lies, window};
 
-// The sum of the n counts from index from on, none beyond the end.
-pub fn sum_of(counts: &[u32], from: usize, n: usize) -> u64
-    requires { ⌜ (from + n < 2 ^ 63) × (n ≤ 65536) ⌝ }
-    ensures { λ r. ⌜ r ≡ sum (window (now (counts .entry)) from n) ⌝ }
+// The lowest two levels: the tree of the four counts from index from on, whose sum s is not 0, into zero bits from bit at on. Its three
+// fields have three times the digits of s at most, and are one where 57 bits hold them.
+fn four(out: &mut [u8], at: usize, counts: &[u32], from: usize, s: u64)
+    requires { ⌜ Lies (now out) at 2 s × (s ≡ sum (window (now counts) from 4)) × (from + 4 ≤ 2 ^ 62) × (1 ≤ s) ⌝ }
+    requires { ⌜ Blank (bits (now out)) at (reserved 2 s) ⌝ }
+    ensures { λ _. ⌜ bits (now (out .exit)) ≡ splice (bits (now (out .entry))) at (tree 2 (window (now (counts .entry)) from 4)) ⌝ }
 {
-    let end = lists::smaller(from + n, counts.len());
-    let mut total = 0;
-    let mut i = from;
-    while i < end {
-        total = total + (counts[i] as u64);
-        i = i + 1;
+    let a = count_at(counts, from);
+    let left = a + count_at(counts, from + 1);
+    let c = count_at(counts, from + 2);
+    let t = digits_of(s);
+    let first = digits_of(left);
+    let second = digits_of(s - left);
+    if t <= 19 {
+        let fields = joined(joined(left, first, a), second, c);
+        add_field(out, at, t + first + second, fields);
+        return;
     }
-    total
+    let next = at + (t as usize);
+    put_field(out, at, t, left);
+    put_field(out, next, first, a);
+    put_field(out, next + (first as usize), second, c);
 }
 
-// Makes n bits from bit at on 0.
-pub fn clear_bits(out: &mut [u8], at: usize, n: usize)
-    requires { ⌜ (at + n ≤ 8 * length (now out)) × (at + n < 2 ^ 63) × (8 ≤ length (now out)) ⌝ }
-    ensures { λ _. ⌜ bits (now (out .exit)) ≡ splice (bits (now (out .entry))) at (replicate n 0) ⌝ }
-{
-    let mut done = 0;
-    while done < n {
-        let k = lists::smaller(n - done, 40);
-        bits::put_field(out, at + done, k as u32, 0);
-        done = done + k;
-    }
-}
-
-// Writes the tree of the 2^h counts from index from on, whose sum is s, from bit at on; zeros stand beyond the end of counts. Exactly
-// the tree's reserve changes.
-pub fn write(out: &mut [u8], at: usize, h: u32, counts: &[u32], from: usize, s: u64)
+// Writes the tree of the 2^h counts from index from on, whose sum is s, into zero bits from bit at on; zeros stand beyond the end of counts.
+pub fn nodes(out: &mut [u8], at: usize, h: u32, counts: &[u32], from: usize, s: u64)
     requires { ⌜ Lies (now out) at h s × (s ≡ sum (window (now counts) from (2 ^ h))) × (from + 2 ^ h ≤ 2 ^ 62) ⌝ }
+    requires { ⌜ Blank (bits (now out)) at (reserved h s) ⌝ }
     ensures { λ _. ⌜ bits (now (out .exit)) ≡ splice (bits (now (out .entry))) at (tree h (window (now (counts .entry)) from (2 ^ h))) ⌝ }
 {
     if h == 0 {
         return;
     }
+    if s == 0 {
+        return;
+    }
+    if h == 2 {
+        four(out, at, counts, from, s);
+        return;
+    }
     let down = h - 1;
     let half = reserve::power(down) as usize;
     let left = sum_of(counts, from, half);
-    let t = reserve::digits_of(s);
+    let t = digits_of(s);
     let first = at + (t as usize);
-    let second = first + reserve::reserve_of(down, left);
-    let spare = second + reserve::reserve_of(down, s - left);
-    let end = at + reserve::reserve_of(h, s);
-    bits::put_field(out, at, t, left);
-    write(out, first, down, counts, from, left);
-    write(out, second, down, counts, from + half, s - left);
-    clear_bits(out, spare, end - spare);
+    let second = first + reserve_of(down, left);
+    add_field(out, at, t, left);
+    nodes(out, first, down, counts, from, left);
+    nodes(out, second, down, counts, from + half, s - left);
+}
+
+// The same into any bits: exactly the tree's reserve, r bits, changes.
+pub fn write(out: &mut [u8], at: usize, h: u32, counts: &[u32], from: usize, s: u64, r: usize)
+    requires { ⌜ Lies (now out) at h s × (s ≡ sum (window (now counts) from (2 ^ h))) × (from + 2 ^ h ≤ 2 ^ 62) ⌝ }
+    requires { ⌜ r ≡ reserved h s ⌝ }
+    ensures { λ _. ⌜ bits (now (out .exit)) ≡ splice (bits (now (out .entry))) at (tree h (window (now (counts .entry)) from (2 ^ h))) ⌝ }
+{
+    clear_bits(out, at, r);
+    nodes(out, at, h, counts, from, s);
 }

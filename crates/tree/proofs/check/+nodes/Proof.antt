@@ -164,7 +164,8 @@ nodes-returns-7 t c =
     let second = c .before .before .before .before .before .before in
     let left = sym (second .before .nodes .ensures) ∙ not-false _ (second .if5 .left) in
     let right = sym (last .before .nodes2 .ensures) ∙ not-false _ (last .if6 .left) in
-    c .zero-bits .ensures ∙ exact-last (inner t (c .before .before .before .before .before .before .before .before .before)) left right (c .before .before .before .before .reserve-of .ensures) (call t (c .before .before .before .before .before .before .before .before .before) .pre .1 .1)
+    c .zero-bits .ensures ∙ exact-last (inner t (c .before .before .before .before .before .before .before .before .before)) left right
+    (c .before .before .before .before .reserve-of .ensures) (call t (c .before .before .before .before .before .before .before .before .before) .pre .1 .1)
 
 pub +nodes-spec : {M : Type 1} → statement M
 +nodes-spec = close μ-nodes λ t. nodes-lts.spec (callees t)

@@ -28,8 +28,13 @@ cast-quad c = search needs
 quad-requires : tie.Need-quad-requires
 quad-requires c κs =
     let a = c .before .before .before in
-    let e : a .args .h ≡ 2 = omega arith in
-    (a .pre .1 ∙ ap (λ (k : ℕ). reserve k (a .args .s)) e, a .pre .2, own-lt (a .args .b .now) (a .args .at) (a .args .h) (a .args .s) _ _ (a .pre .0) (a .pre .1) (c .before .get-field .ensures), a .pre .0 .total)
+    let e : a .args .h ≡ 2 = omega arith in (
+      a .pre .1 ∙ ap (λ (k : ℕ). reserve k (a .args .s)) e,
+      a .pre .2,
+      own-lt (a .args .b .now) (a .args .at) (a .args .h) (a .args .s) _ _
+          (a .pre .0) (a .pre .1) (c .before .get-field .ensures),
+      a .pre .0 .total,
+    )
 
 returns-2 : tie.Need-returns-2
 returns-2 c =

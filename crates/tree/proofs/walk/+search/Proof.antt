@@ -81,7 +81,13 @@ search-power-requires : (t : ℕ) → search-lts.Need-power-requires (callees t)
 search-power-requires t c κs = omega (arith, c .before .before .before .before .before .before .before .pre .1)
 
 search-add-right : (t : ℕ) → search-lts.Need-add-right (callees t) (search-at t) search′.Post
-search-add-right t c = omega (arith, c .before .before .before .before .before .before .before .before .pre .1 .1, halved _ (c .before .before .before .before .before .before .if1 .left))
+search-add-right t c =
+    omega (
+      arith,
+      c .before .before .before .before .before .before .before .before .pre .1 .1,
+      halved _
+          (c .before .before .before .before .before .before .if1 .left),
+    )
 
 search-sub-search : (t : ℕ) → search-lts.Need-sub-search (callees t) (search-at t) search′.Post
 search-sub-search t c =

@@ -10,7 +10,7 @@ use Rattle.bits.specs.Bits.{bits}
 use Rattle.reserve.proofs.power.Reads as power-reads
 use Rattle.tree.specs.declared.node.Split.{Split}
 use Rattle.tree.proofs.Rooting.{Inner, top, left-lies, right-lies}
-use Rattle.tree.proofs.WalkSteps.{kept, walk-leaf, walk-bad, walk-low, walk-high}
+use Rattle.tree.proofs.WalkSteps.{kept, walk-leaf, walk-none, walk-bad, walk-low, walk-high}
 use Rattle.tree.proofs.node.root.Reads as root-reads
 use Rattle.tree.proofs.walk.walk.Reads as walk
 use Rattle.tree.proofs.walk.walk.Kinds as walk-kinds
@@ -38,9 +38,9 @@ callees t = (
 )
 
 -- where the root was read and is no damage
-module _ (t : ℕ) (c : walk-lts.Else2 (callees t) (walk-at t) walk.Post) where
+module _ (t : ℕ) (c : walk-lts.Else3 (callees t) (walk-at t) walk.Post) where
   abbrev call : walk-lts.Start (callees t) (walk-at t) walk.Post
-  call = c .before .before .before .before .before
+  call = c .before .before .before .before .before .before
 
   abbrev r : Split
   r = c .before .before .root .result
@@ -48,9 +48,9 @@ module _ (t : ℕ) (c : walk-lts.Else2 (callees t) (walk-at t) walk.Post) where
   inner : Inner (bits (call .args .b .now)) (call .args .at) (call .args .h) (call .args .s) r
   inner =
       record {
-        high = c .before .before .before .if1 .left;
+        high = c .before .before .before .before .if1 .left;
         root = c .before .before .root .ensures;
-        sound = not-false (r .ok) (c .if2 .left);
+        sound = not-false (r .ok) (c .if3 .left);
       }
 
   -- what is handed on is no more than the sum
@@ -63,28 +63,31 @@ walk-add-result t c = search needs
 walk-returns : (t : ℕ) → walk-lts.Need-returns (callees t) (walk-at t) walk.Post
 walk-returns t c = walk-leaf _ _ _ _ _ _ _ (c .if1 .taken)
 
+walk-returns-2 : (t : ℕ) → walk-lts.Need-returns-2 (callees t) (walk-at t) walk.Post
+walk-returns-2 t c = walk-none _ _ _ _ _ _ _ (c .if2 .taken)
+
 walk-sub-down : (t : ℕ) → walk-lts.Need-sub-down (callees t) (walk-at t) walk.Post
 walk-sub-down t c = search needs
 
 walk-root-requires : (t : ℕ) → walk-lts.Need-root-requires (callees t) (walk-at t) walk.Post
-walk-root-requires t c κs = top (c .if1 .left) (c .before .before .pre .1 .0)
+walk-root-requires t c κs = top (c .before .if1 .left) (c .before .before .before .pre .1 .0)
 
-walk-returns-2 : (t : ℕ) → walk-lts.Need-returns-2 (callees t) (walk-at t) walk.Post
-walk-returns-2 t c = walk-bad _ _ _ _ _ _ _ (c .before .before .before .if1 .left) (c .before .before .root .ensures) (not-true _ (c .if2 .taken))
+walk-returns-3 : (t : ℕ) → walk-lts.Need-returns-3 (callees t) (walk-at t) walk.Post
+walk-returns-3 t c = walk-bad _ _ _ _ _ _ _ (c .before .before .before .before .if1 .left) (c .before .before .root .ensures) (not-true _ (c .if3 .taken))
 
 walk-power-requires : (t : ℕ) → walk-lts.Need-power-requires (callees t) (walk-at t) walk.Post
-walk-power-requires t c κs = omega (arith, c .before .before .before .before .before .pre .1)
+walk-power-requires t c κs = omega (arith, c .before .before .before .before .before .before .pre .1)
 
 walk-walk-requires : (t : ℕ) → walk-lts.Need-walk-requires (callees t) (walk-at t) walk.Post
 walk-walk-requires t c κs =
-    let pre = c .before .before .before .before .before .before .before .pre in
+    let pre = c .before .before .before .before .before .before .before .before .pre in
     let i = inner t (c .before .before) in
     (omega (arith, pre .0, i .high), (left-lies (pre .1 .0) i, omega (arith, handed t (c .before .before)), pre .1 .2))
 
-walk-returns-3 : (t : ℕ) → walk-lts.Need-returns-3 (callees t) (walk-at t) walk.Post
-walk-returns-3 t c =
+walk-returns-4 : (t : ℕ) → walk-lts.Need-returns-4 (callees t) (walk-at t) walk.Post
+walk-returns-4 t c =
     let i = inner t (c .before .before .before) in
-    c .walk .ensures ∙ walk-low i _ _ _ (c .before .before .power .ensures) (omega (arith, c .before .if3 .taken))
+    c .walk .ensures ∙ walk-low i _ _ _ (c .before .before .power .ensures) (omega (arith, c .before .if4 .taken))
 
 walk-mul-before : (t : ℕ) → walk-lts.Need-mul-before (callees t) (walk-at t) walk.Post
 walk-mul-before t c = omega (arith, handed t (c .before .before .before))
@@ -97,14 +100,14 @@ walk-sub-walk t c = handed t (c .before .before .before .before) .1
 
 walk-walk-requires-2 : (t : ℕ) → walk-lts.Need-walk-requires-2 (callees t) (walk-at t) walk.Post
 walk-walk-requires-2 t c κs =
-    let pre = c .before .before .before .before .before .before .before .before .before .pre in
+    let pre = c .before .before .before .before .before .before .before .before .before .before .pre in
     let i = inner t (c .before .before .before .before) in
     (omega (arith, pre .0, i .high), (right-lies (pre .1 .0) i, omega (arith, handed t (c .before .before .before .before)), pre .1 .2))
 
-walk-returns-4 : (t : ℕ) → walk-lts.Need-returns-4 (callees t) (walk-at t) walk.Post
-walk-returns-4 t c =
+walk-returns-5 : (t : ℕ) → walk-lts.Need-returns-5 (callees t) (walk-at t) walk.Post
+walk-returns-5 t c =
     let i = inner t (c .before .before .before .before .before) in
-    c .walk2 .ensures ∙ walk-high i _ _ _ (c .before .before .before .before .power .ensures) (omega (arith, c .before .before .before .if3 .left))
+    c .walk2 .ensures ∙ walk-high i _ _ _ (c .before .before .before .before .power .ensures) (omega (arith, c .before .before .before .if4 .left))
 
 pub +walk-spec : {M : Type 1} → statement M
 +walk-spec = close μ-walk λ t. walk-lts.spec (callees t)
@@ -112,14 +115,15 @@ pub +walk-spec : {M : Type 1} → statement M
     walk.Post
     (walk-add-result t)
     (walk-returns t)
+    (walk-returns-2 t)
     (walk-sub-down t)
     (walk-root-requires t)
-    (walk-returns-2 t)
+    (walk-returns-3 t)
     (walk-power-requires t)
     (walk-walk-requires t)
-    (walk-returns-3 t)
+    (walk-returns-4 t)
     (walk-mul-before t)
     (walk-add-before t)
     (walk-sub-walk t)
     (walk-walk-requires-2 t)
-    (walk-returns-4 t)
+    (walk-returns-5 t)

@@ -1,4 +1,4 @@
--- `tree::write::sum_of` meets its contract. The loop's invariant: the total is the sum of the window that was passed, and a count is
+-- `tree::sums::sum_of` meets its contract. The loop's invariant: the total is the sum of the window that was passed, and a count is
 -- below 2^32. Assumes nothing.
 use mathlib.Core.Path.{_≡_, _∙_}
 use Prim.Native.Nat.{_-_, _*_, _≤_, max}
@@ -6,8 +6,8 @@ use native.Mathlib.Omega.{arith}
 use Rattle.lists.specs.Lists.{sum}
 use Rattle.tree.specs.Code.{window}
 use Rattle.tree.proofs.Windows.{window-none, window-more, window-whole}
-use Rattle.tree.proofs.write.sum_of.Statement.{statement}
-use Rattle.tree.proofs.write.sum_of.Tie as tie
+use Rattle.tree.proofs.sums.sum_of.Statement.{statement}
+use Rattle.tree.proofs.sums.sum_of.Tie as tie
 
 abbrev Inv-loop : tie.InvT-loop
 Inv-loop counts from n end total₀ i₀ total i =

@@ -1,0 +1,32 @@
+// Counts of a list that goes on with zeros, and their sums.
+ghost use mathlib.Core.Path.{_≡_};
+ghost use Prim.Native.Nat.{_+_, _≤_, _<_, _^_};
+ghost use lib.ListN.{getD};
+ghost use Rattle.lists.specs.Lists.{sum};
+ghost use Rattle.tree.specs.Code.{window};
+
+// The count at index i, 0 beyond the end.
+pub fn count_at(counts: &[u32], i: usize) -> u64
+    ensures { λ r. ⌜ r ≡ getD (now (counts .entry)) i 0 ⌝ }
+{
+    if i < counts.len() {
+        counts[i] as u64
+    } else {
+        0
+    }
+}
+
+// The sum of the n counts from index from on, none beyond the end.
+pub fn sum_of(counts: &[u32], from: usize, n: usize) -> u64
+    requires { ⌜ (from + n < 2 ^ 63) × (n ≤ 65536) ⌝ }
+    ensures { λ r. ⌜ r ≡ sum (window (now (counts .entry)) from n) ⌝ }
+{
+    let end = lists::smaller(from + n, counts.len());
+    let mut total = 0;
+    let mut i = from;
+    while i < end {
+        total = total + (counts[i] as u64);
+        i = i + 1;
+    }
+    total
+}
