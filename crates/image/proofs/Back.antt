@@ -9,10 +9,10 @@ use lib.ListN.{length, take, drop, length-append}
 use lib.Seq.{take-at, drop-at, drop-drop}
 use lib.Dec.{leb}
 use borrow.Author.Tests.{le-leb, eq-eqb}
-use Rattle.lists.specs.Lists.{concat, part, same, sum, tabulate}
+use Rattle.lists.specs.Lists.{concat, part, sum, tabulate}
 use Rattle.lists.proofs.Parts.{part-in, part-skip, piece}
-use Rattle.lists.proofs.Tables.{concat-at, concat-each, part-concat, tabulate-ext}
-use Rattle.lists.proofs.Tests.{both, every-of, same-refl}
+use Rattle.lists.proofs.Tables.{concat-at, concat-each, part-concat}
+use Rattle.lists.proofs.Tests.{every-of}
 use Rattle.bits.specs.Bits.{bits, field, value}
 use Rattle.bits.specs.Numbers.{little, number, numberAt}
 use Rattle.bits.proofs.Laws.{length-field}
@@ -20,14 +20,13 @@ use Rattle.bits.proofs.Little.{length-little, number-little}
 use Rattle.bits.proofs.Packing.{Bits, bits-field, bits-join, value-field}
 use Rattle.reserve.specs.Reserve.{digits, reserve}
 use Rattle.reserve.proofs.Exact.{digits-is}
-use Rattle.tree.specs.Read.{counts}
 use Rattle.tree.specs.Tree.{tree}
-use Rattle.tree.proofs.Shape.{bits-tree, counts-tree, length-tree}
-use Rattle.image.specs.Check.{accepted, headed}
+use Rattle.tree.proofs.Shape.{bits-tree, length-tree}
+use Rattle.image.specs.Check.{headed}
 use Rattle.image.specs.Image.{Limits, code, header, image, packed, page, pageCode, pages, root, size, start, table}
-use Rattle.image.specs.Read.{beforeOf, codeAt, eOf, lOf, listOf, nOf, pageOf, pagesOf, rootOf, sOf, startOf, sumOf, treeAt, widthOf}
+use Rattle.image.specs.Read.{beforeOf, codeAt, eOf, lOf, nOf, pagesOf, rootOf, sOf, startOf, sumOf, treeAt, widthOf}
 use Rattle.image.proofs.Packed.{bits-packed, drop-bits, length-packed, tail}
-use Rattle.image.proofs.PageLaws.{code-most, length-page, length-pageCode, list-back, page-sum, pages-cover, root-le, start-within}
+use Rattle.image.proofs.PageLaws.{code-most, length-pageCode, page-sum, root-le, start-within}
 
 bits-concat : (k : ℕ) (f : ℕ → List ℕ) → ((j : ℕ) → Bits (f j)) → Bits (concat (tabulate k f))
 unfolding tabulate concat
@@ -163,20 +162,7 @@ module _ (e : ℕ) (xs : List ℕ) where
         ∙ piece (bits S) a (w + reserve e (sum (page e xs p))) (field w (root e xs p)) (tree e (page e xs p)) [] w (reserve e (sum (page e xs p)))
         (page-bits p l) (length-field w (root e xs p)) (length-tree e (page e xs p)) (omega arith)
 
-    pub page-is : (p : ℕ) → p < P → pageOf S p ≡ page e xs p
-    unfolding pageOf
-    page-is p l =
-        ap₂ (λ (h s : ℕ). counts h s (bits S) (treeAt S p)) e-is (sum-is p l)
-        ∙ counts-tree e (page e xs p) (bits S) (treeAt S p) (length-page e xs p) (tree-is p l)
-
-    pub list-is : listOf S ≡ xs
-    unfolding listOf
-    list-is =
-        ap₂ (λ (n k : ℕ). take n (concat (tabulate k (pageOf S)))) n-is pages-is
-        ∙ ap (λ (z : List (List ℕ)). take (length xs) (concat z)) (tabulate-ext P (pageOf S) (page e xs) page-is)
-        ∙ list-back e P xs (pages-cover e (length xs))
-
-    -- an image passes the header's tests, and the whole check
+    -- an image passes the header's tests
     pub headed-image : headed S ≡ true
     unfolding headed image header little size eOf
     headed-image =
@@ -202,10 +188,3 @@ module _ (e : ℕ) (xs : List ℕ) where
             ),
           ),
         )
-
-    pub accepted-image : accepted S ≡ true
-    unfolding accepted
-    accepted-image =
-        both headed-image
-        (both (ap (λ (z : List ℕ). leb (sum z) 4294967295) list-is ∙ le-leb (sum xs) 4294967295 (m .total))
-        (ap₂ (λ (h : ℕ) (z : List ℕ). same S (image h z)) e-is list-is ∙ same-refl S))

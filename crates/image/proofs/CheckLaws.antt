@@ -1,9 +1,8 @@
 -- The check of an image, step by step, over plain numbers. Assumes nothing.
-use mathlib.Core.Path.{_≡_, refl, sym, ap, ap₂, _∙_}
+use mathlib.Core.Path.{_≡_, sym, ap, ap₂, _∙_}
 use mathlib.Core.Bool.{Bool, true, false, _&&_}
 use mathlib.Core.List.{List, [], _∷_}
 use Prim.Native.Nat.{ℕ, zero, suc, _+_, _-_, _*_, _/_, _^_, _≤_, _<_}
-use native.Mathlib.Nat.{pow-succ', mul-le-mul-right, lt-of-lt-of-le}
 use native.Mathlib.Numerals.{add-one}
 use native.Mathlib.Omega.{arith}
 use native.Mathlib.Decide.{ℕ-discrete}
@@ -12,9 +11,9 @@ use lib.Pow.{pow-mono}
 use lib.Dec.{leb, eqb}
 use borrow.Author.Tests.{le-leb, lt-leb, eq-eqb, ne-eqb, leb-false}
 use Rattle.lists.specs.Lists.{every, part, pick}
-use Rattle.lists.proofs.Tests.{every-of}
-use Rattle.bits.specs.Bits.{bits, value, valueFrom}
-use Rattle.bits.proofs.Packing.{Bits, bits-bytes, bits-drop, bits-take}
+use Rattle.lists.proofs.Tests.{every-last, every-no, every-of}
+use Rattle.bits.specs.Bits.{bits, value}
+use Rattle.bits.proofs.Packing.{Bits, bits-bytes, bits-drop, bits-take, value-lt}
 use Rattle.reserve.specs.Reserve.{digits, reserve}
 use Rattle.tree.specs.Code.{Lies, told as walked}
 use Rattle.tree.specs.Exact.{clear, exact}
@@ -27,21 +26,14 @@ use Rattle.image.specs.Query.{fits, look, readingAt, theReading}
 use Rattle.image.specs.Read.{codeAt, eOf, lOf, nOf, pagesOf, rootOf, sOf, startOf, widthOf}
 use Rattle.image.specs.Reply.{Reply}
 use Rattle.image.specs.Test.{checked, pagesFrom, says}
-use Rattle.image.proofs.HeadLaws.{every-no, plain}
+use Rattle.image.proofs.HeadLaws.{Plain, never, plain}
 use Rattle.image.proofs.Mirror.{checked-is}
+use Rattle.image.proofs.PageLaws.{reserve-most}
 use Rattle.image.specs.declared.check.Tested.{Tested}
 use Rattle.image.specs.declared.head.Head.{Head}
 use Rattle.image.specs.declared.page.Root.{Root}
 
 -- ---- the number of a few bits is small
-value-lt : (bs : List ℕ) (a : ℕ) → Bits bs → valueFrom a bs < (a + 1) * 2 ^ length bs
-unfolding valueFrom
-value-lt [] a h = omega arith
-value-lt (b ∷ bs) a h = rw (pow-succ' 2 (length bs)) (lt-of-lt-of-le (value-lt bs (a * 2 + b) (h .1)) (widen a b (2 ^ length bs) (h .0)))
-  where
-    widen : (a b k : ℕ) → b < 2 → (a * 2 + b + 1) * k ≤ (a + 1) * (2 * k)
-    widen a b k l = omega (arith, mul-le-mul-right {m = a * 2 + b + 1} {n = (a + 1) * 2} k (omega arith))
-
 pub root-small : (s : List ℕ) (p : ℕ) → widthOf s ≤ 32 → rootOf s p < 4294967296
 unfolding rootOf
 root-small s p l =
@@ -51,9 +43,6 @@ root-small s p l =
     omega (arith, value-lt f 0 g, pow-mono {i = length f} {j = 32} n)
 
 -- ---- the tests of a page
-pub never : false ≡ true → ⊥
-never e = let z : _≡_ {A = ℕ} 0 1 = cc in omega arith
-
 abbrev five : List ℕ → ℕ → ℕ → ℕ → ℕ → List Bool
 five s k p a x =
     eqb (startOf s p) a
@@ -64,10 +53,11 @@ five s k p a x =
     ∷ []
 
 -- one test that fails, the same whatever pages follow
-tests-bad : {s : List ℕ} {p a x : ℕ} {r : Tested} → r .ok ≡ false → (i : ℕ) → ((k : ℕ) → getD (five s k p a x) i true ≡ false) → Tests s p a x r
+tests-bad : {s : List ℕ} {p a x : ℕ} {r : Tested} → r .ok ≡ false → (i : ℕ) → ((k : ℕ) → getD (five s k p a x) i true ≡ false)
+    → Tests s p a x r
 unfolding pagesFrom
 tests-bad {s} {p} {a} {x} e i f = record {
-  stops = λ _ k. sym (every-no (five s k p a x) i (f k));
+  stops = λ _ k. every-no (five s k p a x) i (f k);
   goes-on = λ n. absurd (never (sym e ∙ n));
   end-le = λ n. absurd (never (sym e ∙ n));
 }
@@ -77,83 +67,110 @@ pages-yes : (s : List ℕ) (k p a x : ℕ) → startOf s p ≡ a → x ≤ rootO
     → pagesFrom s (suc k) p a x ≡ pagesFrom s k (suc p) (a + widthOf s + reserve (eOf s) (rootOf s p - x)) (rootOf s p)
 unfolding pagesFrom every
 pages-yes s k p a x f g h t =
-    rw (eq-eqb (startOf s p) a f, le-leb x (rootOf s p) g, le-leb (a + widthOf s + reserve (eOf s) (rootOf s p - x)) (lOf s) h, t)
-    (last (pagesFrom s k (suc p) (a + widthOf s + reserve (eOf s) (rootOf s p - x)) (rootOf s p)))
+    every-last (take 4 (five s k p a x)) _ (every-of (take 4 (five s k p a x)) (
+      eq-eqb (startOf s p) a f,
+      (le-leb x (rootOf s p) g, (le-leb (a + widthOf s + reserve (eOf s) (rootOf s p - x)) (lOf s) h, (t, tt))),
+    ))
+
+-- the root passes L: it stands elsewhere, or the tree passes L too
+pub root-passes : {s : List ℕ} {p a x : ℕ} {t : Root} {r : Tested} → RootAt s p t → r .ok ≡ false → t .ok ≡ false → Tests s p a x r
+root-passes {s} {p} {a} {x} {t} {r} rt n e = go (ℕ-discrete (startOf s p) a)
   where
-    last : (b : Bool) → (b && true) ≡ b
-    last true = refl
-    last false = refl
+    go : Dec (startOf s p ≡ a) → Tests s p a x r
+    go (yes q) =
+        tests-bad n 2 (λ _. lt-leb (a + widthOf s + reserve (eOf s) (rootOf s p - x)) (lOf s)
+        (omega (arith, q, leb-false (startOf s p + widthOf s) (lOf s) (sym (rt .ok-is) ∙ e))))
+    go (no q) = tests-bad n 0 (λ _. ne-eqb (startOf s p) a q)
 
-module _ {s : List ℕ} {h : Head} {p : ℕ} {t : Root} (o : Opened s h) (rt : RootAt s p t) where
-  -- the root passes L: it stands elsewhere, or the tree passes L too
-  pub root-passes : {a x : ℕ} {r : Tested} → r .ok ≡ false → t .ok ≡ false → Tests s p a x r
-  root-passes {a} {x} {r} n e = go (ℕ-discrete (startOf s p) a)
-    where
-      go : Dec (startOf s p ≡ a) → Tests s p a x r
-      go (yes q) =
-          tests-bad n 2 (λ _. lt-leb (a + widthOf s + reserve (eOf s) (rootOf s p - x)) (lOf s)
-          (omega (arith, q, leb-false (startOf s p + widthOf s) (lOf s) (sym (rt .ok-is) ∙ e))))
-      go (no q) = tests-bad n 0 (λ _. ne-eqb (startOf s p) a q)
+-- page p's root t was read
+pub record Own (s : List ℕ) (h : Head) (p : ℕ) (t : Root) : Type 0 where
+  pub opened : Opened s h
+  pub root : RootAt s p t
+  pub ok : t .ok ≡ true
 
-  module _ (okt : t .ok ≡ true) where
-    own : t .value ≡ rootOf s p
-    own = rt .value-is okt
+module _ {s : List ℕ} {h : Head} {p : ℕ} {t : Root} (g : Own s h p t) where
+  abbrev f : Plain s h
+  f = plain s h (g .opened)
 
-    pub own-small : t .value < 4294967296
-    own-small = omega (arith, own, root-small s p (plain s h o .narrow))
+  own : t .value ≡ rootOf s p
+  own = g .root .value-is (g .ok)
 
-    pub elsewhere : {a x : ℕ} {r : Tested} {w : ℕ} → r .ok ≡ false → w ≡ digits (h .total) → (t .end ≡ a + w → ⊥) → Tests s p a x r
-    elsewhere {a} n e f = tests-bad n 0 (λ _. ne-eqb (startOf s p) a (λ q. f (omega (arith, q, e, plain s h o .width, rt .end-is okt))))
+  pub own-small : t .value < 4294967296
+  own-small = omega (arith, own, root-small s p (f .narrow))
 
-    pub falls : {a x : ℕ} {r : Tested} → r .ok ≡ false → t .value < x → Tests s p a x r
-    falls {a} {x} n l = tests-bad n 1 (λ _. lt-leb x (rootOf s p) (omega (arith, own)))
+  pub own-within : t .end ≤ h .bits
+  own-within = omega (arith, g .root .end-le (g .ok), g .opened .head .bits-is)
 
-    module _ (a x : ℕ) {w v : ℕ} (ew : w ≡ digits (h .total)) (et : t .end ≡ a + w) (ev : v ≡ reserve (h .e) (t .value - x)) where
-      end-is : t .end ≡ a + widthOf s
-      end-is = omega (arith, et, ew, plain s h o .width)
+  pub elsewhere : {a x : ℕ} {r : Tested} {w : ℕ} → r .ok ≡ false → w ≡ digits (h .total) → (t .end ≡ a + w → ⊥) → Tests s p a x r
+  elsewhere {a} n e k = tests-bad n 0 (λ _. ne-eqb (startOf s p) a (λ q. k (omega (arith, q, e, f .width, g .root .end-is (g .ok)))))
 
-      start-is : startOf s p ≡ a
-      start-is = omega (arith, end-is, rt .end-is okt)
+  pub falls : {a x : ℕ} {r : Tested} → r .ok ≡ false → t .value < x → Tests s p a x r
+  falls {a} {x} n l = tests-bad n 1 (λ _. lt-leb x (rootOf s p) (omega (arith, own)))
 
-      reserve-is : v ≡ reserve (eOf s) (rootOf s p - x)
-      reserve-is = ev ∙ ap₂ (λ (z y : ℕ). reserve z (y - x)) (o .head .e-is) own
+-- it stands where it is to, behind bit a; its tree has v bits, the root before it being x
+pub record Standing (s : List ℕ) (h : Head) (p : ℕ) (t : Root) (a x v : ℕ) : Type 0 where
+  pub own-root : Own s h p t
+  pub end-at : t .end ≡ a + digits (h .total)
+  pub tree-bits : v ≡ reserve (h .e) (t .value - x)
 
-      pub tree-over : {r : Tested} → r .ok ≡ false → h .bits < t .end + v → Tests s p a x r
-      tree-over n l =
-          tests-bad n 2 (λ _. lt-leb (a + widthOf s + reserve (eOf s) (rootOf s p - x)) (lOf s) (omega (arith, end-is, reserve-is, o .head .bits-is)))
+module _ {s : List ℕ} {h : Head} {p : ℕ} {t : Root} {a x v : ℕ} (g : Standing s h p t a x v) where
+  abbrev o : Opened s h
+  o = g .own-root .opened
 
-      module _ {c : ℕ} (ec : c ≡ 8 * (16 + 4 * pages (h .e) (h .hours))) where
-        at-is : c + t .end ≡ codeAt s + a + widthOf s
-        at-is = omega (arith, ec, plain s h o .code-is, end-is)
+  value-is : t .value ≡ rootOf s p
+  value-is = own (g .own-root)
 
-        exact-is : exact (h .e) (t .value - x) (bits s) (c + t .end) ≡ exact (eOf s) (rootOf s p - x) (bits s) (codeAt s + a + widthOf s)
-        exact-is = λ i. exact (o .head .e-is i) (own i - x) (bits s) (at-is i)
+  end-is : t .end ≡ a + widthOf s
+  end-is = omega (arith, g .end-at, plain s h o .width)
 
-        pub tree-lies : t .end + v ≤ h .bits → Lies s (c + t .end) (h .e) (t .value - x)
-        tree-lies l =
-            let f = plain s h o in
-            record {
-              height = f .e-high;
-              total = omega (arith, own-small);
-              long = omega (arith, f .long);
-              inside = omega (arith, ev, ec, f .code-is, f .code-at, f .long);
-              small = omega (arith, ev, ec, f .code-is, f .code-at, f .few, o .head .bits-small);
-            }
+  start-is : startOf s p ≡ a
+  start-is = omega (arith, end-is, g .own-root .root .end-is (g .own-root .ok))
 
-        pub inexact : {r : Tested} → r .ok ≡ false → exact (h .e) (t .value - x) (bits s) (c + t .end) ≡ false → Tests s p a x r
-        inexact n e = tests-bad n 3 (λ _. sym exact-is ∙ e)
+  reserve-is : v ≡ reserve (eOf s) (rootOf s p - x)
+  reserve-is = g .tree-bits ∙ ap₂ (λ (z y : ℕ). reserve z (y - x)) (o .head .e-is) value-is
 
-        pub page-passes : x ≤ t .value → t .end + v ≤ h .bits → exact (h .e) (t .value - x) (bits s) (c + t .end) ≡ true
-            → Tests s p a x (record { ok = true; end = t .end + v; root = t .value })
-        page-passes l m e =
-            let q : t .end + v ≡ a + widthOf s + reserve (eOf s) (rootOf s p - x) = omega (arith, end-is, reserve-is) in
-            record {
-              stops = λ n. absurd (never (sym n));
-              goes-on =
-                  λ _ k. pages-yes s k p a x start-is (omega (arith, own)) (omega (arith, q, o .head .bits-is)) (sym exact-is ∙ e)
-                  ∙ sym (ap₂ (pagesFrom s k (suc p)) q own);
-              end-le = λ _. omega (arith, o .head .bits-is);
-            }
+  pub end-small : t .end + v ≤ 4294976255
+  end-small =
+      let most = reserve-most (h .e) (t .value - x) (plain s h o .e-high) (omega (arith, own-small (g .own-root))) in
+      omega (arith, own-within (g .own-root), o .head .bits-small, g .tree-bits)
+
+  pub tree-over : {r : Tested} → r .ok ≡ false → h .bits < t .end + v → Tests s p a x r
+  tree-over n l =
+      tests-bad n 2 (λ _. lt-leb (a + widthOf s + reserve (eOf s) (rootOf s p - x)) (lOf s) (omega (arith, end-is, reserve-is, o .head .bits-is)))
+
+  module _ {c : ℕ} (ec : c ≡ 8 * (16 + 4 * pages (h .e) (h .hours))) where
+    at-is : c + t .end ≡ codeAt s + a + widthOf s
+    at-is = omega (arith, ec, plain s h o .code-is, end-is)
+
+    exact-is : exact (h .e) (t .value - x) (bits s) (c + t .end) ≡ exact (eOf s) (rootOf s p - x) (bits s) (codeAt s + a + widthOf s)
+    exact-is = λ i. exact (o .head .e-is i) (value-is i - x) (bits s) (at-is i)
+
+    pub tree-lies : t .end + v ≤ h .bits → Lies s (c + t .end) (h .e) (t .value - x)
+    tree-lies l =
+        let f = plain s h o in
+        let ev = g .tree-bits in
+        record {
+          height = f .e-high;
+          total = omega (arith, own-small (g .own-root));
+          long = omega (arith, f .long);
+          inside = omega (arith, ev, ec, f .code-is, f .code-at, f .long);
+          small = omega (arith, ev, ec, f .code-is, f .code-at, f .few, o .head .bits-small);
+        }
+
+    pub inexact : {r : Tested} → r .ok ≡ false → exact (h .e) (t .value - x) (bits s) (c + t .end) ≡ false → Tests s p a x r
+    inexact n e = tests-bad n 3 (λ _. sym exact-is ∙ e)
+
+    pub page-passes : x ≤ t .value → t .end + v ≤ h .bits → exact (h .e) (t .value - x) (bits s) (c + t .end) ≡ true
+        → Tests s p a x (record { ok = true; end = t .end + v; root = t .value })
+    page-passes l m e =
+        let q : t .end + v ≡ a + widthOf s + reserve (eOf s) (rootOf s p - x) = omega (arith, end-is, reserve-is) in
+        record {
+          stops = λ n. absurd (never (sym n));
+          goes-on =
+              λ _ k. pages-yes s k p a x start-is (omega (arith, value-is)) (omega (arith, q, o .head .bits-is)) (sym exact-is ∙ e)
+              ∙ sym (ap₂ (pagesFrom s k (suc p)) q value-is);
+          end-le = λ _. omega (arith, o .head .bits-is);
+        }
 
 -- ---- the pages in turn
 module _ {s : List ℕ} {p a x : ℕ} {r : Tested} (t : Tests s p a x r) (n : ℕ) (l : p < n) where
@@ -232,14 +249,14 @@ pub check-five : (s : List ℕ) → headed s ≡ false → fails 5 ≡ check s
 unfolding check pick
 check-five s e = rw e
 
-module _ (s : List ℕ) (h : Head) (o : Opened s h) (bytes : (i : ℕ) → getD s i 0 < 256) where
+module _ {s : List ℕ} {h : Head} (o : Opened s h) (bytes : (i : ℕ) → getD s i 0 < 256) where
   accepts : every (three s) ≡ accepted s
   unfolding checked
   accepts = sym (ap (λ (z : Bool). z && every (three s)) (o .passed)) ∙ checked-is s bytes
 
   pub check-six : (i : ℕ) → getD (three s) i true ≡ false → fails 6 ≡ check s
   unfolding check pick
-  check-six i e = sym (rw (o .passed, sym accepts ∙ sym (every-no (three s) i e)))
+  check-six i e = sym (rw (o .passed, sym accepts ∙ every-no (three s) i e))
 
   pub check-holds : pagesFrom s (pagesOf s) 0 0 0 ≡ true → says (readingAt s (nOf s)) (sOf s) ≡ true
       → clear (bits s) (codeAt s + lOf s) (8 * bytesFor (lOf s) - lOf s) ≡ true → holds (h .hours) (h .total) ≡ check s

@@ -1,16 +1,16 @@
 -- The header's fields and tests, over plain numbers. Assumes nothing.
 use mathlib.Core.Path.{_≡_, refl, sym, ap, ap₂, _∙_}
-use mathlib.Core.Bool.{Bool, true, false, _&&_}
-use mathlib.Core.List.{List, [], _∷_}
+use mathlib.Core.Bool.{Bool, true, false, not}
+use mathlib.Core.List.{List}
 use Prim.Native.Nat.{ℕ, zero, suc, _+_, _-_, _*_, _/_, _^_, _≤_, _<_}
 use native.Mathlib.Nat.{mul-le-mul-right}
 use native.Mathlib.Omega.{arith}
-use lib.ListN.{length, getD}
+use lib.ListN.{length, getD, take}
 use lib.Pow.{pow-pos}
 use lib.Dec.{eqb}
-use borrow.Author.Tests.{le-leb, eq-eqb, leb-true, eqb-true}
+use borrow.Author.Tests.{le-leb, eq-eqb, leb-true, eqb-true, not-false}
 use Rattle.lists.specs.Lists.{every}
-use Rattle.lists.proofs.Tests.{each}
+use Rattle.lists.proofs.Tests.{each, every-last, every-no, every-of}
 use Rattle.reserve.specs.Reserve.{digits}
 use Rattle.reserve.proofs.Exact.{digits-le}
 use Rattle.image.specs.Check.{headTests, headed}
@@ -37,17 +37,12 @@ unfolding size bytesFor
 size-of-is e n l p h = rw h
 
 -- ---- the tests
--- one test that fails is enough
-pub every-no : (bs : List Bool) (k : ℕ) → getD bs k true ≡ false → false ≡ every bs
-unfolding every
-every-no [] k e = sym e
-every-no (b ∷ bs) zero e = sym (rw e)
-every-no (true ∷ bs) (suc k) e = every-no bs k e
-every-no (false ∷ bs) (suc k) e = refl
+pub never : false ≡ true → ⊥
+never e = let z : _≡_ {A = ℕ} 0 1 = cc in omega arith
 
 pub headed-no : (s : List ℕ) (k : ℕ) → getD (headTests s) k true ≡ false → false ≡ headed s
 unfolding headed
-headed-no s k e = every-no (headTests s) k e
+headed-no s k e = sym (every-no (headTests s) k e)
 
 -- if all but the last hold, the last one says
 pub headed-last : (s : List ℕ) (h : Head) (n : ℕ) → 16 ≤ length s → HeadOf s h → getD s 0 0 ≡ 1 → 2 ≤ h .e → h .e ≤ 8 → getD s 2 0 ≡ 0
@@ -58,21 +53,20 @@ headed-last s h n a q b c d e f g z =
     let c′ : 2 ≤ eOf s = omega (arith, q .e-is) in
     let d′ : eOf s ≤ 8 = omega (arith, q .e-is) in
     let g′ : nOf s ≤ 65536 = omega (arith, q .hours-is) in
-    rw (
+    ap (eqb (length s)) n′
+    ∙ sym (every-last (take 7 (headTests s)) _ (every-of (take 7 (headTests s)) (
       le-leb 16 (length s) a,
-      eq-eqb (getD s 0 0) 1 b,
-      le-leb 2 (eOf s) c′,
-      le-leb (eOf s) 8 d′,
-      eq-eqb (getD s 2 0) 0 e,
-      eq-eqb (getD s 3 0) 0 f,
-      le-leb (nOf s) 65536 g′,
-      n′,
-    )
-    (last (eqb (length s) (size (eOf s) (nOf s) (lOf s))))
-  where
-    last : (x : Bool) → x ≡ (x && true)
-    last true = refl
-    last false = refl
+      (
+        eq-eqb (getD s 0 0) 1 b,
+        (
+          le-leb 2 (eOf s) c′,
+          (
+            le-leb (eOf s) 8 d′,
+            (eq-eqb (getD s 2 0) 0 e, (eq-eqb (getD s 3 0) 0 f, (le-leb (nOf s) 65536 g′, tt))),
+          ),
+        ),
+      ),
+    )))
 
 -- ---- past refusal 5: all that the code needs to know of the numbers
 pub record Plain (s : List ℕ) (h : Head) : Type 0 where
@@ -89,6 +83,10 @@ pub record Plain (s : List ℕ) (h : Head) : Type 0 where
 pub headed-long : (s : List ℕ) → headed s ≡ true → 16 ≤ length s
 unfolding headed
 headed-long s e = leb-true 16 (length s) (each _ e .0)
+
+-- as the code comes there, by its test b
+pub opened : {s : List ℕ} {h : Head} (b : Bool) → b ≡ headed s → not b ≡ false → HeadOf s h → Opened s h
+opened b e n f = record { head = f; passed = sym e ∙ not-false b n }
 
 pub plain : (s : List ℕ) (h : Head) → Opened s h → Plain s h
 unfolding headed pagesOf size bytesFor widthOf codeAt

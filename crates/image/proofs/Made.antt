@@ -1,33 +1,33 @@
--- What length and write make. Assumes nothing.
-use mathlib.Core.Path.{_≡_, refl, sym, ap, _∙_}
+-- What length and write make of a list, within the limits and not. Assumes nothing.
+use mathlib.Core.Path.{_≡_, refl, sym}
 use mathlib.Core.Bool.{Bool, true, false, _&&_}
 use mathlib.Core.List.{List, _++_}
 use Prim.Native.Nat.{ℕ, _≤_}
 use native.Mathlib.Omega.{arith}
-use lib.ListN.{length, take, drop, length-append, length-drop}
-use lib.Seq.{take-at, drop-at}
+use lib.ListN.{length, drop}
 use lib.Dec.{leb}
 use borrow.Author.Tests.{le-leb, leb-true}
 use Rattle.lists.specs.Lists.{pick, sum}
-use Rattle.lists.proofs.Tests.{left, right}
-use Rattle.reserve.proofs.Line.{A}
 use Rattle.image.specs.Calls.{Wrote, lengthCall, put, putAfter, unwritten, writeCall}
-use Rattle.image.specs.Image.{Limits, code, image, size}
+use Rattle.image.specs.Image.{Limits, image}
 use Rattle.image.specs.Reply.{Reply, given, refused}
-use Rattle.image.proofs.Back.{length-image}
+use Rattle.lists.proofs.Tests.{left, right}
 
--- a list within the limits has a length, which N, e and L give; no other has one
 pub length-within : (e : ℕ) (xs : List ℕ) → Limits e xs → lengthCall e xs ≡ given (length (image e xs))
 unfolding lengthCall pick
 length-within e xs m = rw (le-leb 2 e (m .e-low), le-leb e 8 (m .e-high), le-leb (length xs) 65536 (m .hours), le-leb (sum xs) 4294967295 (m .total))
 
-pub length-is : (e : ℕ) (xs : List ℕ) → Limits e xs → lengthCall e xs ≡ given (size e (length xs) (length (code e xs)))
-length-is e xs m = length-within e xs m ∙ ap given (length-image e xs)
+pub write-put : (e : ℕ) (xs out : List ℕ) → Limits e xs → length (image e xs) ≤ length out
+    → writeCall e xs out ≡ record { reply = given (length (image e xs)); bytes = image e xs ++ drop (length (image e xs)) out }
+unfolding writeCall putAfter put pick
+write-put e xs out m l = rw (length-within e xs m, le-leb (length (image e xs)) (length out) l)
 
+-- ---- no other list has a length
 never : (k n : ℕ) → refused k ≡ given n → ⊥
 never k n e = let z : _≡_ {A = ℕ} 0 1 = cc in omega arith
 
-limits-of : (e : ℕ) (xs : List ℕ) (n y : ℕ) (a b c : Bool) → (leb 2 e && leb e 8) ≡ a → leb (length xs) 65536 ≡ b → leb (sum xs) 4294967295 ≡ c
+limits-of : (e : ℕ) (xs : List ℕ) (n y : ℕ) (a b c : Bool) → (leb 2 e && leb e 8) ≡ a → leb (length xs) 65536 ≡ b
+    → leb (sum xs) 4294967295 ≡ c
     → pick a (pick b (pick c (given y) (refused 3)) (refused 2)) (refused 1) ≡ given n → Limits e xs
 unfolding pick
 limits-of e xs n y true true true i j k z = record {
@@ -44,30 +44,7 @@ pub length-only : (e : ℕ) (xs : List ℕ) (n : ℕ) → lengthCall e xs ≡ gi
 unfolding lengthCall
 length-only e xs n q = limits-of e xs n (length (image e xs)) (leb 2 e && leb e 8) (leb (length xs) 65536) (leb (sum xs) 4294967295) refl refl refl q
 
--- ---- write
--- into a buffer that is long enough: the answer is the image's length, the image stands first, the bytes beyond it are as they were
-pub record Written (e : ℕ) (xs out : List ℕ) : Type 0 where
-  pub reply-is : writeCall e xs out .reply ≡ given (length (image e xs))
-  pub image-first : take (length (image e xs)) (writeCall e xs out .bytes) ≡ image e xs
-  pub rest-same : drop (length (image e xs)) (writeCall e xs out .bytes) ≡ drop (length (image e xs)) out
-  pub as-long : length (writeCall e xs out .bytes) ≡ length out
-
-pub write-put : (e : ℕ) (xs out : List ℕ) → Limits e xs → length (image e xs) ≤ length out
-    → writeCall e xs out ≡ record { reply = given (length (image e xs)); bytes = image e xs ++ drop (length (image e xs)) out }
-unfolding writeCall putAfter put pick
-write-put e xs out m l = rw (length-within e xs m, le-leb (length (image e xs)) (length out) l)
-
-pub write-is : (e : ℕ) (xs out : List ℕ) → Limits e xs → length (image e xs) ≤ length out → Written e xs out
-write-is e xs out m l =
-    let I : List ℕ = image e xs in
-    let w = write-put e xs out m l in
-    record {
-      reply-is = ap (λ (r : Wrote). r .reply) w;
-      image-first = ap (λ (r : Wrote). take (length I) (r .bytes)) w ∙ take-at I (drop (length I) out) (length I) refl;
-      rest-same = ap (λ (r : Wrote). drop (length I) (r .bytes)) w ∙ drop-at I (drop (length I) out) (length I) refl;
-      as-long = ap (λ (r : Wrote). length (r .bytes)) w ∙ omega (arith, length-append I (drop (length I) out), length-drop (length I) out);
-    }
-
+-- ---- refused
 -- 'A refusal is its number alone; no byte changes.'
 pub put-refused : (out i : List ℕ) (k : ℕ) → put out i .reply ≡ refused k → put out i .bytes ≡ out
 unfolding put unwritten pick

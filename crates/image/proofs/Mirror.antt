@@ -1,28 +1,30 @@
 -- The code's test of an image is `accepted`. Assumes nothing.
 use mathlib.Core.Path.{_≡_, refl, sym, ap, ap₂, _∙_}
-use mathlib.Core.Bool.{Bool, true, false}
-use mathlib.Core.List.{List, [], _∷_, _++_, append-nil}
+use mathlib.Core.Bool.{true}
+use mathlib.Core.List.{List, [], _∷_, _++_}
 use Prim.Native.Nat.{ℕ, zero, suc, _+_, _-_, _*_, _^_, _≤_, _<_}
 use native.Mathlib.Nat.{mul-zero}
 use native.Mathlib.Omega.{arith}
 use lib.ListN.{length, getD, take, drop, replicate, length-drop, length-replicate, take-append-drop}
-use lib.Seq.{drop-at, drop-drop, take-add, take-all, getD-take, getD-drop, take-length}
+use lib.Seq.{drop-at, drop-drop, take-add, take-all, getD-drop, take-length}
 use borrow.Author.Tests.{le-leb, leb-true, eq-eqb, eqb-true}
 use Rattle.lists.specs.Lists.{concat, fill, part, same, sum, tabulate}
-use Rattle.lists.proofs.Tables.{concat-at, concat-suc, tabulate-ext}
-use Rattle.lists.proofs.Tests.{both, each, every-of, left, right, same-is, same-refl}
+use Rattle.lists.proofs.Pages.{concat-get}
+use Rattle.lists.proofs.Parts.{length-part, part-in, part-more}
+use Rattle.lists.proofs.Sums.{zero-at}
+use Rattle.lists.proofs.Tables.{chop, concat-suc, tabulate-ext, tabulate-getD}
+use Rattle.lists.proofs.Tests.{agree, both, each, every-of, left, right, same-is, same-refl}
 use Rattle.bits.specs.Bits.{bits, field, value}
 use Rattle.bits.specs.Numbers.{little, numberAt}
 use Rattle.bits.specs.Pack.{pack}
-use Rattle.bits.proofs.Little.{Bytes, little-number, number-small}
-use Rattle.bits.proofs.Packing.{bits-bytes}
+use Rattle.bits.proofs.Little.{bytes-part, number-small, stored}
+use Rattle.bits.proofs.Packing.{bits-bytes, pack-bits}
 use Rattle.reserve.specs.Reserve.{digits, reserve}
-use Rattle.reserve.proofs.Line.{A}
 use Rattle.tree.specs.Code.{window}
 use Rattle.tree.specs.Exact.{clear, exact}
 use Rattle.tree.specs.Read.{place}
 use Rattle.tree.specs.Tree.{tree}
-use Rattle.tree.proofs.Exacts.{field-part, length-part, part-more, tree-exact}
+use Rattle.tree.proofs.Exacts.{field-part, tree-exact}
 use Rattle.image.specs.Check.{accepted, headed}
 use Rattle.image.specs.Image.{Limits, bytesFor, code, header, image, packed, page, pageCode, pages, root, size, start, table}
 use Rattle.image.specs.Query.{fits, readingAt}
@@ -30,21 +32,16 @@ use Rattle.image.specs.Read.{beforeOf, codeAt, eOf, lOf, listOf, nOf, pa
 use Rattle.image.specs.Reply.{Reply, given}
 use Rattle.image.specs.Test.{checked, pagesFrom, says}
 use Rattle.image.proofs.Back.{before-is, bits-is, e-is, headed-image, l-is, n-is, pages-is, root-is, s-is, start-is, sum-is, tree-is, width-is}
-use Rattle.image.proofs.Packed.{drop-bits, pack-bits, tail}
+use Rattle.image.proofs.Packed.{drop-bits, tail}
 use Rattle.image.proofs.PageLaws.{page-sum, pages-cover, start-next, start-within}
 use Rattle.image.proofs.Passing.{All, Passes, all-from, bits-long, body-long, code-fits, coded, first-sums, from-all, last, page-counts}
 use Rattle.image.proofs.Passing.{page-long, page-total, passes, placeOf, reading-all, size-is, top}
-use Rattle.image.proofs.Theorems.{accepted-only, length-list, reading-at}
+use Rattle.image.proofs.Accepted.{accepted-only, length-list}
+use Rattle.image.proofs.Looks.{reading-at}
 
 -- ---- lists and bytes
 total-take : (e : ℕ) (xs : List ℕ) → sum (take (2 ^ e * pages e (length xs)) xs) ≡ sum xs
 total-take e xs = ap sum (take-all (2 ^ e * pages e (length xs)) xs (pages-cover e (length xs)))
-
-zero-at : (xs : List ℕ) (i : ℕ) → sum xs ≡ 0 → getD xs i 0 ≡ 0
-unfolding sum
-zero-at [] i q = refl
-zero-at (x ∷ xs) zero q = omega arith
-zero-at (x ∷ xs) (suc i) q = zero-at xs i (omega arith)
 
 -- a list with the same sum as its front has nothing but zeros behind it
 pub zero-tail : (n : ℕ) (xs : List ℕ) (i : ℕ) → sum (take n xs) ≡ sum xs → getD (take n xs) i 0 ≡ getD xs i 0
@@ -54,43 +51,16 @@ zero-tail (suc n) [] i q = refl
 zero-tail (suc n) (x ∷ xs) zero q = refl
 zero-tail (suc n) (x ∷ xs) (suc i) q = zero-tail n xs i (omega arith)
 
-pub tabulate-getD : (xs : List ℕ) → tabulate (length xs) (λ j. getD xs j 0) ≡ xs
-unfolding tabulate
-tabulate-getD [] = refl
-tabulate-getD (x ∷ xs) = ap (λ (z : List ℕ). x ∷ z) (tabulate-getD xs)
-
-concat-parts : (k : ℕ) (z : List ℕ) → concat (tabulate k (λ p. part z (4 * p) 4)) ≡ take (4 * k) z
-unfolding tabulate concat
-concat-parts zero z = refl
-concat-parts (suc k) z =
-    concat-suc k (λ p. part z (4 * p) 4) ∙ ap (λ (y : List ℕ). y ++ part z (4 * k) 4) (concat-parts k z)
-    ∙ sym (ap (λ (n : ℕ). take n z) {x = 4 * suc k} {y = 4 * k + 4} (omega arith) ∙ take-add (4 * k) 4 z)
-
--- each byte of a list below 256, of any part of it
-bytes-of : (z : List ℕ) → ((i : ℕ) → getD z i 0 < 256) → Bytes z
-bytes-of [] h = tt
-bytes-of (x ∷ z) h = (h 0, bytes-of z (λ i. h (suc i)))
-
-bytes-take : (n : ℕ) (z : List ℕ) → Bytes z → Bytes (take n z)
-bytes-take zero z h = tt
-bytes-take (suc n) [] h = tt
-bytes-take (suc n) (x ∷ z) h = (h .0, bytes-take n z (h .1))
-
-bytes-part : (s : List ℕ) → ((i : ℕ) → getD s i 0 < 256) → (a n : ℕ) → Bytes (part s a n)
-bytes-part s h a n = bytes-take n (drop a s) (bytes-of (drop a s) (λ i. rw (getD-drop a s i 0) (h (a + i))))
-
--- four bytes are those of their number, which is small
-four-back : (s : List ℕ) → ((i : ℕ) → getD s i 0 < 256) → (a : ℕ) → a + 4 ≤ length s → little 4 (numberAt s a 4) ≡ part s a 4
-four-back s h a l = ap (λ (k : ℕ). little k (numberAt s a 4)) (sym (length-part s a 4 l)) ∙ little-number (part s a 4) (bytes-part s h a 4)
-
-word-most : (s : List ℕ) → ((i : ℕ) → getD s i 0 < 256) → (a : ℕ) → a + 4 ≤ length s → numberAt s a 4 ≤ 4294967295
+-- four bytes are a small number
+pub word-most : (s : List ℕ) → ((i : ℕ) → getD s i 0 < 256) → (a : ℕ) → a + 4 ≤ length s → numberAt s a 4 ≤ 4294967295
 word-most s h a l = omega (arith, number-small (part s a 4) (bytes-part s h a 4), ap (λ (k : ℕ). 256 ^ k) (length-part s a 4 l))
 
 head-parts : (s : List ℕ) → take 4 s ++ (part s 4 4 ++ (part s 8 4 ++ part s 12 4)) ≡ take 16 s
 head-parts s =
     sym (take-add 4 12 s ∙ ap (λ (z : List ℕ). take 4 s ++ z) (part-more s 4 4 8 ∙ ap (λ (z : List ℕ). part s 4 4 ++ z) (part-more s 8 4 4)))
 
-front-is : (s : List ℕ) (x : ℕ) → 16 ≤ length s → getD s 0 0 ≡ 1 → getD s 1 0 ≡ x → getD s 2 0 ≡ 0 → getD s 3 0 ≡ 0 → 1 ∷ x ∷ 0 ∷ 0 ∷ [] ≡ take 4 s
+front-is : (s : List ℕ) (x : ℕ) → 16 ≤ length s → getD s 0 0 ≡ 1 → getD s 1 0 ≡ x → getD s 2 0 ≡ 0 → getD s 3 0 ≡ 0
+    → 1 ∷ x ∷ 0 ∷ 0 ∷ [] ≡ take 4 s
 front-is (x₀ ∷ x₁ ∷ x₂ ∷ x₃ ∷ s) x l a b c d = sym (λ i. a i ∷ b i ∷ c i ∷ d i ∷ [])
 front-is [] x l a b c d = absurd (omega arith)
 front-is (x₀ ∷ []) x l a b c d = absurd (omega arith)
@@ -213,10 +183,8 @@ module _ (s : List ℕ) (bytes : (i : ℕ) → getD s i 0 < 256) (h : checked s 
   unfolding page window
   page-same p l =
       tabulate-ext (2 ^ e) (λ j. getD xs (2 ^ e * p + j) 0) (λ j. getD (pageOf s p) j 0)
-      (λ j q. same-hours (2 ^ e * p + j) ∙ sym (getD-drop (2 ^ e * p) Y j 0) ∙ sym (getD-take (2 ^ e) (drop (2 ^ e * p) Y) j 0 q)
-      ∙ ap (λ (z : List ℕ). getD z j 0) (ap (λ (z : List ℕ). part z (2 ^ e * p) (2 ^ e)) (sym (append-nil Y))
-      ∙ concat-at K (2 ^ e) (pageOf s) [] p (λ j _. page-long s header-ok all j) l))
-      ∙ ap (λ (z : ℕ). tabulate z (λ j. getD (pageOf s p) j 0)) (sym (page-long s header-ok all p)) ∙ tabulate-getD (pageOf s p)
+      (λ j q. same-hours (2 ^ e * p + j) ∙ concat-get K (2 ^ e) (pageOf s) p j (λ j _. page-long s header-ok all j) l q)
+      ∙ ap (λ (z : ℕ). tabulate z (λ j. getD (pageOf s p) j 0)) (sym (page-long s header-ok all p)) ∙ tabulate-getD (pageOf s p) 0
 
   page-sums : (p : ℕ) → p < K → sum (page e xs p) ≡ sumOf s p
   page-sums p l = ap sum (page-same p l) ∙ page-total s header-ok all p l
@@ -289,21 +257,23 @@ module _ (s : List ℕ) (bytes : (i : ℕ) → getD s i 0 < 256) (h : checked s 
   table-same : table e xs ≡ part s 16 (4 * K)
   unfolding table size pagesOf startOf
   table-same =
+      let T : List ℕ = part s 16 (4 * K) in
       ap (λ (z : ℕ). concat (tabulate z (λ p. little 4 (start e xs p)))) pages-same
-      ∙ ap concat (tabulate-ext K (λ p. little 4 (start e xs p)) (λ p. part (drop 16 s) (4 * p) 4)
-      (λ p l. ap (little 4) (start-same p l) ∙ four-back s bytes (16 + 4 * p) (omega (arith, size-is s header-ok all))
-      ∙ ap (take 4) (sym (drop-drop (4 * p) 16 s))))
-      ∙ concat-parts K (drop 16 s)
+      ∙ ap concat (tabulate-ext K (λ p. little 4 (start e xs p)) (λ p. part T (4 * p) 4)
+      (λ p l. ap (little 4) (start-same p l) ∙ sym (stored s bytes (16 + 4 * p) 4 (omega (arith, size-is s header-ok all)))
+      ∙ part-in s T 16 (4 * K) (4 * p) 4 refl (omega arith)))
+      ∙ chop 4 K T (length-part s 16 (4 * K) (omega (arith, size-is s header-ok all)))
 
   header-same : header e (length xs) (sum xs) (length (code e xs)) ≡ take 16 s
   unfolding header nOf sOf lOf eOf headed size
   header-same =
       let w = each _ header-ok in
+      let word : (a : ℕ) → a + 4 ≤ length s → little 4 (numberAt s a 4) ≡ part s a 4 = λ a l. sym (stored s bytes a 4 l) in
       let long′ : 16 ≤ length s = leb-true 16 (length s) (w .0) in
       ap₂ (λ (n t : ℕ). header e n t (length (code e xs))) hours-long total ∙ ap (header e (nOf s) (sOf s)) code-long
       ∙ ap₂ _++_ (front-is s e long′ (eqb-true (getD s 0 0) 1 (w .1 .0)) refl (eqb-true (getD s 2 0) 0 (w .1 .1 .1 .1 .0))
       (eqb-true (getD s 3 0) 0 (w .1 .1 .1 .1 .1 .0)))
-      (ap₂ _++_ (four-back s bytes 4 (omega arith)) (ap₂ _++_ (four-back s bytes 8 (omega arith)) (four-back s bytes 12 (omega arith))))
+      (ap₂ _++_ (word 4 (omega arith)) (ap₂ _++_ (word 8 (omega arith)) (word 12 (omega arith))))
       ∙ head-parts s
 
   long : 16 ≤ length s
@@ -323,11 +293,6 @@ module _ (s : List ℕ) (bytes : (i : ℕ) → getD s i 0 < 256) (h : checked s 
   checked-accepted =
       both header-ok (both (le-leb (sum xs) 4294967295 (omega (arith, total, word-most s bytes 8 (omega (arith, long)))))
       (ap (same s) image-same ∙ same-refl s))
-
-agree : (a b : Bool) → (a ≡ true → b ≡ true) → (b ≡ true → a ≡ true) → a ≡ b
-agree true b f g = sym (f refl)
-agree false true f g = g refl
-agree false false f g = refl
 
 -- the code's test is the statement
 pub checked-is : (s : List ℕ) → ((i : ℕ) → getD s i 0 < 256) → checked s ≡ accepted s

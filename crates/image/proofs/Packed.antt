@@ -4,12 +4,12 @@ use mathlib.Core.List.{List, [], _∷_, _++_}
 use Prim.Native.Nat.{ℕ, zero, suc, _+_, _-_, _*_, _/_, _<_}
 use native.Mathlib.Omega.{arith}
 use lib.ListN.{length, getD, drop, replicate}
-use lib.Seq.{take-at, drop-at, drop-drop, drop-nil}
+use lib.Seq.{drop-at, drop-drop, drop-nil}
 use Rattle.lists.specs.Lists.{fill}
-use Rattle.bits.specs.Bits.{bits, field, value}
+use Rattle.bits.specs.Bits.{bits, field}
 use Rattle.bits.specs.Pack.{pack}
 use Rattle.bits.proofs.Laws.{length-bits, length-field}
-use Rattle.bits.proofs.Packing.{Bits, bits-fill, bits-pack, length-fill, length-pack, value-field}
+use Rattle.bits.proofs.Packing.{Bits, bits-fill, bits-pack, length-fill, length-pack, pack-bits}
 use Rattle.image.specs.Image.{bytesFor, packed}
 
 -- the zeros behind bits in their last byte
@@ -25,14 +25,6 @@ bits-packed bs h =
 pub length-packed : (bs : List ℕ) → length (packed bs) ≡ bytesFor (length bs)
 unfolding packed
 length-packed bs = length-pack (bytesFor (length bs)) (fill (8 * bytesFor (length bs)) bs)
-
--- bytes are the bytes of their bits
-pub pack-bits : (z : List ℕ) → ((i : ℕ) → getD z i 0 < 256) → pack (length z) (bits z) ≡ z
-unfolding pack bits
-pack-bits [] h = refl
-pack-bits (b ∷ z) h =
-    ap₂ _∷_ (ap value (take-at (field 8 b) (bits z) 8 (length-field 8 b)) ∙ value-field 8 b (h 0))
-    (ap (pack (length z)) (drop-at (field 8 b) (bits z) 8 (length-field 8 b)) ∙ pack-bits z (λ i. h (suc i)))
 
 -- bytes with the same bits are the same
 pub bits-one : (s t : List ℕ) → ((i : ℕ) → getD s i 0 < 256) → ((i : ℕ) → getD t i 0 < 256) → bits s ≡ bits t → s ≡ t

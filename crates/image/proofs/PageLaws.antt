@@ -1,15 +1,15 @@
 -- Pages of a list. Assumes nothing.
-use mathlib.Core.Path.{_≡_, refl, sym, ap, ap₂, _∙_}
-use mathlib.Core.List.{List, [], _∷_, append-nil}
+use mathlib.Core.Path.{_≡_, sym, ap, ap₂, _∙_}
+use mathlib.Core.List.{List}
 use Prim.Native.Nat.{ℕ, zero, suc, _+_, _-_, _*_, _/_, _%_, _^_, _≤_, _<_}
 use native.Mathlib.Nat.{mul-le-mul-left, mul-le-mul-right, mul-suc, div-mul-le-self, lt-div-mul-add, lt-of-mul-lt-mul-left, div-add-mod', mod-lt}
 use native.Mathlib.Omega.{arith}
-use lib.ListN.{length, getD, take, drop, length-append, length-take}
-use lib.Seq.{ext-getD, getD-take, getD-drop, take-add, take-all}
+use lib.ListN.{length, getD, take, length-append}
 use lib.Pow.{pow-pos, pow-mono}
-use Rattle.lists.specs.Lists.{concat, part, sum, tabulate}
-use Rattle.lists.proofs.Sums.{sum-append, sum-tabulate, sum-take-le}
-use Rattle.lists.proofs.Tables.{concat-at, concat-each, concat-le, concat-most, concat-suc, getD-tabulate, length-tabulate, tabulate-ext}
+use Rattle.lists.specs.Lists.{concat, sum, tabulate}
+use Rattle.lists.proofs.Pages.{paged-length, reading-behind, reading-within}
+use Rattle.lists.proofs.Sums.{sum-take-le}
+use Rattle.lists.proofs.Tables.{concat-le, concat-most, concat-suc, getD-tabulate}
 use Rattle.bits.specs.Bits.{field}
 use Rattle.bits.proofs.Laws.{length-field}
 use Rattle.reserve.specs.Reserve.{digits, reserve}
@@ -56,70 +56,38 @@ pages-few e n a b = few-alg n (2 ^ e) (pages e n) (pow-mono {i = 2} {j = e} a) b
 -- ---- a page's counts
 pub length-page : (e : ℕ) (xs : List ℕ) (p : ℕ) → length (page e xs p) ≡ 2 ^ e
 unfolding page window
-length-page e xs p = length-tabulate (2 ^ e) (λ j. getD xs (2 ^ e * p + j) 0)
+length-page e xs p = paged-length (2 ^ e) xs p
 
 pub getD-page : (e : ℕ) (xs : List ℕ) (p j : ℕ) → j < 2 ^ e → getD (page e xs p) j 0 ≡ getD xs (2 ^ e * p + j) 0
 unfolding page window
 getD-page e xs p j l = getD-tabulate (2 ^ e) (λ j. getD xs (2 ^ e * p + j) 0) j 0 l
 
-take-tabulate : (n k : ℕ) (f : ℕ → ℕ) → k ≤ n → take k (tabulate n f) ≡ tabulate k f
-unfolding tabulate
-take-tabulate n zero f l = refl
-take-tabulate zero (suc k) f l = absurd (omega arith)
-take-tabulate (suc n) (suc k) f l = ap (λ (z : List ℕ). f 0 ∷ z) (take-tabulate n k (λ j. f (suc j)) (omega arith))
-
 -- a reading within a page
-pub sum-page : (e : ℕ) (xs : List ℕ) (p j : ℕ) → j ≤ 2 ^ e → sum (take (2 ^ e * p) xs) + sum (take j (page e xs p)) ≡ sum (take (2 ^ e * p + j) xs)
+pub sum-page : (e : ℕ) (xs : List ℕ) (p j : ℕ) → j ≤ 2 ^ e
+    → sum (take (2 ^ e * p) xs) + sum (take j (page e xs p)) ≡ sum (take (2 ^ e * p + j) xs)
 unfolding page window
-sum-page e xs p j l =
-    let a : ℕ = 2 ^ e * p in
-    ap (λ (z : ℕ). sum (take a xs) + z)
-    (ap sum (take-tabulate (2 ^ e) j (λ j. getD xs (2 ^ e * p + j) 0) l
-    ∙ tabulate-ext j (λ j. getD xs (2 ^ e * p + j) 0) (λ j. getD (drop a xs) j 0) (λ k _. sym (getD-drop a xs k 0))) ∙ sum-tabulate j (drop a xs))
-    ∙ sym (sum-append (take a xs) (take j (drop a xs))) ∙ ap sum (sym (take-add a j xs))
+sum-page e xs p j l = sym (reading-within (2 ^ e) xs p j l)
 
 pub page-sum : (e : ℕ) (xs : List ℕ) (p : ℕ) → sum (take (2 ^ e * p) xs) + sum (page e xs p) ≡ root e xs p
-unfolding root
-page-sum e xs p =
-    ap (λ (z : List ℕ). sum (take (2 ^ e * p) xs) + sum z) (sym (take-all (2 ^ e) (page e xs p) (omega (arith, length-page e xs p))))
-    ∙ sum-page e xs p (2 ^ e) (omega arith) ∙ ap (λ (z : ℕ). sum (take z xs)) {x = 2 ^ e * p + 2 ^ e} {y = 2 ^ e * suc p}
-    (omega (arith, mul-suc (2 ^ e) p))
-
--- the pages, one after another, begin with the list
-concat-hour : (e k : ℕ) (xs : List ℕ) (i : ℕ) → i < 2 ^ e * k → getD (concat (tabulate k (page e xs))) i 0 ≡ getD xs i 0
-concat-hour e k xs i l =
-    let q : ℕ = i / 2 ^ e in
-    let r : ℕ = i % 2 ^ e in
-    let F : List ℕ = concat (tabulate k (page e xs)) in
-    let lq : q < k = lt-of-mul-lt-mul-left (2 ^ e) (omega (arith, hour-split e i)) in
-    let w : part F (2 ^ e * q) (2 ^ e) ≡ page e xs q =
-    ap (λ (z : List ℕ). part z (2 ^ e * q) (2 ^ e)) (sym (append-nil F)) ∙ concat-at k (2 ^ e) (page e xs) [] q (λ j _. length-page e xs j) lq in
-    ap (λ (z : ℕ). getD F z 0) (sym (hour-split e i)) ∙ sym (getD-drop (2 ^ e * q) F r 0)
-    ∙ sym (getD-take (2 ^ e) (drop (2 ^ e * q) F) r 0 (hour-low e i))
-    ∙ ap (λ (z : List ℕ). getD z r 0) w ∙ getD-page e xs q r (hour-low e i) ∙ ap (λ (z : ℕ). getD xs z 0) (hour-split e i)
-
-pub list-back : (e k : ℕ) (xs : List ℕ) → length xs ≤ 2 ^ e * k → take (length xs) (concat (tabulate k (page e xs))) ≡ xs
-list-back e k xs h =
-    let F : List ℕ = concat (tabulate k (page e xs)) in
-    let lF : length F ≡ 2 ^ e * k = concat-each k (2 ^ e) (page e xs) (λ j _. length-page e xs j) in
-    let lt : length (take (length xs) F) ≡ length xs = omega (arith, length-take (length xs) F) in
-    ext-getD 0 (take (length xs) F) xs lt (λ i l. getD-take (length xs) F i 0 (omega arith) ∙ concat-hour e k xs i (omega arith))
+unfolding root page window
+page-sum e xs p = sym (reading-behind (2 ^ e) xs p)
 
 -- ---- how many bits
 pub width-most : (s : ℕ) → s ≤ 4294967295 → digits s ≤ 32
 width-most s l = digits-le s 32 (omega arith)
 
-pub reserve-most : (h s : ℕ) → h ≤ 8 → s ≤ 4294967295 → reserve h s ≤ 8192
+-- a tree of a sum of 40 bits
+pub reserve-most : (h s : ℕ) → h ≤ 8 → s < 1099511627776 → reserve h s ≤ 8960
 unfolding A B
-reserve-most zero s k l = omega (arith, bound 0 s 32)
-reserve-most (suc zero) s k l = omega (arith, bound 1 s 32)
-reserve-most (suc (suc zero)) s k l = omega (arith, bound 2 s 32)
-reserve-most (suc (suc (suc zero))) s k l = omega (arith, bound 3 s 32)
-reserve-most (suc (suc (suc (suc zero)))) s k l = omega (arith, bound 4 s 32)
-reserve-most (suc (suc (suc (suc (suc zero))))) s k l = omega (arith, bound 5 s 32)
-reserve-most (suc (suc (suc (suc (suc (suc zero)))))) s k l = omega (arith, bound 6 s 32)
-reserve-most (suc (suc (suc (suc (suc (suc (suc zero))))))) s k l = omega (arith, bound 7 s 32)
-reserve-most (suc (suc (suc (suc (suc (suc (suc (suc zero)))))))) s k l = omega (arith, bound 8 s 32)
+reserve-most zero s k l = omega (arith, bound 0 s 40)
+reserve-most (suc zero) s k l = omega (arith, bound 1 s 40)
+reserve-most (suc (suc zero)) s k l = omega (arith, bound 2 s 40)
+reserve-most (suc (suc (suc zero))) s k l = omega (arith, bound 3 s 40)
+reserve-most (suc (suc (suc (suc zero)))) s k l = omega (arith, bound 4 s 40)
+reserve-most (suc (suc (suc (suc (suc zero))))) s k l = omega (arith, bound 5 s 40)
+reserve-most (suc (suc (suc (suc (suc (suc zero)))))) s k l = omega (arith, bound 6 s 40)
+reserve-most (suc (suc (suc (suc (suc (suc (suc zero))))))) s k l = omega (arith, bound 7 s 40)
+reserve-most (suc (suc (suc (suc (suc (suc (suc (suc zero)))))))) s k l = omega (arith, bound 8 s 40)
 reserve-most (suc (suc (suc (suc (suc (suc (suc (suc (suc h))))))))) s k l = absurd (omega arith)
 
 pub length-pageCode : (e : ℕ) (xs : List ℕ) (p : ℕ) → length (pageCode e xs p) ≡ digits (sum xs) + reserve e (sum (page e xs p))
@@ -139,8 +107,8 @@ pub code-most : (e : ℕ) (xs : List ℕ) → Limits e xs → length (code e xs)
 unfolding code
 code-most e xs m =
     let k : ℕ = pages e (length xs) in
-    let w : length (concat (tabulate k (pageCode e xs))) ≤ 8224 * k =
-    concat-most k 8224 (pageCode e xs) (λ j _. omega (
+    let w : length (concat (tabulate k (pageCode e xs))) ≤ 8992 * k =
+    concat-most k 8992 (pageCode e xs) (λ j _. omega (
       arith,
       length-pageCode e xs j,
       width-most (sum xs) (m .total),

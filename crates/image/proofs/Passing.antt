@@ -21,7 +21,8 @@ use Rattle.reserve.specs.Reserve.{reserve}
 use Rattle.tree.specs.Exact.{exact}
 use Rattle.tree.specs.Read.{counts, found, later, walk}
 use Rattle.tree.specs.Tree.{tree}
-use Rattle.tree.proofs.Exacts.{Coded, exact-coded}
+use Rattle.tree.specs.Exact.{Coded}
+use Rattle.tree.proofs.Exacts.{exact-coded}
 use Rattle.tree.proofs.Shape.{length-counts}
 use Rattle.tree.proofs.WalkLaws.{shift, walk-tree}
 use Rattle.image.specs.Check.{headed}
@@ -102,7 +103,8 @@ all-from s (suc k) p w =
     )
 
 -- ---- the first pages of many
-concat-front : (k p n : ℕ) (f : ℕ → List ℕ) → p ≤ k → ((j : ℕ) → length (f j) ≡ n) → take (n * p) (concat (tabulate k f)) ≡ concat (tabulate p f)
+concat-front : (k p n : ℕ) (f : ℕ → List ℕ) → p ≤ k → ((j : ℕ) → length (f j) ≡ n)
+    → take (n * p) (concat (tabulate k f)) ≡ concat (tabulate p f)
 unfolding tabulate concat
 concat-front k zero n f l h = ap (λ (z : ℕ). take z (concat (tabulate k f))) (mul-zero n)
 concat-front zero (suc p) n f l h = absurd (omega arith)

@@ -97,9 +97,9 @@ pub count-five : (s : List ℕ) (i : ℕ) → headed s ≡ false → refused 5 �
 unfolding count pick
 count-five s i e = rw e
 
-pub count-seven : (s : List ℕ) (i : ℕ) → headed s ≡ true → nOf s ≤ i → refused 7 ≡ count s i
+pub count-seven : {s : List ℕ} {h : Head} → Opened s h → (i : ℕ) → h .hours ≤ i → refused 7 ≡ count s i
 unfolding count pick
-count-seven s i e l = rw (e, le-leb (nOf s) i l)
+count-seven {s} o i l = rw (o .passed, le-leb (nOf s) i (omega (arith, o .head .hours-is)))
 
 answer-count : (t : ℕ) (f : Found) → t < 2 ^ 63 → Most t f → answered (walked 0 0 f) ≡ theCount f
 unfolding answered walked theCount pick
@@ -112,9 +112,9 @@ answer-reading t damaged l m = refl
 answer-reading t (found x c) l m =
     rw (ne-eqb (0 + 1 * x + c) (2 ^ 63) (λ e. omega (arith, e))) (ap given {x = 0 + 1 * x + c} {y = x + c} (omega arith))
 
-pub count-found : (s : List ℕ) (h : Head) → Opened s h → (i r : ℕ) → i < h .hours → r ≡ walked 0 0 (look s i) → answered r ≡ count s i
+pub count-found : {s : List ℕ} {h : Head} → Opened s h → (i : ℕ) {r : ℕ} → i < h .hours → r ≡ walked 0 0 (look s i) → answered r ≡ count s i
 unfolding count pick
-count-found s h o i r l e =
+count-found {s} o i l e =
     ap answered e ∙ answer-count (sOf s) (look s i) (omega (arith, o .head .total-is, o .head .total-small)) (look-most s i)
     ∙ sym (rw (o .passed, lt-leb (nOf s) i (omega (arith, o .head .hours-is))))
 
@@ -122,21 +122,21 @@ pub reading-five : (s : List ℕ) (i : ℕ) → headed s ≡ false → refused 5
 unfolding reading pick
 reading-five s i e = rw e
 
-pub reading-seven : (s : List ℕ) (i : ℕ) → headed s ≡ true → nOf s < i → refused 7 ≡ reading s i
+pub reading-seven : {s : List ℕ} {h : Head} → Opened s h → (i : ℕ) → h .hours < i → refused 7 ≡ reading s i
 unfolding reading pick
-reading-seven s i e l = rw (e, lt-ltb (nOf s) i l)
+reading-seven {s} o i l = rw (o .passed, lt-ltb (nOf s) i (omega (arith, o .head .hours-is)))
 
-pub reading-none : (s : List ℕ) (i : ℕ) → headed s ≡ true → i ≡ 0 → given 0 ≡ reading s i
+pub reading-none : {s : List ℕ} {h : Head} → Opened s h → (i : ℕ) → i ≡ 0 → given 0 ≡ reading s i
 unfolding reading pick readingAt
-reading-none s zero e z = rw (e, le-ltb (nOf s) 0 (omega arith))
-reading-none s (suc i) e z = absurd (omega (arith, z))
+reading-none {s} o zero z = rw (o .passed, le-ltb (nOf s) 0 (omega arith))
+reading-none o (suc i) z = absurd (omega (arith, z))
 
 -- 'Reading at i > 0 walks to hour i-1'
-pub reading-found : (s : List ℕ) (h : Head) → Opened s h → (i r : ℕ) → 1 ≤ i → i ≤ h .hours → r ≡ walked 0 1 (look s (i - 1))
+pub reading-found : {s : List ℕ} {h : Head} → Opened s h → (i : ℕ) {r : ℕ} → 1 ≤ i → i ≤ h .hours → r ≡ walked 0 1 (look s (i - 1))
     → answered r ≡ reading s i
 unfolding reading pick readingAt
-reading-found s h o zero r k l e = absurd (omega arith)
-reading-found s h o (suc i) r k l e =
+reading-found o zero k l e = absurd (omega arith)
+reading-found {s} o (suc i) k l e =
     let z : suc i - 1 ≡ i = omega arith in
     ap answered (e ∙ ap (λ (j : ℕ). walked 0 1 (look s j)) z)
     ∙ answer-reading (sOf s) (look s i) (omega (arith, o .head .total-is, o .head .total-small)) (look-most s i)

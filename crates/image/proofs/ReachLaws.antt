@@ -1,9 +1,9 @@
 -- Reach, step by step, over plain numbers. Assumes nothing.
 use mathlib.Core.Path.{_≡_, refl, sym, ap, ap₂, _∙_, subst}
-use mathlib.Core.Bool.{Bool, true, false, _&&_}
+use mathlib.Core.Bool.{Bool, true, false}
 use mathlib.Core.List.{List}
-use Prim.Native.Nat.{ℕ, zero, suc, _+_, _-_, _*_, _^_, _≤_, _<_}
-use native.Mathlib.Nat.{mul-le-mul-left, mul-le-mul-right}
+use Prim.Native.Nat.{ℕ, suc, _+_, _-_, _*_, _^_, _≤_, _<_}
+use native.Mathlib.Nat.{mul-le-mul-right}
 use native.Mathlib.Numerals.{add-one}
 use native.Mathlib.Omega.{arith}
 use native.Mathlib.Decide.{decLe}
@@ -17,18 +17,18 @@ use Rattle.tree.specs.Read.{Place, nowhere, place, seek}
 use Rattle.image.specs.Check.{accepted, headed}
 use Rattle.image.specs.Code.{Opened, PageAt, RootAt}
 use Rattle.image.specs.Query.{pageFine, pageTests}
-use Rattle.image.specs.Reach.{If, Reach}
-use Rattle.image.specs.Read.{beforeOf, eOf, listOf, nOf, pagesOf, rootOf, sOf, sumOf, treeAt, widthOf}
-use Rattle.image.specs.Reply.{Reply, given, refused}
+use Rattle.image.specs.Reach.{Reach}
+use Rattle.image.specs.Read.{beforeOf, eOf, listOf, nOf, pagesOf, rootOf, sOf, sumOf, treeAt}
+use Rattle.image.specs.Reply.{given, refused}
 use Rattle.image.specs.Searching.{Between, Hit, Narrowable, Narrowed}
 use Rattle.image.specs.Steps.{placed, reachFrom}
 use Rattle.image.specs.Test.{checked}
-use Rattle.image.proofs.CheckLaws.{never, root-small}
-use Rattle.image.proofs.HeadLaws.{plain}
+use Rattle.image.proofs.CheckLaws.{root-small}
+use Rattle.image.proofs.HeadLaws.{never, plain}
 use Rattle.image.proofs.Mirror.{checked-image}
 use Rattle.image.proofs.Passing.{All, from-all, page-fine, placeOf, top}
 use Rattle.image.proofs.Reaching.{reach-found, reach-six}
-use Rattle.image.proofs.Theorems.{accepted-only}
+use Rattle.image.proofs.Accepted.{accepted-only}
 use Rattle.image.specs.declared.head.Head.{Head}
 use Rattle.image.specs.declared.page.Page.{Page}
 use Rattle.image.specs.declared.page.Root.{Root}
@@ -154,20 +154,35 @@ spot f n i (place j) l e = (
 pub found-six : (s : List ℕ) (h : Head) → Opened s h → (q : ℕ) → q ≤ h .total → accepted s ≡ false → Reach s q (refused 6)
 found-six s h o q w a = reach-six s q (o .passed) (omega (arith, o .head .total-is)) a
 
-module _ {s : List ℕ} {q : ℕ} {at : Span} (b : Between s q at) where
-  pub page-in : at .lo < pagesOf s
-  page-in = omega (arith, b .inside, b .ordered)
+pub page-in : {s : List ℕ} {q : ℕ} {at : Span} → Between s q at → at .lo < pagesOf s
+page-in b = omega (arith, b .inside, b .ordered)
 
-  pub above : {r : Page} → PageAt s (at .lo) r → r .ok ≡ true → r .before < q
-  above pr ok = omega (arith, pr .before-is ok, b .before)
+-- the page that was found, and what was read of it
+pub record AtPage (s : List ℕ) (h : Head) (q : ℕ) (at : Span) (r : Page) : Type 0 where
+  pub opened : Opened s h
+  pub within : q ≤ h .total
+  pub between : Between s q at
+  pub one : at .hi ≤ at .lo
+  pub page : PageAt s (at .lo) r
 
-module _ {s : List ℕ} {h : Head} {q : ℕ} {at : Span} {r : Page} (o : Opened s h) (w : q ≤ h .total) (b : Between s q at) (one : at .hi ≤ at .lo)
-    (pr : PageAt s (at .lo) r) where
+module _ {s : List ℕ} {h : Head} {q : ℕ} {at : Span} {r : Page} (g : AtPage s h q at r) where
+  abbrev o : Opened s h
+  o = g .opened
+
+  abbrev b : Between s q at
+  b = g .between
+
+  abbrev pr : PageAt s (at .lo) r
+  pr = g .page
+
   abbrev p : ℕ
   p = at .lo
 
+  six : accepted s ≡ false → Reach s q (refused 6)
+  six = found-six s h o q (g .within)
+
   pub page-six : r .ok ≡ false → Reach s q (refused 6)
-  page-six e = found-six s h o q w (not-accepted s (λ a. never (sym e ∙ pr .ok-is ∙ fine s a p (page-in b))))
+  page-six e = six (not-accepted s (λ a. never (sym e ∙ pr .ok-is ∙ fine s a p (page-in b))))
 
   module _ (ok : r .ok ≡ true) where
     root-is : r .before + r .sum ≡ rootOf s p
@@ -180,18 +195,28 @@ module _ {s : List ℕ} {h : Head} {q : ℕ} {at : Span} {r : Page} (o : Opened 
           pr .sum-is ok,
         )
 
+    pub above : r .before < q
+    above = omega (arith, pr .before-is ok, b .before)
+
     -- only the image's last page can have a root below q, and then it is not S
     pub last-six : r .before + r .sum < q → Reach s q (refused 6)
     unfolding beforeOf
-    last-six k = found-six s h o q w (not-accepted s (λ a. go a (decLe (p + 2) (pagesOf s))))
+    last-six k = six (not-accepted s (λ a. go a (decLe (p + 2) (pagesOf s))))
       where
         same : at .hi ≡ p
-        same = omega (arith, b .ordered)
+        same = omega (arith, b .ordered, g .one)
 
         go : accepted s ≡ true → Dec (p + 2 ≤ pagesOf s) → ⊥
         go a (yes i) = omega (arith, root-is, b .reaches (omega (arith, i, same)), ap (rootOf s) same)
         go a (no i) =
-            omega (arith, root-is, o .head .total-is, last-root s a, ap (beforeOf s) {x = pagesOf s} {y = suc p} (omega (arith, page-in b)))
+            omega (
+              arith,
+              root-is,
+              o .head .total-is,
+              last-root s a,
+              g .within,
+              ap (beforeOf s) {x = pagesOf s} {y = suc p} (omega (arith, page-in b)),
+            )
 
     module _ {i m : ℕ} (em : m ≡ 2 ^ (h .e)) (ei : i ≡ spotted (m * p) (seek (h .e) (r .sum) (bits s) (r .at) (q - r .before)))
         (k : q ≤ r .before + r .sum) where
@@ -209,20 +234,21 @@ module _ {s : List ℕ} {h : Head} {q : ℕ} {at : Span} {r : Page} (o : Opened 
       from-is = rw (sym (pr .ok-is) ∙ ok)
 
       answers : Reach s q (reachFrom s q p)
-      answers = reach-found s q p (o .passed) (omega (arith, o .head .total-is)) (page-in b) (b .before) (omega (arith, root-is))
+      answers = reach-found s q p (o .passed) (omega (arith, o .head .total-is, g .within)) (page-in b) (b .before) (omega (arith, root-is))
 
       spots : (i ≤ nOf s → placed (2 ^ eOf s * p) (nOf s) P ≡ given i) × (nOf s < i → placed (2 ^ eOf s * p) (nOf s) P ≡ refused 6)
       spots = spot (2 ^ eOf s * p) (nOf s) i P (omega (arith, o .head .hours-is, o .head .hours-small)) found-is
 
-      pub index-six : h .hours < i → Reach s q (refused 6)
-      index-six n = subst (Reach s q) (from-is ∙ spots .1 (omega (arith, o .head .hours-is))) answers
-
-      pub index : i ≤ h .hours → Reach s q (given i)
-      index n = subst (Reach s q) (from-is ∙ spots .0 (omega (arith, o .head .hours-is))) answers
+      -- the index that the search tells, or damage if it is past the hours
+      pub index : (i ≤ h .hours → Reach s q (given i)) × (h .hours < i → Reach s q (refused 6))
+      index = (
+        (λ (n : i ≤ h .hours). subst (Reach s q) (from-is ∙ spots .0 (omega (arith, o .head .hours-is))) answers),
+        (λ (n : h .hours < i). subst (Reach s q) (from-is ∙ spots .1 (omega (arith, o .head .hours-is))) answers),
+      )
 
 -- ---- the refusals before
 pub reach-five : (s : List ℕ) (q : ℕ) → headed s ≡ false → Reach s q (refused 5)
 reach-five s q e = rw e refl
 
-pub reach-eight : (s : List ℕ) (q : ℕ) → headed s ≡ true → sOf s < q → Reach s q (refused 8)
-reach-eight s q e l = rw (e, lt-ltb (sOf s) q l) refl
+pub reach-eight : {s : List ℕ} {h : Head} → Opened s h → (q : ℕ) → h .total < q → Reach s q (refused 8)
+reach-eight {s} o q l = rw (o .passed, lt-ltb (sOf s) q (omega (arith, o .head .total-is))) refl

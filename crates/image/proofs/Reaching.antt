@@ -1,17 +1,15 @@
 -- Reach: what the code answers from the page that it found is an answer that reach may give, on any bytes. Assumes nothing.
 use mathlib.Core.Path.{_≡_, refl, sym, ap, ap₂, _∙_, subst}
 use mathlib.Core.Bool.{Bool, true, false}
-use mathlib.Core.List.{List, [], _∷_}
-use Prim.Native.Nat.{ℕ, zero, suc, _+_, _-_, _*_, _^_, _≤_, _<_}
+use mathlib.Core.List.{List}
+use Prim.Native.Nat.{ℕ, _+_, _-_, _*_, _^_, _≤_, _<_}
 use native.Mathlib.Omega.{arith}
-use lib.ListN.{length, getD, take, drop, length-take, take-append-drop}
-use lib.Seq.{getD-drop}
+use lib.ListN.{length, take}
 use lib.Dec.{leb, ltb}
 use borrow.Author.Tests.{le-leb, leb-true, le-ltb}
-use Rattle.lists.specs.Lists.{pick, reached, sum, tabulate}
-use Rattle.lists.proofs.Reach.{reached-le, reached-right, reached-suc, reached-zero}
-use Rattle.lists.proofs.Sums.{sum-tabulate}
-use Rattle.lists.proofs.Tables.{tabulate-ext}
+use Rattle.lists.specs.Lists.{pick, reached, sum}
+use Rattle.lists.proofs.Pages.{reached-within}
+use Rattle.lists.proofs.Reach.{reached-le, reached-zero}
 use Rattle.bits.specs.Bits.{bits}
 use Rattle.tree.specs.Code.{window}
 use Rattle.tree.specs.Read.{Place, nowhere, place, seek}
@@ -24,34 +22,18 @@ use Rattle.image.specs.Read.{beforeOf, eOf, listOf, nOf, pagesOf, rootOf
 use Rattle.image.specs.Reply.{Reply, given, refused}
 use Rattle.image.specs.Steps.{placed, reachFrom}
 use Rattle.image.proofs.Back.{before-is, e-is, n-is, root-is, sum-is, tree-is}
-use Rattle.image.proofs.PageLaws.{length-page, page-sum, pages-tight}
-use Rattle.image.proofs.Theorems.{accepted-only, length-list, page-fine}
-
--- trailing zeros do not matter: of a list's first n elements, zeros behind it
-reached-tabulate : (n q : ℕ) (xs : List ℕ) → q ≤ sum (take n xs) → reached q (tabulate n (λ j. getD xs j 0)) ≡ reached q xs
-unfolding tabulate sum
-reached-tabulate zero q xs l =
-    ap (λ (z : ℕ). reached z []) {x = q} {y = 0} (omega arith) ∙ reached-zero [] ∙ sym (reached-zero xs)
-    ∙ ap (λ (z : ℕ). reached z xs) {x = 0} {y = q} (omega arith)
-reached-tabulate (suc n) zero xs l = reached-zero (tabulate (suc n) (λ j. getD xs j 0)) ∙ sym (reached-zero xs)
-reached-tabulate (suc n) (suc q) [] l = absurd (omega arith)
-reached-tabulate (suc n) (suc q) (x ∷ xs) l =
-    reached-suc (suc q) x (tabulate n (λ j. getD xs j 0)) (omega arith) ∙ ap suc (reached-tabulate n (suc q - x) xs (omega arith))
-    ∙ sym (reached-suc (suc q) x xs (omega arith))
+use Rattle.image.proofs.PageLaws.{length-page, page-sum}
+use Rattle.image.proofs.Accepted.{accepted-only, length-list}
+use Rattle.image.proofs.Looks.{page-fine}
 
 -- the least index, from the page whose root is q or more
-pub reached-page : (e : ℕ) (xs : List ℕ) (p q : ℕ) → p < pages e (length xs) → sum (take (2 ^ e * p) xs) < q → q ≤ root e xs p
+pub reached-page : (e : ℕ) (xs : List ℕ) (p q : ℕ) → sum (take (2 ^ e * p) xs) < q → q ≤ root e xs p
     → 2 ^ e * p + reached (q - sum (take (2 ^ e * p) xs)) (page e xs p) ≡ reached q xs
-unfolding page window root
-reached-page e xs p q k l r =
-    let a : ℕ = 2 ^ e * p in
-    let f : q - sum (take a xs) ≤ sum (page e xs p) = omega (arith, page-sum e xs p) in
-    let la : length (take a xs) ≡ a = omega (arith, length-take a xs, pages-tight e (length xs) p k) in
-    let g : page e xs p ≡ tabulate (2 ^ e) (λ j. getD (drop a xs) j 0) =
-    tabulate-ext (2 ^ e) (λ j. getD xs (a + j) 0) (λ j. getD (drop a xs) j 0) (λ j _. sym (getD-drop a xs j 0)) in
-    ap₂ _+_ (sym la) (ap (reached (q - sum (take a xs))) g ∙ reached-tabulate (2 ^ e) (q - sum (take a xs)) (drop a xs)
-    (omega (arith, ap sum g, sum-tabulate (2 ^ e) (drop a xs))))
-    ∙ sym (reached-right q (take a xs) (drop a xs) l) ∙ ap (reached q) (take-append-drop a xs)
+unfolding page window
+reached-page e xs p q l r =
+    let y : ℕ = sum (take (2 ^ e * p) xs) in
+    sym (ap (λ (z : ℕ). reached z xs) {x = q} {y = y + (q - y)} (omega arith)
+    ∙ reached-within (2 ^ e) xs p (q - y) (omega arith) (omega (arith, page-sum e xs p)))
 
 module _ (e : ℕ) (xs : List ℕ) (m : Limits e xs) where
   abbrev S : List ℕ
@@ -68,7 +50,7 @@ module _ (e : ℕ) (xs : List ℕ) (m : Limits e xs) where
       ∙ ap (λ (z : ℕ). seek e (sum (page e xs p)) (bits S) (treeAt S p) (q - z)) (before-is e xs m p k)
       ∙ seek-tree e (page e xs p) (bits S) (treeAt S p) (q - y) (length-page e xs p) (omega arith) (omega (arith, page-sum e xs p))
       (tree-is e xs m p k) in
-      let i : 2 ^ e * p + reached (q - y) (page e xs p) ≡ reached q xs = reached-page e xs p q k lo hi in
+      let i : 2 ^ e * p + reached (q - y) (page e xs p) ≡ reached q xs = reached-page e xs p q lo hi in
       rw (page-fine e xs m p k)
       (ap (placed (2 ^ eOf S * p) (nOf S)) d ∙ last (2 ^ eOf S * p) (nOf S) (reached (q - y) (page e xs p)) (reached q xs)
       (ap (λ (z : ℕ). 2 ^ z * p + reached (q - y) (page e xs p)) (e-is e xs) ∙ i) (omega (arith, n-is e xs m, reached-le q xs)))

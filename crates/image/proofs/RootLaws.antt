@@ -8,7 +8,7 @@ use lib.ListN.{getD, take, drop}
 use lib.Dec.{leb}
 use borrow.Author.Tests.{le-leb, lt-leb}
 use Rattle.lists.specs.Lists.{part}
-use Rattle.lists.proofs.Tests.{every-of}
+use Rattle.lists.proofs.Tests.{every-no, every-of}
 use Rattle.bits.specs.Bits.{bits, value}
 use Rattle.bits.specs.Numbers.{numberAt}
 use Rattle.reserve.specs.Reserve.{digits, reserve}
@@ -16,13 +16,11 @@ use Rattle.image.specs.Code.{BeforeAt, Opened, PageAt, RootAt}
 use Rattle.image.specs.Image.{pages}
 use Rattle.image.specs.Query.{beforeFits, fits, pageFine, pageTests}
 use Rattle.image.specs.Read.{beforeOf, codeAt, eOf, lOf, rootOf, sOf, startOf, sumOf, treeAt, widthOf}
-use Rattle.image.proofs.HeadLaws.{every-no, plain}
+use Rattle.image.proofs.HeadLaws.{never, plain}
+use Rattle.image.proofs.PageLaws.{reserve-most}
 use Rattle.image.specs.declared.head.Head.{Head}
 use Rattle.image.specs.declared.page.Root.{Root}
 use Rattle.image.specs.declared.page.Page.{Page}
-
-no : false ≡ true → ⊥
-no e = let z : _≡_ {A = ℕ} 0 1 = cc in omega arith
 
 -- ---- a root
 module _ (s : List ℕ) (h : Head) (o : Opened s h) (p a w : ℕ) (ea : a ≡ numberAt s (16 + 4 * p) 4) (ew : w ≡ digits (h .total)) where
@@ -33,9 +31,9 @@ module _ (s : List ℕ) (h : Head) (o : Opened s h) (p a w : ℕ) (ea : a ≡ nu
   unfolding startOf
   root-bad l = record {
     ok-is = sym (lt-leb (startOf s p + widthOf s) (lOf s) (omega (arith, width, o .head .bits-is)));
-    value-is = λ n. absurd (no n);
-    end-is = λ n. absurd (no n);
-    end-le = λ n. absurd (no n);
+    value-is = λ n. absurd (never n);
+    end-is = λ n. absurd (never n);
+    end-le = λ n. absurd (never n);
   }
 
   pub root-good : (v : ℕ) → a + w ≤ h .bits → v ≡ value (take w (drop (8 * (16 + 4 * pages (h .e) (h .hours)) + a) (bits s)))
@@ -63,29 +61,44 @@ before-next s (suc p) r l m =
     record { ok-is = n .ok-is; value-is = n .value-is }
 
 -- ---- a page's tests
-pub page-bad : (s : List ℕ) (p k : ℕ) (r : Page) → r .ok ≡ false → getD (pageTests s p) k true ≡ false → PageAt s p r
+pub page-bad : {s : List ℕ} {p : ℕ} {r : Page} (k : ℕ) → r .ok ≡ false → getD (pageTests s p) k true ≡ false → PageAt s p r
 unfolding pageFine
-page-bad s p k r e f = record {
-  ok-is = e ∙ every-no (pageTests s p) k f;
-  before-is = λ n. absurd (no (sym e ∙ n));
-  sum-is = λ n. absurd (no (sym e ∙ n));
-  at-is = λ n. absurd (no (sym e ∙ n));
-  total = λ n. absurd (no (sym e ∙ n));
-  lies = λ n. absurd (no (sym e ∙ n));
+page-bad {s} {p} k e f = record {
+  ok-is = e ∙ sym (every-no (pageTests s p) k f);
+  before-is = λ n. absurd (never (sym e ∙ n));
+  sum-is = λ n. absurd (never (sym e ∙ n));
+  at-is = λ n. absurd (never (sym e ∙ n));
+  total = λ n. absurd (never (sym e ∙ n));
+  lies = λ n. absurd (never (sym e ∙ n));
 }
 
 -- past the tests of both roots: the page's own, t, and the one before, x
-module _ (s : List ℕ) (h : Head) (o : Opened s h) (p : ℕ) (t x : Root) (rt : RootAt s p t) (bx : BeforeAt s p x) (okt : t .ok ≡ true)
-    (okx : x .ok ≡ true) where
+pub record Roots (s : List ℕ) (h : Head) (p : ℕ) (t x : Root) : Type 0 where
+  pub opened : Opened s h
+  pub own-at : RootAt s p t
+  pub last-at : BeforeAt s p x
+  pub own-ok : t .ok ≡ true
+  pub last-ok : x .ok ≡ true
+
+module _ {s : List ℕ} {h : Head} {p : ℕ} {t x : Root} (g : Roots s h p t x) where
+  abbrev o : Opened s h
+  o = g .opened
+
   own : t .value ≡ rootOf s p
-  own = rt .value-is okt
+  own = g .own-at .value-is (g .own-ok)
+
+  own-end : t .end ≡ startOf s p + widthOf s
+  own-end = g .own-at .end-is (g .own-ok)
 
   last : x .value ≡ beforeOf s p
-  last = bx .value-is okx
+  last = g .last-at .value-is (g .last-ok)
 
   sums : t .value - x .value ≡ sumOf s p
   unfolding sumOf
   sums = ap₂ _-_ own last
+
+  pub own-within : t .end ≤ h .bits
+  own-within = omega (arith, g .own-at .end-le (g .own-ok), o .head .bits-is)
 
   pub above-total : h .total < t .value → leb (rootOf s p) (sOf s) ≡ false
   above-total l = lt-leb (rootOf s p) (sOf s) (omega (arith, own, o .head .total-is))
@@ -96,34 +109,36 @@ module _ (s : List ℕ) (h : Head) (o : Opened s h) (p : ℕ) (t x : Root) (rt :
   reserves : (v : ℕ) → v ≡ reserve (h .e) (t .value - x .value) → v ≡ reserve (eOf s) (sumOf s p)
   reserves v e = e ∙ ap₂ reserve (o .head .e-is) sums
 
-  pub tree-passes : (v : ℕ) → v ≡ reserve (h .e) (t .value - x .value) → h .bits < t .end + v
-      → fits s (startOf s p + widthOf s) (reserve (eOf s) (sumOf s p)) ≡ false
-  tree-passes v e l =
-      lt-leb (startOf s p + widthOf s + reserve (eOf s) (sumOf s p)) (lOf s) (omega (arith, reserves v e, rt .end-is okt, o .head .bits-is))
+  pub tree-most : t .value ≤ h .total → reserve (h .e) (t .value - x .value) ≤ 8960
+  tree-most l = reserve-most (h .e) (t .value - x .value) (plain s h o .e-high) (omega (arith, o .head .total-small))
 
-  pub page-good : (v a : ℕ) → v ≡ reserve (h .e) (t .value - x .value) → a ≡ 8 * (16 + 4 * pages (h .e) (h .hours)) → t .value ≤ h .total
+  pub tree-passes : {v : ℕ} → v ≡ reserve (h .e) (t .value - x .value) → h .bits < t .end + v
+      → fits s (startOf s p + widthOf s) (reserve (eOf s) (sumOf s p)) ≡ false
+  tree-passes {v} e l =
+      lt-leb (startOf s p + widthOf s + reserve (eOf s) (sumOf s p)) (lOf s) (omega (arith, reserves v e, own-end, o .head .bits-is))
+
+  pub page-good : {v a : ℕ} → v ≡ reserve (h .e) (t .value - x .value) → a ≡ 8 * (16 + 4 * pages (h .e) (h .hours)) → t .value ≤ h .total
       → x .value ≤ t .value → t .end + v ≤ h .bits
       → PageAt s p (record { ok = true; before = x .value; sum = t .value - x .value; at = a + t .end })
   unfolding pageFine treeAt
-  page-good v a ev ea l m n =
+  page-good {v} {a} ev ea l m n =
       let f = plain s h o in
       let q = o .head in
-      let w : t .end ≡ startOf s p + widthOf s = rt .end-is okt in
-      let g : a ≡ codeAt s = ea ∙ f .code-is in
+      let b : a ≡ codeAt s = ea ∙ f .code-is in
       let r : v ≡ reserve (eOf s) (t .value - x .value) = ev ∙ ap (λ (k : ℕ). reserve k (t .value - x .value)) (q .e-is) in
       record {
         ok-is =
             sym (every-of (pageTests s p) (
-              sym (rt .ok-is) ∙ okt,
+              sym (g .own-at .ok-is) ∙ g .own-ok,
               (
-                sym (bx .ok-is) ∙ okx,
+                sym (g .last-at .ok-is) ∙ g .last-ok,
                 (
                   le-leb (rootOf s p) (sOf s) (omega (arith, own, q .total-is)),
                   (
                     le-leb (beforeOf s p) (sOf s) (omega (arith, own, last, q .total-is)),
                     (
                       le-leb (beforeOf s p) (rootOf s p) (omega (arith, own, last)),
-                      (le-leb (startOf s p + widthOf s + reserve (eOf s) (sumOf s p)) (lOf s) (omega (arith, reserves v ev, w, q .bits-is)), tt),
+                      (le-leb (startOf s p + widthOf s + reserve (eOf s) (sumOf s p)) (lOf s) (omega (arith, reserves v ev, own-end, q .bits-is)), tt),
                     ),
                   ),
                 ),
@@ -131,13 +146,13 @@ module _ (s : List ℕ) (h : Head) (o : Opened s h) (p : ℕ) (t x : Root) (rt :
             ));
         before-is = λ _. last;
         sum-is = λ _. sums;
-        at-is = λ _. omega (arith, g, w);
+        at-is = λ _. omega (arith, b, own-end);
         total = λ _. omega (arith, q .total-is);
         lies = λ _. record {
           height = omega (arith, f .e-high, q .e-is);
           total = omega (arith, q .total-small);
           long = omega (arith, f .long);
-          inside = omega (arith, r, g, f .code-at, f .long);
-          small = omega (arith, r, g, f .code-at, f .few, q .bits-small);
+          inside = omega (arith, r, b, f .code-at, f .long);
+          small = omega (arith, r, b, f .code-at, f .few, q .bits-small);
         };
       }

@@ -1,7 +1,7 @@
 -- The code's answers in document 01's numbers. Assumes nothing.
 use Rattle.image.specs.Reply.{Reply, given, refused}
-use Rattle.image.specs.declared.query.Answer.{Answer}
-use Rattle.image.specs.declared.query.Answer.the-variants.{Number, Refused}
+use Rattle.image.specs.declared.answer.Answer.{Answer}
+use Rattle.image.specs.declared.answer.Answer.the-variants.{Number, Refused}
 
 -- the number that was asked for, or 'a refusal is its number alone'
 unfoldable pub told : Answer → Reply

@@ -1,4 +1,5 @@
 -- Document 01, 'The frozen image': the writer's bytes of a list. Assumes nothing.
+use mathlib.Core.Path.{_≡_}
 use mathlib.Core.List.{List, [], _∷_, _++_}
 use Prim.Native.Nat.{ℕ, suc, _+_, _-_, _*_, _/_, _^_, _≤_}
 use lib.ListN.{length}
@@ -68,3 +69,8 @@ pub record Limits (e : ℕ) (xs : List ℕ) : Type 0 where
   pub e-high : e ≤ 8
   pub hours : length xs ≤ 65536
   pub total : sum xs ≤ 4294967295
+
+-- s is the image of the list xs, pages of 2 ^ e
+pub record IsImage (s : List ℕ) (e : ℕ) (xs : List ℕ) : Type 0 where
+  pub limits : Limits e xs
+  pub bytes : s ≡ image e xs

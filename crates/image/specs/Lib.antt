@@ -11,5 +11,4 @@ pub mod Steps
 pub mod Code
 pub mod Answers
 pub mod Checking
-pub mod Writer
 pub mod Searching

@@ -38,7 +38,7 @@ pub(crate) fn fields(s: &[u8]) -> Head
 }
 
 // How many pages of 2^e counts n counts have.
-pub(crate) fn pages_of(e: u32, n: u64) -> u64
+pub fn pages_of(e: u32, n: u64) -> u64
     requires { ⌜ (e ≤ 8) × (n < 4294967296) ⌝ }
     ensures { λ r. ⌜ (r ≡ pages e n) × (r ≤ n) ⌝ }
 {
@@ -47,7 +47,7 @@ pub(crate) fn pages_of(e: u32, n: u64) -> u64
 }
 
 // How many bytes an image of n counts with l bits of code has.
-pub(crate) fn size_of(e: u32, n: u64, l: u64) -> u64
+pub fn size_of(e: u32, n: u64, l: u64) -> u64
     requires { ⌜ (e ≤ 8) × (n ≤ 65536) × (l < 4294967296) ⌝ }
     ensures { λ r. ⌜ r ≡ size e n l ⌝ }
 {

@@ -1,4 +1,5 @@
 // Count and reading of an image: each tests only its path.
+use crate::answer::Answer;
 use crate::head::Head;
 use crate::head::fields;
 use crate::head::opens;
@@ -11,12 +12,6 @@ ghost use Rattle.tree.specs.Code.{told as walked};
 ghost use Rattle.image.specs.Query.{look as looked, count as counted, reading as read};
 ghost use Rattle.image.specs.Code.{Opened, answered};
 ghost use Rattle.image.specs.Answers.{told};
-
-// What a query answers: a number, or the number of a refusal.
-pub enum Answer {
-    Number(u64),
-    Refused(u32),
-}
 
 // The way to hour i. Answers the hour's count, and with keep = 1 the counts before it too; 2^63 for damage.
 pub(crate) fn look(s: &[u8], h: Head, i: u64, keep: u64) -> u64

@@ -1,11 +1,11 @@
 // Reach: the least index whose reading is a figure or more.
+use crate::answer::Answer;
 use crate::head::Head;
 use crate::head::fields;
 use crate::head::opens;
 use crate::head::pages_of;
 use crate::page::page_of;
 use crate::page::root_of;
-use crate::query::Answer;
 ghost use mathlib.Core.Bool.{false};
 ghost use mathlib.Core.Path.{_≡_};
 ghost use Prim.Native.Nat.{_+_, _≤_, _<_};

@@ -1,5 +1,4 @@
 -- `image::head::right` meets its contract: each test that fails is one of `headTests`. Assumes nothing.
-use Prim.Native.Nat.{ℕ, _≤_, _<_}
 use native.Mathlib.Omega.{arith}
 use borrow.Author.Needs.{needs}
 use borrow.Author.Tests.{lt-leb, ne-eqb}

@@ -3,55 +3,42 @@ use mathlib.Core.Path.{sym, _∙_}
 use native.Mathlib.Omega.{arith}
 use borrow.Author.Tests.{not-true, not-false}
 use Rattle.image.specs.Answers.{told}
-use Rattle.image.proofs.HeadLaws.{headed-long}
+use Rattle.image.specs.Code.{Opened}
+use Rattle.image.proofs.HeadLaws.{headed-long, opened}
 use Rattle.image.proofs.QueryLaws.{count-five, count-found, count-seven}
 use Rattle.image.proofs.query.count.Statement.{statement}
 use Rattle.image.proofs.query.count.Tie as tie
+
+-- past refusal 5
+past : (c : tie.After-fields) → Opened (c .before .before .before .before .args .s .now) (c .fields .result)
+past c =
+    let t = c .before .before .opens in
+    opened (t .result) (t .ensures) (c .before .if1 .left) (c .fields .ensures)
 
 opens-requires : tie.Need-opens-requires
 opens-requires c κs = tt
 
 returns : tie.Need-returns
 unfolding told
-returns c =
-    let a = c .before .before .before in
-    count-five (a .args .s .now) (a .args .i) (sym (c .before .opens .ensures) ∙ not-true _ (c .if1 .taken))
+returns c = count-five _ _ (sym (c .before .opens .ensures) ∙ not-true _ (c .if1 .taken))
 
 fields-requires : tie.Need-fields-requires
-fields-requires c κs =
-    let a = c .before .before .before in
-    headed-long (a .args .s .now) (sym (c .before .opens .ensures) ∙ not-false _ (c .if1 .left))
+fields-requires c κs = headed-long _ (sym (c .before .opens .ensures) ∙ not-false _ (c .if1 .left))
 
 returns-2 : tie.Need-returns-2
 unfolding told
-returns-2 c =
-    let e = c .before .before .before in
-    let a = e .before .before .before in
-    let s = a .args .s .now in
-    let hd = sym (e .before .opens .ensures) ∙ not-false _ (e .if1 .left) in
-    count-seven s (a .args .i) hd (omega (arith, c .before .before .fields .ensures .hours-is, c .if2 .taken))
+returns-2 c = count-seven (past (c .before .before)) _ (c .if2 .taken)
 
 look-requires : tie.Need-look-requires
-look-requires c κs =
-    let e = c .before .before .before in
-    let a = e .before .before .before in
-    let s = a .args .s .now in
-    let hd = sym (e .before .opens .ensures) ∙ not-false _ (e .if1 .left) in
-    (record { head = c .before .before .fields .ensures; passed = hd }, omega (arith, c .if2 .left), omega arith)
+look-requires c κs = (past (c .before .before), omega (arith, c .if2 .left), omega arith)
 
 answer-of-requires : tie.Need-answer-of-requires
 answer-of-requires c κs = tt
 
 returns-3 : tie.Need-returns-3
 returns-3 c =
-    let e = c .before .before .before .before .before in
-    let a = e .before .before .before in
-    let s = a .args .s .now in
-    let hd = sym (e .before .opens .ensures) ∙ not-false _ (e .if1 .left) in
-    let h = c .before .before .before .before .fields in
-    c .answer-of .ensures
-    ∙ count-found s (h .result) (record { head = h .ensures; passed = hd }) (a .args .i) _ (omega (arith, c .before .before .if2 .left))
-    (c .before .look .ensures)
+    let l = c .before .before in
+    c .answer-of .ensures ∙ count-found (past (l .before .before)) _ (l .if2 .left) (c .before .look .ensures)
 
 pub count-spec : {M : Type 1} → statement M
 count-spec =

@@ -4,62 +4,48 @@ use Prim.Native.Nat.{ℕ}
 use native.Mathlib.Omega.{arith}
 use borrow.Author.Tests.{not-true, not-false}
 use Rattle.image.specs.Answers.{told}
+use Rattle.image.specs.Code.{Opened}
 use Rattle.image.specs.Reach.{Reach}
 use Rattle.image.specs.Reply.{given}
-use Rattle.image.proofs.HeadLaws.{headed-long}
+use Rattle.image.proofs.HeadLaws.{headed-long, opened}
 use Rattle.image.proofs.ReachLaws.{reach-eight, reach-five}
 use Rattle.image.proofs.Reaching.{reach-zero}
 use Rattle.image.proofs.reach.reach.Statement.{statement}
 use Rattle.image.proofs.reach.reach.Tie as tie
+
+-- past refusal 5
+past : (c : tie.After-fields) → Opened (c .before .before .before .before .args .s .now) (c .fields .result)
+past c =
+    let t = c .before .before .opens in
+    opened (t .result) (t .ensures) (c .before .if1 .left) (c .fields .ensures)
 
 opens-requires : tie.Need-opens-requires
 opens-requires c κs = tt
 
 returns : tie.Need-returns
 unfolding told
-returns c =
-    let c1 = c .before in
-    let c3 = c1 .before .before in
-    reach-five (c3 .args .s .now) (c3 .args .p) (sym (c1 .opens .ensures) ∙ not-true (c1 .opens .result) (c .if1 .taken))
+returns c = reach-five _ _ (sym (c .before .opens .ensures) ∙ not-true _ (c .if1 .taken))
 
 fields-requires : tie.Need-fields-requires
-fields-requires c κs =
-    let c1 = c .before in
-    let c3 = c1 .before .before in
-    headed-long (c3 .args .s .now) (sym (c1 .opens .ensures) ∙ not-false (c1 .opens .result) (c .if1 .left))
+fields-requires c κs = headed-long _ (sym (c .before .opens .ensures) ∙ not-false _ (c .if1 .left))
 
 returns-2 : tie.Need-returns-2
 unfolding told
-returns-2 c =
-    let c2 = c .before .before in
-    let c3 = c2 .before in
-    let c4 = c3 .before in
-    let a = c4 .before .before in
-    let hd = sym (c4 .opens .ensures) ∙ not-false (c4 .opens .result) (c3 .if1 .left) in
-    reach-eight (a .args .s .now) (a .args .p) hd (omega (arith, c2 .fields .ensures .total-is, c .if2 .taken))
+returns-2 c = reach-eight (past (c .before .before)) _ (c .if2 .taken)
 
 returns-3 : tie.Need-returns-3
 unfolding told
 returns-3 c =
-    let c4 = c .before .before .before .before in
-    let c5 = c4 .before in
-    let a = c5 .before .before in
-    let hd = sym (c5 .opens .ensures) ∙ not-false (c5 .opens .result) (c4 .if1 .left) in
-    subst (λ (q : ℕ). Reach (a .args .s .now) q (given 0)) (sym (c .if3 .taken)) (reach-zero (a .args .s .now) hd)
+    let f = c .before .before .before in
+    let s = f .before .before .before .before .args .s .now in
+    subst (λ (q : ℕ). Reach s q (given 0)) (sym (c .if3 .taken)) (reach-zero s (past f .passed))
 
 find-requires : tie.Need-find-requires
-find-requires c κs =
-    let c1 = c .before in
-    let c3 = c1 .before .before in
-    let c4 = c3 .before in
-    let c5 = c4 .before in
-    let hd = sym (c5 .opens .ensures) ∙ not-false (c5 .opens .result) (c4 .if1 .left) in
-    (record { head = c3 .fields .ensures; passed = hd }, omega (arith, c .if3 .left), c1 .if2 .left)
+find-requires c κs = (past (c .before .before .before), omega (arith, c .if3 .left), c .before .if2 .left)
 
 reach-in-requires : tie.Need-reach-in-requires
 reach-in-requires c κs =
-    let c1 = c .before in
-    let f = find-requires (c1) κs in
+    let f = find-requires (c .before) κs in
     (f .0, f .2, c .find .ensures)
 
 returns-4 : tie.Need-returns-4

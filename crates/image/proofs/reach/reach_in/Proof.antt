@@ -1,15 +1,59 @@
 -- `image::reach::reach_in` meets its contract. Assumes nothing.
-use mathlib.Core.Path.{sym, subst}
-use Prim.Native.Nat.{ℕ}
+use mathlib.Core.Path.{_≡_, sym, subst}
+use mathlib.Core.Bool.{true}
+use Prim.Native.Nat.{ℕ, _+_, _*_, _^_, _≤_, _<_}
 use native.Mathlib.Omega.{arith}
 use borrow.Author.Tests.{not-true, not-false}
 use Rattle.tree.specs.Code.{Lies}
 use Rattle.image.specs.Answers.{told}
+use Rattle.image.specs.Reach.{Reach}
+use Rattle.image.specs.Reply.{given, refused}
 use Rattle.image.proofs.HeadLaws.{plain}
-use Rattle.image.proofs.ReachLaws.{above, before-small, found-six, index, index-six, last-six, page-in, page-six}
+use Rattle.image.proofs.ReachLaws.{AtPage, above, before-small, found-six, index, last-six, page-in, page-six}
 use Rattle.image.proofs.reach.reach_in.Statement.{statement}
 use Rattle.image.proofs.reach.reach_in.Tie as tie
 
+-- ---- where the code stands
+abbrev entry : tie.After-page-of → tie.Start
+entry c = c .before .before .before .before
+
+abbrev read : tie.Else2 → tie.After-page-of
+read c = c .before .before
+
+abbrev fine : tie.After-power → tie.Else2
+fine c = c .before .before .before .before
+
+-- the page that was found was read
+at-page : (c : tie.After-page-of) → AtPage (entry c .args .s .now) (entry c .args .h) (entry c .args .q) (entry c .args .at) (c .page-of .result)
+at-page c =
+    let a = entry c in
+    let ok = not-false (a .args .at .ok) (c .before .if1 .left) in
+    record { opened = a .pre .0; within = a .pre .1; between = a .pre .2 .between ok; one = a .pre .2 .one ok; page = c .page-of .ensures }
+
+-- and has no damage
+page-ok : (c : tie.Else2) → read c .page-of .result .ok ≡ true
+page-ok c = not-false (read c .page-of .result .ok) (c .if2 .left)
+
+-- where the page's hours start
+first-small : (c : tie.After-power)
+    → c .power .result * entry (read (fine c)) .args .at .lo + 2 ^ (entry (read (fine c)) .args .h .e) ≤ 16777472
+first-small c =
+    let a = entry (read (fine c)) in
+    let f = plain (a .args .s .now) (a .args .h) (a .pre .0) in
+    before-small (a .args .h .e) (a .args .at .lo) (c .power .result) (f .e-high)
+    (omega (arith, page-in (at-page (read (fine c)) .between), f .few)) (c .power .ensures)
+
+-- what the search tells
+told-by : (c : tie.After-search)
+    → let a = entry (read (fine (c .before .before))) in
+    (c .search .result ≤ a .args .h .hours → Reach (a .args .s .now) (a .args .q) (given (c .search .result)))
+    × (a .args .h .hours < c .search .result → Reach (a .args .s .now) (a .args .q) (refused 6))
+told-by c =
+    let w = c .before .before in
+    let e = fine w in
+    index (at-page (read e)) (page-ok e) (w .power .ensures) (c .search .ensures) (w .before .before .if3 .left)
+
+-- ---- the calls and the returns
 returns : tie.Need-returns
 unfolding told
 returns c =
@@ -26,111 +70,51 @@ page-of-requires c κs =
 returns-2 : tie.Need-returns-2
 unfolding told
 returns-2 c =
-    let c2 = c .before .before in
-    let c3 = c2 .before in
-    let a = c3 .before .before .before in
-    let hit = a .pre .2 in
-    let ok = not-false (a .args .at .ok) (c3 .if1 .left) in
-    let r = c2 .page-of in
-    page-six (a .pre .0) (a .pre .1) (hit .between ok) (hit .one ok) (r .ensures) (not-true (r .result .ok) (c .if2 .taken))
+    let r = c .before .before in
+    page-six (at-page r) (not-true (r .page-of .result .ok) (c .if2 .taken))
 
 add-if3 : tie.Need-add-if3
 add-if3 c =
-    let c1 = c .before in
-    let c3 = c1 .before .before in
-    let a = c3 .before .before .before .before in
-    let r = c3 .page-of in
-    let o = a .pre .0 in
-    omega (arith, r .ensures .total (not-false (r .result .ok) (c1 .if2 .left)), o .head .total-is, o .head .total-small)
+    let e = c .before in
+    let o = at-page (read e) .opened in
+    omega (arith, at-page (read e) .page .total (page-ok e), o .head .total-is, o .head .total-small)
 
 returns-3 : tie.Need-returns-3
 unfolding told
 returns-3 c =
-    let c2 = c .before .before in
-    let c4 = c2 .before .before in
-    let c5 = c4 .before in
-    let a = c5 .before .before .before in
-    let hit = a .pre .2 in
-    let ok = not-false (a .args .at .ok) (c5 .if1 .left) in
-    let r = c4 .page-of in
-    last-six (a .pre .0) (a .pre .1) (hit .between ok) (hit .one ok) (r .ensures) (not-false (r .result .ok) (c2 .if2 .left)) (c .if3 .taken)
+    let e = c .before .before in
+    last-six (at-page (read e)) (page-ok e) (c .if3 .taken)
 
 sub-search : tie.Need-sub-search
 sub-search c =
-    let c3 = c .before .before .before in
-    let c5 = c3 .before .before in
-    let c6 = c5 .before in
-    let a = c6 .before .before .before in
-    let hit = a .pre .2 in
-    let ok = not-false (a .args .at .ok) (c6 .if1 .left) in
-    let r = c5 .page-of in
-    omega (arith, above (hit .between ok) (r .ensures) (not-false (r .result .ok) (c3 .if2 .left)))
+    let e = c .before .before .before in
+    omega (arith, above (at-page (read e)) (page-ok e))
 
 power-requires : tie.Need-power-requires
 power-requires c κs =
-    let a = c .before .before .before .before .before .before .before .before .before in
+    let a = entry (read (c .before .before .before)) in
     omega (arith, plain (a .args .s .now) (a .args .h) (a .pre .0) .e-high)
 
 mul-search : tie.Need-mul-search
-mul-search c =
-    let c1 = c .before in
-    let c8 = c1 .before .before .before .before .before .before .before in
-    let a = c8 .before .before .before in
-    let ok = not-false (a .args .at .ok) (c8 .if1 .left) in
-    let f = plain (a .args .s .now) (a .args .h) (a .pre .0) in
-    let b = before-small (a .args .h .e) (a .args .at .lo) (c1 .power .result) (f .e-high)
-    (omega (arith, page-in (a .pre .2 .between ok), f .few)) (c1 .power .ensures) in
-    record { fits = omega (arith, b) }
+mul-search c = record { fits = omega (arith, first-small (c .before)) }
 
 search-requires : tie.Need-search-requires
 search-requires c κs =
-    let c1 = c .before in
-    let c5 = c1 .before .before .before .before in
-    let c7 = c5 .before .before in
-    let c8 = c7 .before in
-    let a = c8 .before .before .before in
-    let o = a .pre .0 in
-    let ok = not-false (a .args .at .ok) (c8 .if1 .left) in
-    let f = plain (a .args .s .now) (a .args .h) o in
-    let r = c7 .page-of in
-    let b = before-small (a .args .h .e) (a .args .at .lo) (c1 .power .result) (f .e-high)
-    (omega (arith, page-in (a .pre .2 .between ok), f .few)) (c1 .power .ensures) in (
-      subst (λ (e : ℕ). Lies (a .args .s .now) (r .result .at) e (r .result .sum)) (sym (o .head .e-is))
-          (r .ensures .lies (not-false (r .result .ok) (c5 .if2 .left))),
-      omega (arith, b),
+    let w = c .before in
+    let e = fine w in
+    let r = read e .page-of in (
+      subst (λ (h : ℕ). Lies (entry (read e) .args .s .now) (r .result .at) h (r .result .sum)) (sym (at-page (read e) .opened .head .e-is))
+          (r .ensures .lies (page-ok e)),
+      omega (arith, first-small w),
     )
 
 returns-4 : tie.Need-returns-4
 unfolding told
-returns-4 c =
-    let c2 = c .before .before in
-    let c4 = c2 .before .before in
-    let c6 = c4 .before .before in
-    let c8 = c6 .before .before in
-    let c10 = c8 .before .before in
-    let c11 = c10 .before in
-    let a = c11 .before .before .before in
-    let hit = a .pre .2 in
-    let ok = not-false (a .args .at .ok) (c11 .if1 .left) in
-    let r = c10 .page-of in
-    index-six (a .pre .0) (a .pre .1) (hit .between ok) (hit .one ok) (r .ensures) (not-false (r .result .ok) (c8 .if2 .left))
-    (c4 .power .ensures) (c2 .search .ensures) (c6 .if3 .left) (c .if4 .taken)
+returns-4 c = told-by (c .before .before) .1 (c .if4 .taken)
 
 returns-5 : tie.Need-returns-5
 unfolding told
-returns-5 c =
-    let c2 = c .before .before in
-    let c4 = c2 .before .before in
-    let c6 = c4 .before .before in
-    let c8 = c6 .before .before in
-    let c10 = c8 .before .before in
-    let c11 = c10 .before in
-    let a = c11 .before .before .before in
-    let hit = a .pre .2 in
-    let ok = not-false (a .args .at .ok) (c11 .if1 .left) in
-    let r = c10 .page-of in
-    index (a .pre .0) (a .pre .1) (hit .between ok) (hit .one ok) (r .ensures) (not-false (r .result .ok) (c8 .if2 .left))
-    (c4 .power .ensures) (c2 .search .ensures) (c6 .if3 .left) (c .if4 .left)
+returns-5 c = told-by (c .before .before) .0 (c .if4 .left)
 
 pub reach-in-spec : {M : Type 1} → statement M
 reach-in-spec =

@@ -1,0 +1,89 @@
+-- What a look into the image of a list finds at an hour. Assumes nothing.
+use mathlib.Core.Path.{_≡_, refl, sym, ap, ap₂, _∙_}
+use mathlib.Core.Bool.{true}
+use mathlib.Core.List.{List, [], _∷_}
+use Prim.Native.Nat.{ℕ, zero, suc, _+_, _*_, _/_, _%_, _^_, _≤_, _<_}
+use native.Mathlib.Omega.{arith}
+use lib.ListN.{length, getD, take}
+use lib.Seq.{take-suc}
+use borrow.Author.Tests.{le-leb}
+use Rattle.lists.specs.Lists.{pick, sum}
+use Rattle.lists.proofs.Sums.{sum-append}
+use Rattle.lists.proofs.Tests.{every-of}
+use Rattle.bits.specs.Bits.{bits}
+use Rattle.reserve.specs.Reserve.{reserve}
+use Rattle.tree.specs.Read.{found, later, walk}
+use Rattle.tree.proofs.WalkLaws.{shift, walk-tree}
+use Rattle.image.specs.Image.{Limits, image, page, pages}
+use Rattle.image.specs.Query.{beforeFits, look, lookIn, pageFine, readingAt, theReading}
+use Rattle.image.specs.Read.{beforeOf, eOf, lOf, rootOf, sOf, startOf, sumOf, treeAt, widthOf}
+use Rattle.image.specs.Reply.{given}
+use Rattle.image.proofs.Back.{before-is, e-is, l-is, root-is, s-is, start-is, sum-is, tree-is}
+use Rattle.image.proofs.Back.{width-is}
+use Rattle.image.proofs.PageLaws.{getD-page, hour-low, hour-page, hour-split, length-page, page-sum, root-le, start-within}
+use Rattle.image.proofs.PageLaws.{sum-page}
+
+module _ (e : ℕ) (xs : List ℕ) (m : Limits e xs) where
+  abbrev S : List ℕ
+  S = image e xs
+
+  abbrev P : ℕ
+  P = pages e (length xs)
+
+  before-fits : (p : ℕ) → p < P → beforeFits S p ≡ true
+  unfolding beforeFits
+  before-fits zero l = refl
+  before-fits (suc p) l =
+      le-leb (startOf S p + widthOf S) (lOf S) (omega (
+        arith,
+        start-is e xs m p (omega arith),
+        width-is e xs m,
+        l-is e xs m,
+        start-within e xs p (omega arith),
+      ))
+
+  pub page-fine : (p : ℕ) → p < P → pageFine S p ≡ true
+  unfolding pageFine
+  page-fine p l =
+      every-of _ (
+        le-leb (startOf S p + widthOf S) (lOf S) (omega (arith, start-is e xs m p l, width-is e xs m, l-is e xs m, start-within e xs p l)),
+        (
+          before-fits p l,
+          (
+            le-leb (rootOf S p) (sOf S) (omega (arith, root-is e xs m p l, s-is e xs m, root-le e xs p)),
+            (
+              le-leb (beforeOf S p) (sOf S) (omega (arith, before-is e xs m p l, page-sum e xs p, s-is e xs m, root-le e xs p)),
+              (
+                le-leb (beforeOf S p) (rootOf S p) (omega (arith, before-is e xs m p l, page-sum e xs p, root-is e xs m p l)),
+                (
+                  le-leb (startOf S p + widthOf S + reserve (eOf S) (sumOf S p)) (lOf S)
+                      (omega (arith, start-is e xs m p l, width-is e xs m, l-is e xs m, start-within e xs p l, ap₂ reserve (e-is e xs) (sum-is e xs m p l))),
+                  tt,
+                ),
+              ),
+            ),
+          ),
+        ),
+      )
+
+  look-in : (p j : ℕ) → p < P → j < 2 ^ e → lookIn S p j ≡ found (sum (take (2 ^ e * p + j) xs)) (getD xs (2 ^ e * p + j) 0)
+  unfolding lookIn pick
+  look-in p j l k =
+      rw (page-fine p l)
+      (ap₂ (λ (h s : ℕ). later (beforeOf S p) (walk h s (bits S) (treeAt S p) j)) (e-is e xs) (sum-is e xs m p l)
+      ∙ ap (later (beforeOf S p)) (walk-tree e (page e xs p) (bits S) (treeAt S p) j (length-page e xs p) k (tree-is e xs m p l))
+      ∙ shift (beforeOf S p) (sum (take j (page e xs p))) (getD (page e xs p) j 0)
+      ∙ ap₂ found (ap (λ (z : ℕ). z + sum (take j (page e xs p))) (before-is e xs m p l) ∙ sum-page e xs p j (omega arith)) (getD-page e xs p j k))
+
+  pub look-is : (i : ℕ) → i < length xs → look S i ≡ found (sum (take i xs)) (getD xs i 0)
+  unfolding look
+  look-is i l =
+      ap (λ (z : ℕ). lookIn S (i / 2 ^ z) (i % 2 ^ z)) (e-is e xs)
+      ∙ look-in (i / 2 ^ e) (i % 2 ^ e) (hour-page e (length xs) i l) (hour-low e i)
+      ∙ ap (λ (z : ℕ). found (sum (take z xs)) (getD xs z 0)) (hour-split e i)
+
+  pub reading-at : (i : ℕ) → i ≤ length xs → readingAt S i ≡ given (sum (take i xs))
+  unfolding readingAt theReading sum
+  reading-at zero l = refl
+  reading-at (suc i) l =
+      ap theReading (look-is i l) ∙ ap given (sym (ap sum (take-suc xs i 0 l) ∙ sum-append (take i xs) (getD xs i 0 ∷ []) ∙ omega arith))

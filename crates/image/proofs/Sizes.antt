@@ -1,0 +1,136 @@
+-- How large the answers of the image's calls are. Assumes nothing.
+use mathlib.Core.Path.{_≡_, refl, sym, ap, subst}
+use mathlib.Core.Bool.{Bool, true, false, _&&_}
+use mathlib.Core.List.{List, _++_}
+use Prim.Native.Nat.{ℕ, zero, suc, _+_, _≤_, _<_}
+use native.Mathlib.Omega.{arith}
+use lib.ListN.{length, getD, drop}
+use lib.Dec.{leb, ltb}
+use borrow.Author.Tests.{leb-true}
+use Rattle.lists.specs.Lists.{pick, reached, sum}
+use Rattle.lists.proofs.Reach.{reached-le}
+use Rattle.lists.proofs.Tests.{each, left, right}
+use Rattle.tree.specs.Read.{Found, damaged, found}
+use Rattle.image.specs.Calls.{lengthCall, put, putAfter, unwritten, writeCall}
+use Rattle.image.specs.Check.{Verdict, accepted, check, fails, headed, holds}
+use Rattle.image.specs.Image.{Limits, bytesFor, image, size}
+use Rattle.image.specs.Query.{count, look, reading, readingAt, theCount, theReading}
+use Rattle.image.specs.Reach.{Free, If, Reach, says-index, says-six}
+use Rattle.image.specs.Read.{eOf, listOf, nOf, sOf}
+use Rattle.image.specs.Reply.{Reply, given, refused}
+use Rattle.image.proofs.Accepted.{accepted-only, length-list}
+use Rattle.image.proofs.Back.{length-image, s-is}
+use Rattle.image.proofs.HeadLaws.{headed-long}
+use Rattle.image.proofs.Made.{length-only}
+use Rattle.image.proofs.Mirror.{word-most}
+use Rattle.image.proofs.PageLaws.{code-most, pages-few}
+use Rattle.image.proofs.QueryLaws.{Most, look-most}
+
+-- a number is no more than the total's limit, refusals are 1 to 12
+abbrev pub Small : Reply → Type 0
+Small (given n) = n ≤ 4294967295
+Small (refused k) = (1 ≤ k) × (k ≤ 12)
+
+abbrev pub SmallVerdict : Verdict → Type 0
+SmallVerdict (holds n s) = (n ≤ 65536) × (s ≤ 4294967295)
+SmallVerdict (fails k) = (1 ≤ k) × (k ≤ 12)
+
+or-refused : (b : Bool) (k : ℕ) (r : Reply) → 1 ≤ k → k ≤ 12 → (b ≡ true → Small r) → Small (pick b r (refused k))
+unfolding pick
+or-refused true k r low high w = w refl
+or-refused false k r low high w = (low, high)
+
+refused-or : (b : Bool) (k : ℕ) (r : Reply) → 1 ≤ k → k ≤ 12 → Small r → Small (pick b (refused k) r)
+unfolding pick
+refused-or true k r low high w = (low, high)
+refused-or false k r low high w = w
+
+-- ---- length and write
+image-most : (e : ℕ) (xs : List ℕ) → Limits e xs → length (image e xs) ≤ 4294967295
+unfolding size bytesFor
+image-most e xs m = omega (arith, length-image e xs, code-most e xs m, pages-few e (length xs) (m .e-low) (m .hours))
+
+pub length-small : (e : ℕ) (xs : List ℕ) → Small (lengthCall e xs)
+unfolding lengthCall
+length-small e xs =
+    or-refused (leb 2 e && leb e 8) 1 _ (omega arith) (omega arith) (λ a.
+    or-refused (leb (length xs) 65536) 2 _ (omega arith) (omega arith) (λ b.
+    or-refused (leb (sum xs) 4294967295) 3 _ (omega arith) (omega arith) (λ c.
+    image-most e xs (record {
+      e-low = leb-true 2 e (left (leb 2 e) (leb e 8) a);
+      e-high = leb-true e 8 (right (leb 2 e) (leb e 8) a);
+      hours = leb-true (length xs) 65536 b;
+      total = leb-true (sum xs) 4294967295 c;
+    }))))
+
+put-small : (out i : List ℕ) → length i ≤ 4294967295 → Small (put out i .reply)
+unfolding put pick unwritten
+put-small out i l = go (leb (length i) (length out))
+  where
+    go : (b : Bool) → Small (pick b (record { reply = given (length i); bytes = i ++ drop (length i) out }) (unwritten out 4) .reply)
+    go true = l
+    go false = omega arith
+
+pub write-small : (e : ℕ) (xs out : List ℕ) → Small (writeCall e xs out .reply)
+unfolding writeCall putAfter unwritten
+write-small e xs out = go (lengthCall e xs) refl (length-small e xs)
+  where
+    go : (r : Reply) → lengthCall e xs ≡ r → Small r → Small (putAfter r out (image e xs) .reply)
+    go (given n) q w = put-small out (image e xs) (image-most e xs (length-only e xs n q))
+    go (refused k) q w = w
+
+-- ---- check
+pub check-small : (s : List ℕ) → SmallVerdict (check s)
+unfolding check pick
+check-small s = go (headed s) (accepted s) refl
+  where
+    go : (a b : Bool) → accepted s ≡ b → SmallVerdict (pick a (pick b (holds (nOf s) (sOf s)) (fails 6)) (fails 5))
+    go true true e =
+        let w = accepted-only s e in (
+          omega (arith, length-list s, w .limits .hours),
+          omega (arith, ap sOf (w .bytes), s-is (eOf s) (listOf s) (w .limits), w .limits .total),
+        )
+    go true false e = omega arith
+    go false b e = omega arith
+
+-- ---- the queries, on any bytes
+hours-most : (s : List ℕ) → headed s ≡ true → nOf s ≤ 65536
+unfolding headed
+hours-most s e = leb-true (nOf s) 65536 (each _ e .1 .1 .1 .1 .1 .1 .0)
+
+module _ (s : List ℕ) (bytes : (i : ℕ) → getD s i 0 < 256) where
+  total-most : headed s ≡ true → sOf s ≤ 4294967295
+  unfolding sOf
+  total-most e = word-most s bytes 8 (omega (arith, headed-long s e))
+
+  found-small : headed s ≡ true → (f : Found) → Most (sOf s) f → Small (theCount f) × Small (theReading f)
+  unfolding theCount theReading
+  found-small e damaged m = (omega arith, omega arith)
+  found-small e (found x c) m = (omega (arith, total-most e), omega (arith, total-most e))
+
+  pub count-small : (i : ℕ) → Small (count s i)
+  unfolding count
+  count-small i =
+      or-refused (headed s) 5 _ (omega arith) (omega arith) (λ e.
+      refused-or _ 7 _ (omega arith) (omega arith) (found-small e (look s i) (look-most s i) .0))
+
+  pub reading-small : (i : ℕ) → Small (reading s i)
+  unfolding reading readingAt
+  reading-small i = or-refused (headed s) 5 _ (omega arith) (omega arith) (λ e. refused-or _ 7 _ (omega arith) (omega arith) (go e i))
+    where
+      go : headed s ≡ true → (i : ℕ) → Small (readingAt s i)
+      go e zero = omega arith
+      go e (suc i) = found-small e (look s i) (look-most s i) .1
+
+pub reach-small : (s : List ℕ) (p : ℕ) (r : Reply) → Reach s p r → Small r
+reach-small s p r = go (headed s) (ltb (sOf s) p) (accepted s) refl
+  where
+    free : headed s ≡ true → {r : Reply} → Free (nOf s) r → Small r
+    free e says-six = omega arith
+    free e (says-index i l) = omega (arith, hours-most s e)
+
+    go : (a b c : Bool) → headed s ≡ a → If a (If b (r ≡ refused 8) (If c (r ≡ given (reached p (listOf s))) (Free (nOf s) r))) (r ≡ refused 5) → Small r
+    go false b c e w = subst Small (sym w) (omega arith)
+    go true true c e w = subst Small (sym w) (omega arith)
+    go true false true e w = subst Small (sym w) (omega (arith, reached-le p (listOf s), length-list s, hours-most s e))
+    go true false false e w = free e w
