@@ -8,10 +8,11 @@ use lib.ListN.{length, getD, take, replicate}
 use lib.Seq.{ext-getD, take-at}
 use Rattle.lists.specs.Lists.{fill, part, splice, sum, tabulate}
 use Rattle.lists.proofs.Tables.{getD-tabulate, length-tabulate}
+use Rattle.lists.proofs.Zeros.{fill-more, splice-zeros, zeros-same}
 use Rattle.bits.specs.Bits.{bits}
 use Rattle.bits.specs.Pack.{pack}
 use Rattle.bits.proofs.Laws.{bits-append, length-bits}
-use Rattle.bits.proofs.Packing.{length-fill}
+use Rattle.bits.proofs.Packing.{length-fill, pack-append, pack-bits, pack-zeros, zeros-bits}
 use Rattle.reserve.specs.Reserve.{reserve}
 use Rattle.tree.specs.Tree.{tree}
 use Rattle.tree.specs.Code.{Lies, window}
@@ -21,8 +22,6 @@ use Rattle.tree.proofs.Shape.{counts-tree, length-tree}
 use Rattle.tree.proofs.Exacts.{tree-exact}
 use Rattle.store.specs.PageCode.{cells, pageBytes}
 use Rattle.store.proofs.PageCodeLaws.{cells-hold, cells-most, page-bits}
-use Rattle.pages.proofs.Zeros.{fill-more, splice-zeros, zeros-same}
-use Rattle.pages.proofs.Packs.{bits-zeros, pack-append, pack-bits, pack-zeros}
 
 pub window-all : (xs : List ℕ) (n : ℕ) → length xs ≡ n → window xs 0 n ≡ xs
 unfolding window
@@ -51,7 +50,7 @@ coded b r xs s z n es l h e =
     let few : k ≤ 8 = cells-most (sum xs) (omega arith) in
     let short : length T ≤ 240 * k = omega (arith, length-tree 6 xs, cells-hold (sum xs)) in
     let f : bits r ≡ fill 1920 T =
-    e ∙ ap₂ (λ (y t : List ℕ). splice y 0 (tree 6 t)) (ap bits z ∙ bits-zeros 240) (window-all xs 64 n) ∙ splice-zeros 1920 T in
+    e ∙ ap₂ (λ (y t : List ℕ). splice y 0 (tree 6 t)) (ap bits z ∙ zeros-bits 240) (window-all xs 64 n) ∙ splice-zeros 1920 T in
     let long : length r ≡ 30 * k + (240 - 30 * k) = omega (arith, length-bits r, ap length f, length-fill 1920 T (omega arith)) in
     let rest : 1920 - 240 * k ≡ 8 * (240 - 30 * k) = omega arith in
     sym (pack-bits r h)

@@ -5,6 +5,7 @@ use Prim.Native.Nat.{ℕ, _+_, _-_, _*_, _≤_, _<_}
 use native.Mathlib.Omega.{arith}
 use lib.ListN.{length, getD, replicate}
 use Rattle.lists.specs.Lists.{fill, splice, sum}
+use Rattle.lists.proofs.Zeros.{splice-zeros}
 use Rattle.store.specs.PageCode.{cells, pageBytes}
 use Rattle.store.specs.Plain.{page}
 use Rattle.store.specs.Layout.{Model, entryAt}
@@ -19,7 +20,6 @@ use Rattle.store.proofs.ReadBack.{code-in}
 use Rattle.store.proofs.Spread.{spread-of}
 use Rattle.store.proofs.SoundFacts.{Facts, facts}
 use Rattle.pages.specs.Gathered.{Gathered, codeFrom}
-use Rattle.pages.proofs.Zeros.{splice-zeros}
 
 module _ {s : List ℕ} {P p t k : ℕ} (o : OfPage s P p t k) where
   abbrev m : Model

@@ -1,6 +1,7 @@
 // A page's code, gathered from its cells.
 use crate::entry::entry_of;
 use store::fill::put_block;
+use store::header::Header;
 use store::header::cell_at;
 use store::header::entry_at;
 use store::links::link;
@@ -25,7 +26,7 @@ fn copy_chain(s: &[u8], pages: usize, e: usize, k: usize, out: &mut [u8])
     let mut j = 0;
     while j < k {
         at = cell_at(pages, link(s, at));
-        put_block(out, 30 * j, s, at + 2);
+        put_block(out, Header::CODE * j, s, at + 2);
         j = j + 1;
     }
 }

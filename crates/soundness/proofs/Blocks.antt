@@ -1,29 +1,18 @@
--- One turn of the loops over page sums, over the bytes of a free cell and over the marks. Assumes nothing.
+-- One turn of the loops over the bytes of a free cell and over the marks. Assumes nothing.
 use mathlib.Core.Path.{_≡_, refl, sym, ap, ap₂, _∙_}
 use mathlib.Core.Bool.{Bool, true, false, _&&_}
-use mathlib.Core.List.{List, [], _∷_, _++_}
+use mathlib.Core.List.{List, [], _∷_}
 use Prim.Native.Nat.{ℕ, zero, suc, _+_, _*_, _≤_, _<_}
-use native.Mathlib.Numerals.{add-one}
 use native.Mathlib.Omega.{arith}
 use native.Mathlib.Decide.{ℕ-discrete}
 use lib.ListN.{length, getD, replicate, length-replicate, replicate-append-replicate}
 use lib.Dec.{eqb}
 use borrow.Author.Tests.{eq-eqb, eqb-true}
-use Rattle.lists.specs.Lists.{part, same, sum, tabulate}
-use Rattle.lists.proofs.Sums.{sum-append}
-use Rattle.lists.proofs.Tables.{tabulate-snoc}
-use Rattle.lists.proofs.Tests.{both, left, right}
+use Rattle.lists.specs.Lists.{part, same, tabulate}
+use Rattle.lists.proofs.Parts.{length-part, part-more}
+use Rattle.lists.proofs.Tests.{agree, both, left, right, same-join}
 use Rattle.bits.specs.Numbers.{number, numberAt}
-use Rattle.tree.proofs.Exacts.{length-part, part-more}
 use Rattle.store.proofs.SoundLaws.{ones-same, same-ones}
-use Rattle.soundness.proofs.General.{agree, same-join}
-
--- ---- the sum of a table, and its next entry
-pub sum-next : (f : ℕ → ℕ) (n t : ℕ) → t ≡ sum (tabulate n f) → t + f n ≡ sum (tabulate (n + 1) f)
-unfolding sum
-sum-next f n t e =
-    let q : t + f n ≡ sum (tabulate n f ++ f n ∷ []) = omega (arith, sum-append (tabulate n f) (f n ∷ [])) in
-    q ∙ ap sum (sym (tabulate-snoc n f) ∙ ap (λ (z : ℕ). tabulate z f) (sym (add-one n)))
 
 -- ---- numbers that add up to 0
 plus-zero : (a b : ℕ) → eqb (a + b) 0 ≡ (eqb a 0 && eqb b 0)

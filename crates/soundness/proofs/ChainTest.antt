@@ -9,10 +9,9 @@ use lib.ListN.{length, take, drop, set, replicate, length-append}
 use lib.Seq.{length-take-le, sets, take-at}
 use borrow.Author.Tests.{eq-eqb, ne-eqb, not-false, not-true}
 use Rattle.lists.specs.Lists.{every, part, splice}
-use Rattle.lists.proofs.Parts.{sets-splice}
+use Rattle.lists.proofs.Parts.{length-part, sets-splice}
 use Rattle.bits.specs.Bits.{bits}
 use Rattle.bits.specs.Numbers.{Number, numberAt}
-use Rattle.tree.proofs.Exacts.{length-part}
 use Rattle.tree.proofs.Shape.{length-counts}
 use Rattle.store.specs.Heads.{Heads}
 use Rattle.store.specs.Layout.{cellAt, entryAt}

@@ -10,9 +10,10 @@ use lib.Seq.{getD-set-other, getD-set-same}
 use lib.Dec.{leb, eqb}
 use borrow.Author.Tests.{eqb-true, leb-true}
 use Rattle.lists.specs.Lists.{every, sum, tabulate}
-use Rattle.lists.proofs.Sums.{sum-tabulate-one}
+use Rattle.lists.proofs.Sums.{sum-nones, sum-tabulate-one}
 use Rattle.lists.proofs.Tables.{tabulate-ext}
 use Rattle.lists.proofs.Tests.{left, right, same-is}
+use Rattle.lists.proofs.Zeros.{zeros-at}
 use Rattle.bits.specs.Numbers.{numberAt}
 use Rattle.store.specs.Layout.{cellAt}
 use Rattle.store.specs.PageCode.{cells}
@@ -73,16 +74,6 @@ module _ (s : List ℕ) (P C N : ℕ) where
       (omega (arith, u .0, v .0, here, ap sum next), v .1 ∙ u .1)
 
 -- no marks, and marks on all cells
-none-at : (k i : ℕ) → getD (replicate {A = ℕ} k 0) i 0 ≡ 0
-none-at zero i = refl
-none-at (suc k) zero = refl
-none-at (suc k) (suc i) = none-at k i
-
-sum-nones : (n : ℕ) (f : ℕ → ℕ) → ((j : ℕ) → f j ≡ 0) → sum (tabulate n f) ≡ 0
-unfolding sum tabulate
-sum-nones zero f h = refl
-sum-nones (suc n) f h = omega (arith, h 0, sum-nones n (λ j. f (suc j)) (λ j. h (suc j)))
-
 sum-ones : (n : ℕ) → sum (replicate n 1) ≡ n
 unfolding sum
 sum-ones zero = refl
@@ -99,5 +90,5 @@ number-all s P C N f m m′ l h w e =
     let t : tabulate P (λ j. cells (sumIn s (0 + j))) ≡ tabulate P (λ p. cells (sumIn s p)) =
     tabulate-ext P (λ j. cells (sumIn s (0 + j))) (λ p. cells (sumIn s p))
     (λ j _. ap (λ (z : ℕ). cells (sumIn s z)) {x = 0 + j} {y = j} (omega arith)) in
-    let nothing : marked C (replicate 1801 0) ≡ 0 = sum-nones C (λ j. getD (replicate {A = ℕ} 1801 0) (suc j) 0) (λ j. none-at 1801 (suc j)) in
+    let nothing : marked C (replicate 1801 0) ≡ 0 = sum-nones C (λ j. getD (replicate {A = ℕ} 1801 0) (suc j) 0) (λ j. zeros-at 1801 (suc j)) in
     omega (arith, u .0, v .0, ap sum t, nothing, ap sum (same-is _ _ e), sum-ones C)

@@ -1,20 +1,20 @@
 -- The free chain's walk, cell by cell: what is left to test where it stands. Assumes nothing.
 use mathlib.Core.Path.{_≡_, sym, ap, ap₂, _∙_}
-use mathlib.Core.Bool.{Bool, true, false, not, _&&_}
+use mathlib.Core.Bool.{Bool, true, false, not, _&&_, and-false, and-true}
 use mathlib.Core.List.{List}
 use Prim.Native.Nat.{ℕ, suc, _+_, _-_, _*_, _≤_, _<_}
 use native.Mathlib.Omega.{arith}
 use lib.ListN.{length, set, replicate, replicate-append-replicate}
 use borrow.Author.Tests.{eq-eqb, ne-eqb, not-false, not-true}
 use Rattle.lists.specs.Lists.{part, same}
+use Rattle.lists.proofs.Parts.{length-part}
+use Rattle.lists.proofs.Tests.{same-join}
 use Rattle.bits.specs.Numbers.{Number, numberAt}
-use Rattle.tree.proofs.Exacts.{length-part}
 use Rattle.store.specs.Layout.{cellAt}
 use Rattle.store.specs.Reading.{chainFrom, codeIn}
 use Rattle.store.proofs.CheckChain.{go-on, walkMarks}
 use Rattle.store.proofs.Verdict.{ends-well}
 use Rattle.soundness.specs.Chains.{allMarked, freeFits, freeFrom}
-use Rattle.soundness.proofs.General.{and-false, and-true, same-join}
 use Rattle.soundness.proofs.CellTest.{cellTest}
 
 -- n cells from the number c on are clear

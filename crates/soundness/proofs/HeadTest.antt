@@ -9,13 +9,12 @@ use lib.Seq.{length-take-le}
 use lib.Dec.{leb, eqb}
 use borrow.Author.Tests.{eq-eqb, eqb-true, le-leb, leb-true}
 use Rattle.lists.specs.Lists.{every, part, same, sum, tabulate}
-use Rattle.lists.proofs.Tests.{each, every-of, same-is}
+use Rattle.lists.proofs.Tests.{agree, each, every-last, every-no, every-of, same-eq, same-is}
 use Rattle.bits.specs.Numbers.{number, numberAt}
 use Rattle.store.specs.Heads.{Heads}
 use Rattle.store.specs.Reading.{sumIn}
 use Rattle.store.specs.declared.header.Header.{Header}
 use Rattle.store.proofs.Verdict.{headTests}
-use Rattle.soundness.proofs.General.{agree, every-last, every-no, same-eq}
 
 -- test k of the header fails
 pub head-fails : (s : List ℕ) (k : ℕ) → getD (headTests s) k true ≡ false → false ≡ every (headTests s)

@@ -1,5 +1,4 @@
 -- Laws of the functions.
-pub mod General
 pub mod Quiet
 pub mod Blocks
 pub mod HeadTest

@@ -1,8 +1,8 @@
 -- The test of a page's gathered code says that its cells hold the page's bytes. Assumes nothing.
-use mathlib.Core.Path.{_≡_, refl, sym, ap, ap₂, _∙_}
+use mathlib.Core.Path.{_≡_, sym, ap, ap₂, _∙_}
 use mathlib.Core.Bool.{Bool, true, false, not, _&&_}
 use mathlib.Core.List.{List, [], _∷_, _++_}
-use Prim.Native.Nat.{ℕ, zero, suc, _+_, _-_, _*_, _≤_, _<_}
+use Prim.Native.Nat.{ℕ, _+_, _-_, _*_, _≤_, _<_}
 use native.Mathlib.Omega.{arith}
 use lib.ListN.{length, getD, take, replicate}
 use lib.Seq.{take-at, drop-at, length-take-le, take-add, take-take}
@@ -11,11 +11,13 @@ use borrow.Author.Tests.{eq-eqb, eqb-true, not-false, not-true}
 use Rattle.lists.specs.Lists.{fill, part, same, sum}
 use Rattle.lists.proofs.Parts.{part-sub}
 use Rattle.lists.proofs.Sums.{sum-take-le}
-use Rattle.lists.proofs.Tests.{both, each, every-of, left, right, same-is}
+use Rattle.lists.proofs.Zeros.{take-zeros}
+use Rattle.lists.proofs.Tests.{agree, both, each, every-of, left, right, same-eq, same-is}
 use Rattle.bits.specs.Bits.{bits}
 use Rattle.bits.specs.Pack.{pack}
 use Rattle.bits.proofs.Laws.{length-bits}
-use Rattle.bits.proofs.Packing.{bits-bytes}
+use Rattle.bits.proofs.Packing.{bits-bytes, pack-bits, take-bits}
+use Rattle.bits.proofs.Little.{byte-take}
 use Rattle.reserve.specs.Reserve.{reserve}
 use Rattle.reserve.proofs.Fit.{most}
 use Rattle.tree.specs.Exact.{clear, exact}
@@ -23,29 +25,19 @@ use Rattle.tree.specs.Read.{counts, walk}
 use Rattle.tree.specs.Tree.{tree}
 use Rattle.tree.specs.Code.{Lies, told}
 use Rattle.tree.proofs.Clearing.{clear-none}
-use Rattle.tree.proofs.Exacts.{Coded, exact-coded, tree-exact}
-use Rattle.tree.proofs.Shape.{counts-tree, length-counts, length-tree, tree-none}
+use Rattle.tree.specs.Exact.{Coded}
+use Rattle.tree.proofs.Exacts.{exact-coded, exact-zero, tree-exact}
+use Rattle.tree.proofs.Shape.{counts-tree, length-counts, length-tree}
 use Rattle.tree.proofs.WalkLaws.{walk-tree}
 use Rattle.store.specs.PageCode.{cells, pageBytes, pageCounts}
 use Rattle.store.proofs.PageCodeLaws.{cells-hold, cells-most, cells-none, page-bits}
 use Rattle.store.proofs.PageLaws.{quiet}
 use Rattle.soundness.specs.Page.{Handed, pageFits}
-use Rattle.soundness.proofs.General.{agree, bits-front, bytes-take, pack-bits, same-eq}
 use Rattle.soundness.proofs.Quiet.{quiet-all, quiet-none, quiet-some, quiet-sum}
 
 -- a list as two of its parts
 split-front : (b : List ℕ) (n r : ℕ) → r ≤ n → take n b ≡ take r b ++ part b r (n - r)
 split-front b n r l = ap (λ (z : ℕ). take z b) {x = n} {y = r + (n - r)} (omega arith) ∙ take-add r (n - r) b
-
--- a tree of sum 0 has no bits to be wrong
-exact-none : (h : ℕ) (b : List ℕ) (a : ℕ) → exact h 0 b a ≡ true
-unfolding sum reserve
-exact-none h b a = tree-exact h [] b a (sym (tree-none h [] refl))
-
--- zeros, all of them taken
-all-of : (n : ℕ) → take n (replicate {A = ℕ} n 0) ≡ replicate n 0
-all-of zero = refl
-all-of (suc n) = ap (λ (z : List ℕ). 0 ∷ z) (all-of n)
 
 -- ---- the gathered code of page p, of sum s
 module _ {code : List ℕ} {s p N : ℕ} (g : Handed code s p N) where
@@ -108,7 +100,7 @@ module _ {code : List ℕ} {s p N : ℕ} (g : Handed code s p N) where
     own-fits = omega (arith, few, g .long)
 
     own-bits : bits own ≡ take (240 * k) B
-    own-bits = let e : 8 * (30 * k) ≡ 240 * k = omega arith in bits-front (30 * k) code own-fits ∙ ap (λ (n : ℕ). take n B) e
+    own-bits = let e : 8 * (30 * k) ≡ 240 * k = omega arith in sym (take-bits (30 * k) code) ∙ ap (λ (n : ℕ). take n B) e
 
     -- bytes that are a page's are its tree and zeros
     module _ (ys : List ℕ) (t : sum ys ≡ s) (e : own ≡ pageBytes ys) where
@@ -132,7 +124,7 @@ module _ {code : List ℕ} {s p N : ℕ} (g : Handed code s p N) where
       is-clear =
           same-eq _ _
           (sym (part-sub B R (240 * k - R) (240 * k) (omega (arith, holds))) ∙ ap (λ (z : List ℕ). part z R (240 * k - R)) parts
-          ∙ ap (take (240 * k - R)) (drop-at (tree 6 ys) Z R tree-length) ∙ all-of (240 * k - R))
+          ∙ ap (take (240 * k - R)) (drop-at (tree 6 ys) Z R tree-length) ∙ take-zeros (240 * k - R) (240 * k - R) (omega arith))
 
     module _ (bytes : (i : ℕ) → getD code i 0 < 256) where
       -- and the other way: a tree and zeros are the bytes of the page that it says
@@ -152,7 +144,7 @@ module _ {code : List ℕ} {s p N : ℕ} (g : Handed code s p N) where
         bytes-are =
             let zeros : part B R (240 * k - R) ≡ Z = same-is _ _ z in
             let length-is : R ≡ length (tree 6 xs) = sym (length-tree 6 xs ∙ ap (reserve 6) total) in
-            sym (pack-bits own (bytes-take (30 * k) code bytes))
+            sym (pack-bits own (byte-take (30 * k) code bytes))
             ∙ ap₂ pack (length-take-le (30 * k) code own-fits)
             (own-bits ∙ split-front B (240 * k) R holds ∙ ap₂ _++_ (found i .code) zeros
             ∙ ap (λ (n : ℕ). tree 6 xs ++ replicate (240 * k - n) 0) length-is)
@@ -194,7 +186,7 @@ module _ {code : List ℕ} {s p N : ℕ} (g : Handed code s p N) where
       -- a page of sum 0 has no code and no counts
       pub fits-none : s ≡ 0 → true ≡ pageFits own s p N
       fits-none e =
-          let i : exact 6 s B 0 ≡ true = ap (λ (n : ℕ). exact 6 n B 0) e ∙ exact-none 6 B 0 in
+          let i : exact 6 s B 0 ≡ true = ap (λ (n : ℕ). exact 6 n B 0) e ∙ exact-zero 6 B 0 in
           let none : 240 * k - R ≡ 0 = omega (arith, fit, ap cells e, cells-none) in
           let t : sum (take (N - 64 * p) xs) ≡ sum xs = omega (arith, sum-take-le (N - 64 * p) xs, found i .total) in
           sym (fits-test ∙ ap₂ _&&_ i (ap₂ _&&_ (sym (clear-none B R (240 * k - R) none)) (quiet-sum xs N p xs-long ∙ eq-eqb _ _ t)))

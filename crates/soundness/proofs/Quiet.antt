@@ -11,11 +11,10 @@ use lib.Seq.{getD-drop, take-all, take-suc}
 use lib.Dec.{ltb, eqb}
 use borrow.Author.Tests.{lt-ltb, le-ltb, eq-eqb, eqb-true}
 use Rattle.lists.specs.Lists.{pick, same, sum, tabulate}
-use Rattle.lists.proofs.Sums.{sum-append, sum-halves}
-use Rattle.lists.proofs.Tables.{getD-tabulate, tabulate-ext}
-use Rattle.lists.proofs.Tests.{same-is}
+use Rattle.lists.proofs.Sums.{sum-append, sum-halves, sum-none, zero-at}
+use Rattle.lists.proofs.Tables.{getD-tabulate, tabulate-ext, tabulate-getD}
+use Rattle.lists.proofs.Tests.{agree, same-eq, same-is}
 use Rattle.store.proofs.PageLaws.{quiet}
-use Rattle.soundness.proofs.General.{agree, same-eq, sum-none, tabulate-getD, zero-at}
 
 -- ---- the hours of page p, n of which are logged
 module _ (xs : List ℕ) (N p : ℕ) (long : length xs ≡ 64) where
@@ -46,7 +45,7 @@ module _ (xs : List ℕ) (N p : ℕ) (long : length xs ≡ 64) where
   quiet-rest : sum (drop n xs) ≡ 0 → quiet N p xs ≡ xs
   quiet-rest e =
       tabulate-ext 64 f (λ j. getD xs j 0) (λ j _. at j (decLe N (64 * p + j)))
-      ∙ ap (λ (k : ℕ). tabulate k (λ j. getD xs j 0)) (sym long) ∙ tabulate-getD xs
+      ∙ ap (λ (k : ℕ). tabulate k (λ j. getD xs j 0)) (sym long) ∙ tabulate-getD xs 0
     where
       at : (j : ℕ) → Dec (N ≤ 64 * p + j) → f j ≡ getD xs j 0
       at j (yes q) =

@@ -2,6 +2,7 @@
 use crate::chains::is_cell;
 use bits::numbers::get2;
 use bits::numbers::get4;
+use store::header::Header;
 use store::header::cell_at;
 use store::links::link;
 ghost use mathlib.Core.Path.{_≡_};
@@ -17,7 +18,7 @@ fn zero_block(s: &[u8], at: usize) -> bool
 {
     let mut all = get2(s, at);
     let mut i = 2;
-    while i < 30 {
+    while i < Header::CODE {
         all = all + get4(s, at + i);
         i = i + 4;
     }

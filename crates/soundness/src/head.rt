@@ -1,28 +1,10 @@
-// The header of a store and its page sums.
+// The header of a store.
 use bits::numbers::get2;
-use bits::numbers::get4;
 use store::header::Header;
-use store::header::entry_at;
+use store::total::page_sums;
 ghost use mathlib.Core.Path.{_≡_};
-ghost use Prim.Native.Nat.{_+_, _*_, _≤_};
-ghost use lib.ListN.{length};
-ghost use Rattle.lists.specs.Lists.{every, sum, tabulate};
-ghost use Rattle.store.specs.Reading.{sumIn};
+ghost use Rattle.lists.specs.Lists.{every};
 ghost use Rattle.store.proofs.Verdict.{headTests};
-
-// The sum of the pages' sums. It fits: 1,024 pages of less than 2^32.
-fn total(s: &[u8], pages: usize) -> u64
-    requires { ⌜ (pages ≤ 1024) × (16 + 6 * pages ≤ length (now s)) ⌝ }
-    ensures { λ r. ⌜ r ≡ sum (tabulate pages (sumIn (now (s .entry)))) ⌝ }
-{
-    let mut all = 0;
-    let mut p = 0;
-    while p < pages {
-        all = all + get4(s, entry_at(p));
-        p = p + 1;
-    }
-    all
-}
 
 // Whether the header, the length and the total are those of a store, tested in document 01's order. The edition and the zero byte
 // behind it are one number, 1.
@@ -59,5 +41,5 @@ pub(crate) fn head_fits(s: &[u8]) -> bool
     if Header::HOURS * pages < h.hours {
         return false;
     }
-    total(s, pages) <= Header::MAX_TOTAL
+    page_sums(s, pages) <= Header::MAX_TOTAL
 }

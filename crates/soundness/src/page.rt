@@ -39,7 +39,7 @@ pub(crate) fn page_fits(code: &[u8], k: usize, s: u64, p: usize, hours: usize) -
         return false;
     }
     let used = reserve::reserve_of(6, s);
-    if !tree::check::zero_bits(code, used, 240 * k - used) {
+    if !tree::check::zero_bits(code, used, Header::BITS * k - used) {
         return false;
     }
     hours_fit(code, s, p, hours)

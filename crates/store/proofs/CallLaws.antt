@@ -1,14 +1,13 @@
 -- The calls that change a store, in the numbers that the code has. Assumes nothing.
 use mathlib.Core.Path.{_≡_, refl, sym, ap, ap₂, _∙_}
-use mathlib.Core.Bool.{Bool, true, false}
+use mathlib.Core.Bool.{Bool, true, false, not}
 use mathlib.Core.List.{List, [], _∷_, _++_}
 use Prim.Native.Nat.{ℕ, _+_, _*_, _/_, _≤_, _<_}
 use native.Mathlib.Omega.{arith}
 use lib.ListN.{length, set}
-use lib.Dec.{eqb, leb}
-use borrow.Author.Tests.{eq-eqb, ne-eqb, le-leb, lt-leb}
+use borrow.Author.Tests.{eq-eqb, ne-eqb, le-leb, lt-leb, not-false, not-true}
 use Rattle.lists.specs.Lists.{pick}
-use Rattle.store.specs.Plain.{Answer, Append, Call, Outcome, Plain, Set, change, refused, step}
+use Rattle.store.specs.Plain.{Answer, Append, Call, Outcome, Plain, Set, answered, change, refused, step}
 use Rattle.store.specs.Layout.{bytesOf}
 use Rattle.store.specs.Reading.{read}
 use Rattle.store.specs.Sound.{sound}
@@ -23,19 +22,42 @@ pub call-10 : (c : Call) (s : List ℕ) → sound s ≡ false → Called c s (re
 unfolding call pick
 call-10 c s e = record { answer = rw e refl; bytes = rw e refl }
 
+-- the same from what a check of the store answers; and what it says where it does not turn the store down
+pub turned-down : (c : Call) {s : List ℕ} {t : Bool} → t ≡ sound s → not t ≡ true → Called c s (refused 10) s
+turned-down c {s} {t} e f = call-10 c s (sym e ∙ not-true t f)
+
+pub passed : (s : List ℕ) {t : Bool} → t ≡ sound s → not t ≡ false → sound s ≡ true
+passed s {t} e f = sym e ∙ not-false t f
+
 -- a sound store answers as its list does
+pub sound-call : (c : Call) (s : List ℕ) → sound s ≡ true → Called c s (step c (read s .plain) .answer) (bytesOf (after c (read s)))
+unfolding call pick
+sound-call c s e = record { answer = rw e refl; bytes = rw e refl }
+
 call-sound : (c : Call) (s t : List ℕ) (r : Answer) → sound s ≡ true → r ≡ step c (read s .plain) .answer → t ≡ bytesOf (after c (read s))
     → Called c s r t
-unfolding call pick
-call-sound c s t r e a b = record { answer = rw e a; bytes = rw e b }
+call-sound c s t r e a b = let w = sound-call c s e in record { answer = a ∙ w .answer; bytes = b ∙ w .bytes }
 
--- a refusal changes nothing
-refused-as : (c : Call) (s : List ℕ) (k : ℕ) → sound s ≡ true → step c (read s .plain) ≡ record { answer = refused k; counts = read s .plain .counts }
-    → Called c s (refused k) s
-unfolding after apply
-refused-as c s k e st =
-    call-sound c s s (refused k) e (sym (ap (λ (o : Outcome). o .answer) st))
-    (facts s e .same ∙ sym (ap (λ (o : Outcome). bytesOf (apply (read s) (hour c (read s .plain) / 64) o (o .answer))) st))
+-- an answer that leaves the store as it is: a refusal, a number
+stays : (c : Call) (s : List ℕ) (a : Answer) → sound s ≡ true → step c (read s .plain) ≡ record { answer = a; counts = read s .plain .counts }
+    → ((p : ℕ) (o : Outcome) → apply (read s) p o a ≡ read s) → Called c s a s
+unfolding after
+stays c s a e st k =
+    call-sound c s s a e (sym (ap (λ (o : Outcome). o .answer) st))
+    (facts s e .same
+    ∙ sym
+    (ap (λ (o : Outcome). bytesOf (apply (read s) (hour c (read s .plain) / 64) o (o .answer))) st
+    ∙ ap bytesOf (k (hour c (read s .plain) / 64) (record { answer = a; counts = read s .plain .counts }))))
+
+pub refused-as : (c : Call) (s : List ℕ) (k : ℕ) → sound s ≡ true
+    → step c (read s .plain) ≡ record { answer = refused k; counts = read s .plain .counts } → Called c s (refused k) s
+unfolding apply
+refused-as c s k e st = stays c s (refused k) e st (λ p o. refl)
+
+pub answered-as : (c : Call) (s : List ℕ) (n : ℕ) → sound s ≡ true
+    → step c (read s .plain) ≡ record { answer = answered n; counts = read s .plain .counts } → Called c s (answered n) s
+unfolding apply
+answered-as c s n e st = stays c s (answered n) e st (λ p o. refl)
 
 -- a change of hour i is the call's
 changed-as : (c : Call) (s t : List ℕ) (i v : ℕ) (r : Answer) → sound s ≡ true → hour c (read s .plain) ≡ i → step c (read s .plain) ≡ changeTo s i v

@@ -1,18 +1,17 @@
 -- What the bytes of a good store say of chains: each is whole, has the cells that it needs, and ends. Assumes nothing.
-use mathlib.Core.Path.{_≡_, refl, sym, ap, ap₂, subst, _∙_}
+use mathlib.Core.Path.{_≡_, sym, ap, ap₂, _∙_}
 use mathlib.Core.Bool.{true}
 use mathlib.Core.List.{List, [], _∷_, _++_}
-use Prim.Native.Nat.{ℕ, zero, suc, _+_, _-_, _*_, _≤_, _<_}
+use Prim.Native.Nat.{ℕ, _+_, _-_, _*_, _≤_, _<_}
 use native.Mathlib.Omega.{arith}
 use lib.ListN.{length, getD}
 use Rattle.lists.specs.Lists.{concat, occurrences, sum, tabulate}
-use Rattle.bits.specs.Numbers.{little, number, numberAt}
+use Rattle.bits.specs.Numbers.{number, numberAt}
 use Rattle.store.specs.PageCode.{cells}
-use Rattle.store.specs.Plain.{Plain, need, page}
+use Rattle.store.specs.Plain.{need, page}
 use Rattle.store.specs.Layout.{Model, bytesOf, cellAt, size}
 use Rattle.store.specs.Reading.{Runs, chainIn, firstIn, read, readFor, spareIn, sumIn}
 use Rattle.store.specs.Sound.{Good, isCell, onChains, sound}
-use Rattle.lists.proofs.Tables.{tabulate-ext}
 use Rattle.store.proofs.Holds.{Holds, holds-bytes}
 use Rattle.store.proofs.Joining.{chain-head, chain-left, chain-right, chain-tail}
 use Rattle.store.proofs.Keep.{spare-is}

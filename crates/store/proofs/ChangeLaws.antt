@@ -1,19 +1,17 @@
 -- The change of one hour, in the numbers that the code has. Assumes nothing.
-use mathlib.Core.Path.{_≡_, refl, sym, ap, ap₂, _∙_}
-use mathlib.Core.Bool.{true}
-use mathlib.Core.List.{List, [], _∷_, _++_}
-use Prim.Native.Nat.{ℕ, suc, _+_, _-_, _*_, _/_, _%_, _≤_, _<_, max}
+use mathlib.Core.Path.{_≡_, sym, ap, ap₂, _∙_}
+use mathlib.Core.List.{List, [], _++_}
+use Prim.Native.Nat.{ℕ, _+_, _-_, _*_, _/_, _%_, _≤_, _<_, max}
 use native.Mathlib.Omega.{arith}
+use native.Mathlib.Decide.{decLe}
 use lib.ListN.{length, getD, set, replicate}
-use lib.Dec.{ltb}
 use borrow.Author.Tests.{lt-ltb, le-ltb}
-use Rattle.lists.specs.Lists.{pick, sum, tabulate}
+use Rattle.lists.specs.Lists.{pick, sum}
 use Rattle.bits.specs.Numbers.{numberAt}
 use Rattle.store.specs.PageCode.{cells, pageBytes}
 use Rattle.store.specs.Plain.{Outcome, Plain, change, changed, need, page, refused}
 use Rattle.store.specs.Layout.{Model, bytesOf, entryAt}
 use Rattle.store.specs.Reading.{read, sumIn}
-use Rattle.store.specs.Sound.{sound}
 use Rattle.store.specs.Call.{apply}
 use Rattle.store.specs.Links.{Ready, rewritten}
 use Rattle.store.specs.Heads.{Heads}
@@ -22,10 +20,17 @@ use Rattle.store.specs.Hours.{Asked, Changes, OfPage, changeTo, withHour
 use Rattle.store.proofs.HourLaws.{With, getD-le, page-hour, page-set, page-sum, tabulate-le, with-hour}
 use Rattle.store.proofs.Keep.{need-off}
 use Rattle.store.proofs.PageChange.{ready, rewritten-bytes}
-use Rattle.store.proofs.PageCodeLaws.{cells-most}
 use Rattle.store.proofs.ReadBack.{page-le}
 use Rattle.store.proofs.SoundFacts.{Facts, facts, sum-read}
 use Rattle.store.proofs.Spread.{Spread, spread-of}
+
+-- a rise and a fall: 'one of the two is 0'
+pub one-side : (a b : ℕ) → (a - b) * (b - a) ≡ 0
+one-side a b = go (decLe a b)
+  where
+    go : Dec (a ≤ b) → (a - b) * (b - a) ≡ 0
+    go (yes l) = let e : a - b ≡ 0 = omega arith in rw e (omega arith)
+    go (no l) = let e : b - a ≡ 0 = omega arith in rw e (omega arith)
 
 module _ (L : Plain) (ys : List ℕ) where
   change-over : 4294967295 < sum ys → change L ys ≡ record { answer = refused 3; counts = L .counts }

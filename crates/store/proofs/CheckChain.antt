@@ -9,14 +9,15 @@ use lib.ListN.{length, getD, set, length-set}
 use lib.Seq.{getD-set-same, getD-set-other}
 use lib.Dec.{leb, eqb}
 use borrow.Author.Tests.{le-leb, leb-true, eq-eqb, eqb-true}
-use Rattle.lists.specs.Lists.{occurrences, one, part}
+use Rattle.lists.specs.Lists.{occurrences, one}
 use Rattle.bits.specs.Numbers.{little, number, numberAt}
+use Rattle.bits.proofs.Little.{stored}
 use Rattle.store.specs.Layout.{cellAt}
 use Rattle.store.specs.Reading.{chainFrom}
 use Rattle.lists.proofs.Occurrences.{occurrences-append, one-equal, one-other, one-same}
 use Rattle.lists.proofs.Tests.{left, right, both}
 use Rattle.store.proofs.Joining.{chain-head, chain-new, chain-tail}
-use Rattle.store.proofs.Numbers.{stored, number-two}
+use Rattle.store.proofs.Numbers.{number-two}
 use Rattle.store.proofs.Writes.{Chain, Linked}
 
 pub data Walk : Type 0 where

@@ -6,7 +6,7 @@ use native.Mathlib.Omega.{arith}
 use Rattle.reserve.specs.Reserve.{ceil, reserve}
 use Rattle.lists.specs.Lists.{least, pick, reached, sum, tabulate}
 use Rattle.store.specs.PageCode.{cells}
-use Rattle.store.specs.Plain.{Answer, Append, Call, Free, Reach, Reading, Set, answered, change, changed, dayStart, need, next, page}
+use Rattle.store.specs.Plain.{Append, Call, Free, Reach, Reading, Set, answered, change, changed, dayStart, need, next, page}
 use Rattle.store.specs.Plain.{plainAnswers, plainFresh, refused, step}
 
 -- 'Input `n 1 2`, `a 122`, `f`, `s 0 123`, `f`, `a 5`, `r 2`, `w 124`, `w 129`, `s 1 4294967295`, `s 0 100000` prints `ok`, `ok`, `1`, `ok`,

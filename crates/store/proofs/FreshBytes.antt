@@ -1,31 +1,32 @@
 -- The bytes that fresh writes are those of a fresh store. Assumes nothing.
 use mathlib.Core.Path.{_≡_, refl, sym, ap, ap₂, _∙_}
 use mathlib.Core.Bool.{Bool, true, false, _&&_}
-use mathlib.Core.List.{List, [], _∷_, _++_}
+use mathlib.Core.Logic.{_↔_}
+use mathlib.Core.List.{List, [], _∷_}
 use Prim.Native.Nat.{ℕ, zero, suc, _+_, _-_, _*_, _≤_, _<_}
 use native.Mathlib.Nat.{not-suc-le-zero}
 use native.Mathlib.Omega.{arith}
 use native.Mathlib.Decide.{ℕ-discrete}
-use lib.ListN.{length, getD, take, replicate, length-replicate}
+use lib.ListN.{length, replicate, length-replicate}
 use lib.Dec.{leb, eqb}
-use borrow.Author.Tests.{le-leb, lt-leb, leb-true, eqb-true}
-use Rattle.lists.specs.Lists.{concat, every, first, occurrences, part, pick, sum, tabulate}
+use borrow.Author.Tests.{le-leb, lt-leb, eq-eqb, leb-true, eqb-true}
+use Rattle.lists.specs.Lists.{concat, every, part, pick, tabulate}
 use Rattle.bits.specs.Numbers.{little}
-use Rattle.store.specs.PageCode.{pageBytes}
-use Rattle.store.specs.Plain.{Answer, answered, page, refused}
+use Rattle.store.specs.Plain.{answered, refused}
 use Rattle.store.specs.Layout.{bytesOf, cellAt, fresh, header, size}
-use Rattle.store.specs.Call.{Started, freshCall, freshFits}
+use Rattle.store.specs.Call.{Fitting, Started, freshCall, freshFits}
 use Rattle.store.specs.Links.{put}
 use Rattle.store.specs.Heads.{HeadOf, Headed, chained}
 use Rattle.store.specs.declared.header.Header.{Header}
-use Rattle.lists.proofs.Tables.{getD-tabulate, length-tabulate, tabulate-ext}
-use Rattle.lists.proofs.Tests.{each}
-use Rattle.store.proofs.Filling.{Filled}
+use Rattle.lists.proofs.Tables.{getD-tabulate, tabulate-ext}
+use Rattle.lists.proofs.Tests.{each, every-of}
+use Rattle.lists.proofs.Zeros.{part-zeros}
+use Rattle.bits.proofs.Little.{little-zeros}
 use Rattle.store.proofs.FreshLaws.{cell-is, fresh-first, fresh-good, occurrences-upto, page-none}
 use Rattle.store.proofs.Holds.{holds-only}
 use Rattle.store.proofs.Spread.{Spread, part-two, spread-holds}
 use Rattle.store.proofs.Writes.{Apart, Linked, cells-apart, put-length, put-off, put-same}
-use Rattle.store.proofs.Zeros.{little-zeros, part-zeros, zeros-filled}
+use Rattle.store.proofs.Zeros.{zeros-filled}
 
 -- ---- the header, one number after another
 record Put (t s : List ℕ) (a w x : ℕ) : Type 0 where
@@ -229,14 +230,7 @@ module _ (b : List ℕ) (P C : ℕ) where
       last false = refl
 
   -- what the test says
-  pub record Fitting : Type 0 where
-    pub pages-low : 1 ≤ P
-    pub pages-high : P ≤ 1024
-    pub cells-low : 1 ≤ C
-    pub cells-high : C ≤ 1800
-    pub long : length b ≡ size P C
-
-  pub fitting : freshFits b P C ≡ true → Fitting
+  pub fitting : freshFits b P C ≡ true → Fitting b P C
   unfolding freshFits
   fitting e =
       let w = each (leb 1 P ∷ leb P 1024 ∷ leb 1 C ∷ leb C 1800 ∷ eqb (length b) (size P C) ∷ []) e in
@@ -247,6 +241,20 @@ module _ (b : List ℕ) (P C : ℕ) where
         cells-high = leb-true C 1800 (w .1 .1 .1 .0);
         long = eqb-true (length b) (size P C) (w .1 .1 .1 .1 .0);
       }
+
+  fits : Fitting b P C → freshFits b P C ≡ true
+  unfolding freshFits
+  fits w =
+      every-of (leb 1 P ∷ leb P 1024 ∷ leb 1 C ∷ leb C 1800 ∷ eqb (length b) (size P C) ∷ []) (
+        le-leb 1 P (w .pages-low),
+        (
+          le-leb P 1024 (w .pages-high),
+          (le-leb 1 C (w .cells-low), (le-leb C 1800 (w .cells-high), (eq-eqb (length b) (size P C) (w .long), tt))),
+        ),
+      )
+
+  pub fitting-exactly : Fitting b P C ↔ (freshFits b P C ≡ true)
+  fitting-exactly = (fits, fitting)
 
   pub started-9 : freshFits b P C ≡ false → Started b P C (refused 9) b
   unfolding freshCall pick

@@ -1,11 +1,12 @@
 -- The store that fresh makes is good. Assumes nothing.
 use mathlib.Core.Path.{_≡_, refl, sym, ap, ap₂, _∙_}
-use mathlib.Core.Bool.{Bool, true, false, _&&_}
+use mathlib.Core.Bool.{Bool, true, false, _&&_, and-false}
 use mathlib.Core.List.{List, [], _∷_}
-use Prim.Native.Nat.{ℕ, zero, suc, _+_, _-_, _≤_, _<_}
+use Prim.Native.Nat.{ℕ, zero, suc, _+_, _-_, _*_, _≤_, _<_}
 use native.Mathlib.Nat.{not-suc-le-zero}
 use native.Mathlib.Omega.{arith}
 use native.Mathlib.Decide.{ℕ-discrete, decLe}
+use lib.ListN.{getD}
 use lib.Dec.{leb, eqb}
 use borrow.Author.Tests.{le-leb, lt-leb, eq-eqb, ne-eqb}
 use Rattle.lists.specs.Lists.{concat, first, occurrences, one, sum, tabulate}
@@ -13,6 +14,7 @@ use Rattle.store.specs.Layout.{fresh}
 use Rattle.store.specs.Plain.{page}
 use Rattle.store.specs.Sound.{Good, isCell, onChains}
 use Rattle.lists.proofs.Occurrences.{occurrences-append}
+use Rattle.lists.proofs.Sums.{sum-nones}
 use Rattle.lists.proofs.Tables.{getD-tabulate, length-tabulate, tabulate-snoc}
 use Rattle.store.proofs.PageCodeLaws.{cells-none}
 
@@ -20,10 +22,6 @@ one-le : (b : Bool) → one b ≤ 1
 unfolding one
 one-le true = omega arith
 one-le false = omega arith
-
-and-false : (a : Bool) → (a && false) ≡ false
-and-false true = refl
-and-false false = refl
 
 pub cell-in : (C c : ℕ) → 1 ≤ c → c ≤ C → isCell C c ≡ 1
 unfolding isCell one
@@ -74,11 +72,6 @@ occurrences-upto (suc C) c =
     go (no e) (yes b) (yes d) = omega (arith, cell-in C c b d, cell-in (suc C) c b (omega arith), ap one (ne-eqb c (suc C) e))
     go (no e) (yes b) (no d) = omega (arith, cell-high C c (omega arith), cell-high (suc C) c (omega arith), ap one (ne-eqb c (suc C) e))
 
-zeros : (n : ℕ) → sum (tabulate n (λ _. 0)) ≡ 0
-unfolding tabulate sum
-zeros zero = refl
-zeros (suc n) = omega (arith, zeros n)
-
 concat-none : (n : ℕ) → concat (tabulate n (λ _. [])) ≡ []
 unfolding tabulate concat
 concat-none zero = refl
@@ -86,7 +79,7 @@ concat-none (suc n) = concat-none n
 
 pub page-none : (p : ℕ) → sum (page [] p) ≡ 0
 unfolding page
-page-none p = zeros 64
+page-none p = sum-nones 64 (λ j. getD {A = ℕ} [] (64 * p + j) 0) (λ j. refl)
 
 pub fresh-good : (P C : ℕ) → 1 ≤ P → P ≤ 1024 → 1 ≤ C → C ≤ 1800 → Good (fresh P C)
 unfolding fresh onChains sum

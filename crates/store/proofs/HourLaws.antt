@@ -6,13 +6,12 @@ use native.Mathlib.Omega.{arith}
 use native.Mathlib.Decide.{ℕ-discrete}
 use lib.ListN.{length, getD, set, length-set, length-append}
 use lib.Seq.{getD-set-same, getD-set-other, getD-append-seam, ext-getD}
-use lib.Dec.{eqb}
 use borrow.Author.Tests.{eq-eqb, ne-eqb}
 use Rattle.lists.specs.Lists.{pick, sum, tabulate}
 use Rattle.store.specs.Plain.{page}
 use Rattle.store.specs.Hours.{withHour}
 use Rattle.lists.proofs.Occurrences.{getD-snoc}
-use Rattle.lists.proofs.Sums.{sum-tabulate-one}
+use Rattle.lists.proofs.Sums.{sum-snoc, sum-tabulate-one}
 use Rattle.lists.proofs.Tables.{getD-tabulate}
 use Rattle.store.proofs.Holds.{page-length}
 use Rattle.store.proofs.Keep.{Off}
@@ -29,11 +28,6 @@ unfolding sum
 sum-set [] i v l = absurd (omega arith)
 sum-set (x ∷ xs) zero v l = omega arith
 sum-set (x ∷ xs) (suc i) v l = omega (arith, sum-set xs i v (omega arith))
-
-sum-snoc : (xs : List ℕ) (v : ℕ) → sum (xs ++ v ∷ []) ≡ sum xs + v
-unfolding sum
-sum-snoc [] v = omega arith
-sum-snoc (x ∷ xs) v = omega (arith, sum-snoc xs v)
 
 getD-end : (xs : List ℕ) → getD xs (length xs) 0 ≡ 0
 getD-end [] = refl

@@ -1,41 +1,41 @@
 -- The itemised statement of soundness is the computed one. Assumes nothing.
-use mathlib.Core.Path.{_≡_, refl, sym, ap, ap₂, subst, _∙_}
+use mathlib.Core.Path.{_≡_, refl, sym, ap, subst, _∙_}
 use mathlib.Core.Bool.{true}
-use mathlib.Core.List.{List, [], _∷_, _++_}
+use mathlib.Core.List.{List, [], _∷_}
 use Prim.Native.Nat.{ℕ, zero, suc, _+_, _-_, _*_, _≤_, _<_}
 use native.Mathlib.Decide.{decLe}
 use native.Mathlib.Omega.{arith}
 use lib.ListN.{length, getD, replicate, length-append, List·getD-eq-default}
-use lib.Dec.{ltb, leb, eqb}
+use lib.Dec.{ltb}
 use lib.Seq.{ext-getD}
-use borrow.Author.Tests.{eq-eqb, le-leb, le-ltb, lt-ltb}
+use borrow.Author.Tests.{eq-eqb, le-ltb, lt-ltb}
 use Rattle.lists.specs.Lists.{concat, occurrences, part, pick, sum, tabulate}
-use Rattle.lists.proofs.Occurrences.{length-concat, occurrences-append, occurrences-getD-concat}
+use Rattle.lists.proofs.Occurrences.{length-concat, occurrences-append, occurrences-tabulate}
 use Rattle.lists.proofs.Parts.{part-front}
 use Rattle.lists.proofs.Tables.{getD-tabulate, length-tabulate}
-use Rattle.lists.proofs.Tests.{Each}
+use Rattle.lists.proofs.Tests.{Each, same-eq}
 use Rattle.bits.specs.Numbers.{little, number, numberAt}
+use Rattle.bits.proofs.Little.{stored}
 use Rattle.bits.specs.Bits.{bits}
 use Rattle.tree.specs.Read.{counts}
 use Rattle.tree.proofs.Shape.{length-counts}
 use Rattle.store.specs.PageCode.{cells, pageBytes, pageCounts}
-use Rattle.store.specs.Plain.{Plain, page}
-use Rattle.store.specs.Layout.{Model, bytesOf, cellAt, header}
+use Rattle.store.specs.Plain.{page}
+use Rattle.store.specs.Layout.{Model, cellAt, header}
 use Rattle.store.specs.Reading.{Runs, chainFrom, chainIn, codeIn, firstIn, pageIn, read, readFor, spareIn, sumIn}
-use Rattle.store.specs.Sound.{Good, isCell, onChains, sound}
+use Rattle.store.specs.Sound.{Good, onChains, sound}
 use Rattle.store.specs.Items.{Items, pagesOf, cellsOf, hoursOf, onAll}
 use Rattle.store.proofs.ChainLaws.{Says, says}
 use Rattle.store.proofs.CheckPages.{PageGood, pageTests}
-use Rattle.store.proofs.FreshLaws.{cell-in, cell-is, cell-le}
-use Rattle.store.proofs.Holds.{Holds, page-length}
-use Rattle.store.proofs.Joining.{chain-head, chain-tail}
-use Rattle.store.proofs.Numbers.{stored}
+use Rattle.store.proofs.FreshLaws.{cell-in}
+use Rattle.store.proofs.Holds.{Holds}
+use Rattle.store.proofs.Joining.{chain-all, chain-head, chain-part, chain-tail}
 use Rattle.store.proofs.PageLaws.{quiet}
 use Rattle.store.proofs.ReadBack.{code-in, page-is, spare-in}
 use Rattle.store.proofs.SoundFacts.{Facts, facts}
 use Rattle.store.proofs.Spread.{spread-of}
 use Rattle.store.proofs.TotalLaws.{total-all}
-use Rattle.store.proofs.Verdict.{Found, headTests, same-eq, says-sound}
+use Rattle.store.proofs.Verdict.{Found, head-each, headTests, says-sound}
 use Rattle.store.proofs.Writes.{Chain, Linked}
 
 chain-long : (s : List ℕ) (P k c : ℕ) → length (chainFrom s P k c) ≡ k
@@ -67,25 +67,10 @@ module _ (s : List ℕ) (bytes : (i : ℕ) → getD s i 0 < 256) where
     big = omega (arith, i .long)
 
     chain-sub : (cs : List ℕ) → ((d : ℕ) → occurrences d cs ≤ occurrences d (onAll s)) → Chain C cs
-    chain-sub cs q = record {
-      once = λ d. omega (arith, q d, i .once d, cell-le C d);
-      from = λ d r. cell-is C d (omega (arith, q d, i .once d)) .0;
-      upto = λ d r. cell-is C d (omega (arith, q d, i .once d)) .1;
-    }
-
-    chains : List (List ℕ)
-    chains = tabulate P (chainIn s P)
+    chain-sub cs q = chain-part (onAll s) cs q (chain-all C (onAll s) (i .once))
 
     page-part : (p : ℕ) → p < P → (d : ℕ) → occurrences d (chainIn s P p) ≤ occurrences d (onAll s)
-    page-part p l d =
-        let e : getD (tabulate P (chainIn s P)) p [] ≡ chainIn s P p = getD-tabulate P (chainIn s P) p [] l in
-        let n : p < length (tabulate P (chainIn s P)) = omega (arith, length-tabulate P (chainIn s P)) in
-        omega (
-          arith,
-          ap (occurrences d) e,
-          occurrences-getD-concat d (tabulate P (chainIn s P)) p n,
-          occurrences-append d (concat (tabulate P (chainIn s P))) (spareIn s P),
-        )
+    page-part p l d = omega (arith, occurrences-tabulate d P (chainIn s P) p l, occurrences-append d (concat (tabulate P (chainIn s P))) (spareIn s P))
 
     free-part : (d : ℕ) → occurrences d (spareIn s P) ≤ occurrences d (onAll s)
     free-part d = omega (arith, occurrences-append d (concat (tabulate P (chainIn s P))) (spareIn s P))
@@ -117,35 +102,19 @@ module _ (s : List ℕ) (bytes : (i : ℕ) → getD s i 0 < 256) where
         }
 
     head-is : Each (headTests s)
-    unfolding headTests
-    head-is = (
-      le-leb 16 (length s) (omega (arith, big)),
-      (
-        same-eq _ _ (i .edition),
-        (
-          same-eq _ _ (i .gap),
-          (
-            le-leb 1 P (i .pages-from),
-            (
-              le-leb P 1024 (i .pages-to),
-              (
-                le-leb 1 C (i .cells-from),
-                (
-                  le-leb C 1800 (i .cells-to),
-                  (
-                    eq-eqb _ _ (i .long),
-                    (
-                      le-leb (hoursOf s) (64 * P) (i .hours),
-                      (le-leb (sum (tabulate P (sumIn s))) 4294967295 (i .total), tt),
-                    ),
-                  ),
-                ),
-              ),
-            ),
-          ),
-        ),
-      ),
-    )
+    head-is =
+        head-each s (record {
+          long = omega (arith, big);
+          edition = i .edition;
+          gap = i .gap;
+          pages-low = i .pages-from;
+          pages-high = i .pages-to;
+          cells-low = i .cells-from;
+          cells-high = i .cells-to;
+          size = i .long;
+          hours = i .hours;
+          total = i .total;
+        })
 
     number-is : sum (tabulate P (λ p. cells (sumIn s p))) + numberAt s 8 2 ≡ C
     unfolding spareIn chainIn

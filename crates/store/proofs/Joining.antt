@@ -3,13 +3,14 @@ use mathlib.Core.Path.{_≡_, refl, sym, ap, _∙_}
 use mathlib.Core.List.{List, [], _∷_, _++_}
 use Prim.Native.Nat.{ℕ, _+_, _-_, _*_, _≤_}
 use native.Mathlib.Omega.{arith}
-use native.Mathlib.Decide.{ℕ-discrete}
 use lib.ListN.{length}
 use Rattle.lists.specs.Lists.{first, occurrences, part}
 use Rattle.bits.specs.Numbers.{little, number, numberAt}
 use Rattle.store.specs.Layout.{cellAt}
 use Rattle.store.specs.Links.{Steps, cut, joined, linkAfter, put}
 use Rattle.store.specs.PageCode.{cells}
+use Rattle.store.specs.Sound.{isCell}
+use Rattle.store.proofs.FreshLaws.{cell-is, cell-le}
 use Rattle.lists.proofs.Occurrences.{occurrences-append, one-equal, one-same}
 use Rattle.store.proofs.Numbers.{number-two}
 use Rattle.store.proofs.Writes.{Apart, Chain, Linked, cells-apart, endOf, put-length, put-off, put-same}
@@ -31,19 +32,26 @@ pub chain-new : (C c : ℕ) (cs : List ℕ) → Chain C (c ∷ cs) → (d : ℕ)
 unfolding occurrences
 chain-new C c cs h d q e = omega (arith, h .once d, one-equal d c e)
 
-pub chain-left : {C : ℕ} (xs ys : List ℕ) → Chain C (xs ++ ys) → Chain C xs
-chain-left xs ys h = record {
-  once = λ d. omega (arith, h .once d, occurrences-append d xs ys);
-  from = λ d q. h .from d (omega (arith, occurrences-append d xs ys));
-  upto = λ d q. h .upto d (omega (arith, occurrences-append d xs ys));
+-- each cell once is a chain, and so are cells among those of a chain
+pub chain-all : (C : ℕ) (cs : List ℕ) → ((d : ℕ) → occurrences d cs ≡ isCell C d) → Chain C cs
+chain-all C cs h = record {
+  once = λ d. omega (arith, h d, cell-le C d);
+  from = λ d r. cell-is C d (omega (arith, h d)) .0;
+  upto = λ d r. cell-is C d (omega (arith, h d)) .1;
 }
 
-pub chain-right : {C : ℕ} (xs ys : List ℕ) → Chain C (xs ++ ys) → Chain C ys
-chain-right xs ys h = record {
-  once = λ d. omega (arith, h .once d, occurrences-append d xs ys);
-  from = λ d q. h .from d (omega (arith, occurrences-append d xs ys));
-  upto = λ d q. h .upto d (omega (arith, occurrences-append d xs ys));
+pub chain-part : {C : ℕ} (cs xs : List ℕ) → ((d : ℕ) → occurrences d xs ≤ occurrences d cs) → Chain C cs → Chain C xs
+chain-part cs xs q h = record {
+  once = λ d. omega (arith, q d, h .once d);
+  from = λ d r. h .from d (omega (arith, q d));
+  upto = λ d r. h .upto d (omega (arith, q d));
 }
+
+pub chain-left : {C : ℕ} (xs ys : List ℕ) → Chain C (xs ++ ys) → Chain C xs
+chain-left xs ys = chain-part (xs ++ ys) xs (λ d. omega (arith, occurrences-append d xs ys))
+
+pub chain-right : {C : ℕ} (xs ys : List ℕ) → Chain C (xs ++ ys) → Chain C ys
+chain-right xs ys = chain-part (xs ++ ys) ys (λ d. omega (arith, occurrences-append d xs ys))
 
 -- what a write leaves: the cells of a chain lie apart from it
 abbrev pub Clear : ℕ → List ℕ → ℕ → ℕ → Type 0

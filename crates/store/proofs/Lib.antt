@@ -26,6 +26,8 @@ pub mod HourLaws
 pub mod ChangeLaws
 pub mod TotalLaws
 pub mod CallLaws
+pub mod Unchanged
+pub mod Sizes
 pub mod CheckChain
 pub mod CheckPages
 pub mod PageLaws

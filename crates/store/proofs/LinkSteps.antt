@@ -1,13 +1,10 @@
--- Numbers of two bytes in a list of bytes, and the walk along links. Assumes nothing.
-use mathlib.Core.Path.{_≡_, refl, sym, ap, _∙_}
-use mathlib.Core.List.{List, [], _∷_, _++_}
-use Prim.Native.Nat.{ℕ, zero, suc, _+_, _-_, _*_, _≤_, _<_, max}
+-- The walk along links, step by step, and the writes to a page. Assumes nothing.
+use mathlib.Core.Path.{_≡_, refl}
+use mathlib.Core.List.{List}
+use Prim.Native.Nat.{ℕ, zero, suc, _+_, _-_, _≤_, _<_, max}
 use native.Mathlib.Nat.{not-suc-le-zero}
-use native.Mathlib.Numerals.{add-one}
 use native.Mathlib.Omega.{arith}
-use lib.ListN.{length, getD, drop, set, length-take, length-drop}
-use lib.Seq.{sets, take-suc, getD-drop}
-use Rattle.lists.specs.Lists.{part}
+use lib.ListN.{length}
 use Rattle.bits.specs.Numbers.{numberAt}
 use Rattle.store.specs.Layout.{cellAt, entryAt}
 use Rattle.store.specs.Links.{Steps, cut, filled, joined, linkAfter, put, rewritten}
@@ -30,21 +27,6 @@ pub steps-fit : (s : List ℕ) (P a k : ℕ) → k ≡ 0 → Steps s P a k → (
 unfolding linkAfter
 steps-fit s P a zero e h = (h, refl)
 steps-fit s P a (suc k) e h = absurd (omega (arith, e))
-
--- one more byte
-pub sets-snoc : (v s : List ℕ) (a x : ℕ) → sets s a (v ++ x ∷ []) ≡ set (sets s a v) (a + length v) x
-sets-snoc [] s a x = ap (λ (z : ℕ). set s z x) {x = a} {y = a + 0} (omega arith)
-sets-snoc (y ∷ v) s a x = sets-snoc v (set s a y) (suc a) x
-    ∙ ap (λ (z : ℕ). set (sets (set s a y) (suc a) v) z x) {x = suc a + length v} {y = a + suc (length v)} (omega arith)
-
-pub block-next : (s code : List ℕ) (a f i : ℕ) → f + i < length code
-    → set (sets s a (part code f i)) (a + i) (getD code (f + i) 0) ≡ sets s a (part code f (i + 1))
-block-next s code a f i l =
-    let e : part code f (i + 1) ≡ part code f i ++ (getD code (f + i) 0 ∷ []) =
-    rw (add-one, ← getD-drop f code i 0) (take-suc (drop f code) i 0 (omega (arith, length-drop f code))) in
-    let n : length (part code f i) ≡ i = omega (arith, length-take i (drop f code), length-drop f code) in
-    sym (ap (sets s a) e ∙ sets-snoc (part code f i) s a (getD code (f + i) 0)
-    ∙ ap (λ (z : ℕ). set (sets s a (part code f i)) (a + z) (getD code (f + i) 0)) n)
 
 -- the writes to a page, one after another
 pub rewritten-is : (s s₁ s₂ s₃ s₄ s₅ s₆ code : List ℕ) (P p e k n most w x hours : ℕ) → e ≡ entryAt p → w ≡ numberAt s 8 2 → most ≡ max k n

@@ -6,7 +6,7 @@ use native.Mathlib.Nat.{not-suc-le-zero, le-of-suc-le-suc}
 use native.Mathlib.Omega.{arith}
 use native.Mathlib.Decide.{ℕ-discrete}
 use lib.ListN.{length, getD, take, drop, set, replicate, length-append, length-take, length-drop, length-replicate, take-append-drop}
-use lib.Seq.{take-append-le, drop-append-le, drop-append-add, drop-drop, getD-set-same, getD-set-other}
+use lib.Seq.{drop-append-add, drop-drop, getD-set-same, getD-set-other}
 use Rattle.lists.specs.Lists.{concat, occurrences, part, sum}
 use Rattle.bits.specs.Numbers.{little, number, numberAt}
 use Rattle.store.specs.Layout.{Model, bytesOf, cellAt, header, resize}
@@ -14,10 +14,11 @@ use Rattle.store.specs.Links.{Ready, Steps, cut, filled, joined, put, re
 use Rattle.store.specs.PageCode.{cells, pageBytes}
 use Rattle.store.specs.Plain.{need, page}
 use Rattle.store.specs.Sound.{Good, onChains}
-use Rattle.lists.proofs.Occurrences.{occurrences-append, occurrences-getD-concat, occurrences-split, one-other, one-same}
+use Rattle.lists.proofs.Occurrences.{occurrences-append, occurrences-getD-concat, occurrences-split}
 use Rattle.lists.proofs.Tests.{both}
 use Rattle.store.proofs.Filling.{Filled}
 use Rattle.store.proofs.FreshLaws.{cell-is, cell-le}
+use Rattle.store.proofs.Joining.{chain-all, chain-part}
 use Rattle.store.proofs.Holds.{holds-only}
 use Rattle.store.proofs.Keep.{Off, keep, need-off, page-off, spare-is}
 use Rattle.store.proofs.Moved.{Moves, moves, filled-same, linked-same}
@@ -52,11 +53,7 @@ occurrences-two c (cs ∷ css) (suc p) (suc q) ne l r = omega (
 
 module _ (m : Model) (g : Good m) where
   chain-of : (cs : List ℕ) → ((d : ℕ) → occurrences d cs ≤ occurrences d (onChains m)) → Chain (m .plain .cells) cs
-  chain-of cs h = record {
-    once = λ d. omega (arith, h d, g .once d, cell-le (m .plain .cells) d);
-    from = λ d q. cell-is (m .plain .cells) d (omega (arith, h d, g .once d)) .0;
-    upto = λ d q. cell-is (m .plain .cells) d (omega (arith, h d, g .once d)) .1;
-  }
+  chain-of cs h = chain-part (onChains m) cs h (chain-all (m .plain .cells) (onChains m) (g .once))
 
   pub page-and-spare : (p : ℕ) → p < m .plain .pages → Chain (m .plain .cells) (getD (m .chains) p [] ++ m .spare)
   unfolding onChains

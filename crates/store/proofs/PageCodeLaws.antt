@@ -1,13 +1,12 @@
 -- A page's bytes: how many, and that they say its counts. Assumes nothing.
-use mathlib.Core.Path.{_≡_, refl, sym, ap, ap₂, _∙_}
-use mathlib.Core.List.{List, [], _∷_, _++_}
-use Prim.Native.Nat.{ℕ, _+_, _-_, _*_, _/_, _≤_, _<_}
+use mathlib.Core.Path.{_≡_, refl, ap, _∙_}
+use mathlib.Core.List.{List, _++_}
+use Prim.Native.Nat.{ℕ, _+_, _-_, _*_, _/_, _≤_}
 use native.Mathlib.Omega.{arith}
-use lib.ListN.{length, take, drop, replicate}
+use lib.ListN.{length, replicate}
 use lib.Seq.{take-at}
-use Rattle.lists.specs.Lists.{sum, part, fill}
+use Rattle.lists.specs.Lists.{sum, fill}
 use Rattle.bits.specs.Bits.{bits}
-use Rattle.bits.specs.Pack.{pack}
 use Rattle.bits.proofs.Packing.{length-pack, bits-pack, length-fill, bits-fill}
 use Rattle.reserve.specs.Reserve.{ceil, reserve}
 use Rattle.reserve.proofs.Fit.{most}

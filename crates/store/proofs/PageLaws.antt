@@ -1,11 +1,11 @@
 -- Pages read from a store and the list they make. Assumes nothing.
 use mathlib.Core.Path.{_≡_, sym, ap, _∙_}
-use mathlib.Core.List.{List, [], _∷_, append-nil}
+use mathlib.Core.List.{List, [], _∷_}
 use Prim.Native.Nat.{ℕ, zero, suc, _+_, _-_, _*_, _≤_, _<_}
 use native.Mathlib.Omega.{arith}
-use native.Mathlib.Decide.{ℕ-discrete, decLe}
+use native.Mathlib.Decide.{decLe}
 use lib.ListN.{length, getD, take, drop, length-take, length-drop, List·getD-eq-default}
-use lib.Seq.{getD-take, getD-drop, ext-getD, take-at, drop-at}
+use lib.Seq.{getD-take, ext-getD, take-at, drop-at}
 use lib.Dec.{ltb}
 use borrow.Author.Tests.{lt-ltb, le-ltb}
 use Rattle.lists.specs.Lists.{concat, occurrences, part, pick, sum, tabulate}
@@ -13,21 +13,14 @@ use Rattle.store.specs.Layout.{cellAt}
 use Rattle.store.specs.Plain.{page}
 use Rattle.store.specs.Reading.{codeIn}
 use Rattle.lists.proofs.Occurrences.{occurrences-append}
+use Rattle.lists.proofs.Pages.{concat-get as rows-get}
 use Rattle.lists.proofs.Sums.{sum-concat}
-use Rattle.lists.proofs.Tables.{concat-at, concat-each, getD-tabulate, length-tabulate, tabulate-ext}
+use Rattle.lists.proofs.Tables.{concat-each, getD-tabulate, length-tabulate, tabulate-ext}
 use Rattle.store.proofs.Filling.{Filled}
 use Rattle.store.proofs.Holds.{page-length}
 use Rattle.store.proofs.Joining.{chain-head, chain-tail}
 use Rattle.store.proofs.ReadBack.{concat-get, sum-table-le}
 use Rattle.store.proofs.Writes.{Chain}
-
--- hour 64p + j of pages in a row
-pages-get : (P : ℕ) (f : ℕ → List ℕ) (p j : ℕ) → ((q : ℕ) → q < P → length (f q) ≡ 64) → p < P → j < 64
-    → getD (concat (tabulate P f)) (64 * p + j) 0 ≡ getD (f p) j 0
-pages-get P f p j h l r =
-    let F : List ℕ = concat (tabulate P f) in
-    let w : part F (64 * p) 64 ≡ f p = ap (λ (z : List ℕ). part z (64 * p) 64) (sym (append-nil F)) ∙ concat-at P 64 f [] p h l in
-    sym (getD-drop (64 * p) F j 0) ∙ sym (getD-take 64 (drop (64 * p) F) j 0 r) ∙ ap (λ (z : List ℕ). getD z j 0) w
 
 abbrev pub quiet : ℕ → ℕ → List ℕ → List ℕ
 quiet N p xs = tabulate 64 (λ j. pick (ltb (64 * p + j) N) (getD xs j 0) 0)
@@ -44,7 +37,7 @@ module _ (P N : ℕ) (f : ℕ → List ℕ) (h : (q : ℕ) → q < P → length 
       go : (j : ℕ) → j < 64 → Dec (64 * p + j + 1 ≤ N)
           → getD (take N (concat (tabulate P f))) (64 * p + j) 0 ≡ pick (ltb (64 * p + j) N) (getD (f p) j 0) 0
       go j r (yes q) = rw (lt-ltb (64 * p + j) N (omega arith)) (getD-take N (concat (tabulate P f)) (64 * p + j) 0 (omega arith)
-          ∙ pages-get P f p j h l r)
+          ∙ rows-get P 64 f p j h l r)
       go j r (no q) = rw (le-ltb (64 * p + j) N (omega arith)) (List·getD-eq-default (take N (concat (tabulate P f))) 0 (omega (arith, list-length)))
 
 pub quiet-page : (xs : List ℕ) (p : ℕ) → page xs p ≡ quiet (length xs) p (page xs p)

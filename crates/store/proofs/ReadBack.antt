@@ -1,10 +1,10 @@
 -- What is read from bytes that hold a good list and chains is these. Assumes nothing.
 use mathlib.Core.Path.{_≡_, refl, sym, ap, ap₂, _∙_}
-use mathlib.Core.List.{List, [], _∷_, _++_, append-nil}
-use Prim.Native.Nat.{ℕ, suc, _+_, _-_, _*_, _/_, _%_, _≤_, _<_}
+use mathlib.Core.List.{List, [], _∷_, _++_}
+use Prim.Native.Nat.{ℕ, suc, _+_, _-_, _*_, _≤_, _<_}
 use native.Mathlib.Omega.{arith}
-use lib.ListN.{length, getD, take, drop, replicate, length-append, length-take, length-replicate}
-use lib.Seq.{take-all, ext-getD, getD-take, getD-drop, take-take, take-add}
+use lib.ListN.{length, getD, take, drop, replicate, length-append, length-replicate}
+use lib.Seq.{take-all, take-take, take-add}
 use Rattle.lists.specs.Lists.{concat, first, occurrences, part, sum, tabulate}
 use Rattle.bits.specs.Numbers.{little, number, numberAt}
 use Rattle.store.specs.Layout.{Model, cellAt, entry, header, lay, layAll, layPages}
@@ -13,9 +13,10 @@ use Rattle.store.specs.Plain.{page}
 use Rattle.store.specs.Reading.{chainFrom, chainIn, codeIn, pageIn, read, readFor, spareIn, sumIn}
 use Rattle.store.specs.Sound.{Good, onChains}
 use Rattle.lists.proofs.Occurrences.{occurrences-append, occurrences-getD-concat, one-same}
+use Rattle.lists.proofs.Pages.{paged-le, pages-back, pages-get}
 use Rattle.lists.proofs.Parts.{part-front, part-in}
-use Rattle.lists.proofs.Tables.{concat-at, concat-each, getD-tabulate, tabulate-ext}
-use Rattle.lists.proofs.Sums.{sum-halves, sum-tabulate, sum-take-le}
+use Rattle.lists.proofs.Tables.{tabulate-ext, tabulate-getD}
+use Rattle.lists.proofs.Sums.{sum-tabulate, sum-take-le}
 use Rattle.store.proofs.FreshLaws.{cell-is}
 use Rattle.store.proofs.Holds.{Holds, page-length}
 use Rattle.store.proofs.Laying.{All, all-left, all-right, pages-all}
@@ -26,49 +27,24 @@ use Rattle.store.proofs.PageCodeLaws.{counts-page, length-page}
 pub sum-table-le : (n : ℕ) (xs : List ℕ) → sum (tabulate n (λ j. getD xs j 0)) ≤ sum xs
 sum-table-le n xs = omega (arith, sum-tabulate n xs, sum-take-le n xs)
 
-sum-drop : (a : ℕ) (xs : List ℕ) → sum (drop a xs) ≤ sum xs
-sum-drop a xs = omega (arith, sum-halves a xs)
-
+-- ---- the pages, which one after another begin with the list
 pub page-le : (xs : List ℕ) (p : ℕ) → sum (page xs p) ≤ sum xs
 unfolding page
-page-le xs p =
-    omega (
-      arith,
-      ap sum (tabulate-ext 64 (λ j. getD xs (64 * p + j) 0) (λ j. getD (drop (64 * p) xs) j 0) (λ j _. sym (getD-drop (64 * p) xs j 0))),
-      sum-table-le 64 (drop (64 * p) xs),
-      sum-drop (64 * p) xs,
-    )
+page-le xs p = paged-le 64 xs p
 
--- ---- the pages, one after another, begin with the list
 pub concat-get : (P : ℕ) (xs : List ℕ) (i : ℕ) → i < 64 * P → getD (concat (tabulate P (page xs))) i 0 ≡ getD xs i 0
 unfolding page
-concat-get P xs i l =
-    let q : ℕ = i / 64 in
-    let r : ℕ = i % 64 in
-    let F : List ℕ = concat (tabulate P (page xs)) in
-    let e : i ≡ 64 * q + r = omega arith in
-    let w : part F (64 * q) 64 ≡ page xs q =
-    ap (λ (z : List ℕ). part z (64 * q) 64) (sym (append-nil F)) ∙ concat-at P 64 (page xs) [] q (λ j _. page-length xs j) (omega arith) in
-    ap (λ (z : ℕ). getD F z 0) e ∙ sym (getD-drop (64 * q) F r 0) ∙ sym (getD-take 64 (drop (64 * q) F) r 0 (omega arith))
-    ∙ ap (λ (z : List ℕ). getD z r 0) w ∙ getD-tabulate 64 (λ j. getD xs (64 * q + j) 0) r 0 (omega arith) ∙ ap (λ (z : ℕ). getD xs z 0) (sym e)
+concat-get P xs i l = pages-get 64 P xs i l
 
 pub counts-back : (P : ℕ) (xs : List ℕ) → length xs ≤ 64 * P → take (length xs) (concat (tabulate P (page xs))) ≡ xs
-counts-back P xs h =
-    let F : List ℕ = concat (tabulate P (page xs)) in
-    let lF : length F ≡ 64 * P = concat-each P 64 (page xs) (λ j _. page-length xs j) in
-    let lt : length (take (length xs) F) ≡ length xs = omega (arith, length-take (length xs) F) in
-    ext-getD 0 (take (length xs) F) xs lt (λ i l. getD-take (length xs) F i 0 (omega arith) ∙ concat-get P xs i (omega arith))
+unfolding page
+counts-back P xs h = pages-back 64 P xs h
 
 -- ---- a number on a chain
 first-low : (cs : List ℕ) (b : ℕ) → 1 ≤ b → ((c : ℕ) → 1 ≤ occurrences c cs → c < b) → first cs < b
 unfolding first occurrences
 first-low [] b p h = omega arith
 first-low (c ∷ cs) b p h = h c (omega (arith, one-same c))
-
-tabulate-getD : {A : Type 0} (xs : List A) (d : A) → tabulate (length xs) (λ p. getD xs p d) ≡ xs
-unfolding tabulate
-tabulate-getD [] d = refl
-tabulate-getD (x ∷ xs) d = ap (λ z. x ∷ z) (tabulate-getD xs d)
 
 abbrev make : ℕ → ℕ → List ℕ → List (List ℕ) → List ℕ → Model
 make P C xs css sp = record { plain = record { pages = P; cells = C; counts = xs }; chains = css; spare = sp }

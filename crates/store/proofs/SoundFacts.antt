@@ -9,7 +9,7 @@ use Rattle.lists.specs.Lists.{sum}
 use Rattle.bits.specs.Numbers.{numberAt}
 use Rattle.store.specs.Plain.{need, page}
 use Rattle.store.specs.Layout.{Model, bytesOf, entryAt}
-use Rattle.store.specs.Reading.{read, readFor, spareIn, sumIn}
+use Rattle.store.specs.Reading.{read, readFor, sumIn}
 use Rattle.store.specs.Sound.{Good, sound}
 use Rattle.store.proofs.Holds.{Holds, holds-bytes}
 use Rattle.store.proofs.Keep.{spare-is}

@@ -1,16 +1,16 @@
 -- Bytes hold a model, link by link and block by block. Assumes nothing.
-use mathlib.Core.Path.{_≡_, ap, ap₂, _∙_}
+use mathlib.Core.Path.{_≡_, ap₂, _∙_}
 use mathlib.Core.List.{List, [], _∷_, _++_}
 use Prim.Native.Nat.{ℕ, suc, _+_, _-_, _*_, _<_}
 use native.Mathlib.Omega.{arith}
 use lib.ListN.{length, getD, take, drop, replicate}
-use lib.Seq.{take-add, take-take, drop-drop}
+use lib.Seq.{take-take}
 use Rattle.lists.specs.Lists.{concat, first, part, sum}
 use Rattle.bits.specs.Numbers.{little}
 use Rattle.store.specs.Layout.{Laid, Model, cellAt, entry, header, lay, layAll, layPages}
 use Rattle.store.specs.PageCode.{cells, pageBytes}
 use Rattle.store.specs.Plain.{page}
-use Rattle.lists.proofs.Parts.{part-front, part-in}
+use Rattle.lists.proofs.Parts.{part-front, part-in, part-more}
 use Rattle.store.proofs.Filling.{Filled}
 use Rattle.store.proofs.Holds.{Holds}
 use Rattle.store.proofs.Laying.{All, all-append, all-left, all-right, pages-all}
@@ -20,7 +20,7 @@ abbrev pub Cell : List ℕ → ℕ → Laid → Type 0
 Cell s P l = part s (cellAt P (l .cell)) 32 ≡ l .bytes
 
 pub part-two : (s : List ℕ) (a i n : ℕ) (x y : List ℕ) → part s a i ≡ x → part s (a + i) n ≡ y → part s a (i + n) ≡ x ++ y
-part-two s a i n x y e f = take-add i n (drop a s) ∙ ap₂ _++_ e (ap (take n) (drop-drop i a s) ∙ f)
+part-two s a i n x y e f = part-more s a i n ∙ ap₂ _++_ e f
 
 laid-linked : (s : List ℕ) (P a : ℕ) (cs code : List ℕ) → part s a 2 ≡ little 2 (first cs) → All (Cell s P) (lay cs code) → Linked s P a cs 0
 unfolding lay first little

@@ -12,17 +12,21 @@ use Rattle.lists.specs.Lists.{pick, sum}
 use Rattle.store.specs.Call.{after, apply, hour}
 use Rattle.store.specs.Layout.{Model, resize}
 use Rattle.store.specs.PageCode.{cells}
-use Rattle.store.specs.Plain.{Append, Call, Count, Day, Free, Outcome, Plain, Reach}
+use Rattle.store.specs.Plain.{Answer, Append, Call, Count, Day, Free, Outcome, Plain, Reach}
 use Rattle.store.specs.Plain.{Reading, Set, answered, change, changed, need, next, refused, step}
 use Rattle.store.specs.Sound.{Good}
 use Rattle.lists.proofs.Occurrences.{getD-snoc}
 use Rattle.store.proofs.Keep.{Off, keep}
 
+-- 'the rise and the fall of need'
+abbrev pub moved : Plain → List ℕ → Answer
+moved L ys = changed (need ys (L .pages) - need (L .counts) (L .pages)) (need (L .counts) (L .pages) - need ys (L .pages))
+
 -- the three ends of a change, each with what holds there
 pub data Change (L : Plain) (ys : List ℕ) : Outcome → Type 0 where
   over : 4294967295 < sum ys → Change L ys (record { answer = refused 3; counts = L .counts })
   short : sum ys ≤ 4294967295 → L .cells < need ys (L .pages) → Change L ys (record { answer = refused 12; counts = L .counts })
-  done : (r f : ℕ) → sum ys ≤ 4294967295 → need ys (L .pages) ≤ L .cells → Change L ys (record { answer = changed r f; counts = ys })
+  done : sum ys ≤ 4294967295 → need ys (L .pages) ≤ L .cells → Change L ys (record { answer = moved L ys; counts = ys })
 
 pub change-is : (L : Plain) (ys : List ℕ) → Change L ys (change L ys)
 unfolding change pick
@@ -31,20 +35,20 @@ change-is L ys = go (ltb 4294967295 (sum ys)) (ltb (L .cells) (need ys (L .pages
     go : (a b : Bool) → ltb 4294967295 (sum ys) ≡ a → ltb (L .cells) (need ys (L .pages)) ≡ b → Change L ys (change L ys)
     go true b e d = rw e (over (ltb-true _ _ e))
     go false true e d = rw (e, d) (short (ltb-false _ _ e) (ltb-true _ _ d))
-    go false false e d = rw (e, d) (done _ _ (ltb-false _ _ e) (ltb-false _ _ d))
+    go false false e d = rw (e, d) (done (ltb-false _ _ e) (ltb-false _ _ d))
 
 -- a call's end: a refusal or an answer that changes nothing, or a change of the hour i
 pub data End (L : Plain) (i : ℕ) : Outcome → Type 0 where
   said : (n : ℕ) → End L i (record { answer = answered n; counts = L .counts })
   not-done : (n : ℕ) → End L i (record { answer = refused n; counts = L .counts })
-  made : (r f : ℕ) (ys : List ℕ) → Off (L .counts) ys i → i < 64 * L .pages → length ys ≤ 64 * L .pages → sum ys ≤ 4294967295
-      → need ys (L .pages) ≤ L .cells → End L i (record { answer = changed r f; counts = ys })
+  made : (ys : List ℕ) → Off (L .counts) ys i → i < 64 * L .pages → length ys ≤ 64 * L .pages → sum ys ≤ 4294967295
+      → need ys (L .pages) ≤ L .cells → End L i (record { answer = moved L ys; counts = ys })
 
 change-end : {L : Plain} {ys : List ℕ} {o : Outcome} (i : ℕ) → Off (L .counts) ys i → i < 64 * L .pages → length ys ≤ 64 * L .pages
     → Change L ys o → End L i o
 change-end i o li ly (over h) = not-done 3
 change-end i o li ly (short h j) = not-done 12
-change-end i o li ly (done r f h j) = made r f _ o li ly h j
+change-end i o li ly (done h j) = made _ o li ly h j
 
 pick-end : (L : Plain) (i : ℕ) (b : Bool) (x y : Outcome) → (b ≡ true → End L i x) → (b ≡ false → End L i y) → End L i (pick b x y)
 unfolding pick
@@ -73,7 +77,7 @@ apply-good : (m : Model) (i : ℕ) {o : Outcome} → Good m → End (m .plain) i
 unfolding apply
 apply-good m i g (said n) = g
 apply-good m i g (not-done n) = g
-apply-good m i g (made r f ys o li ly ls ln) = keep m ys i g o li ly ls ln
+apply-good m i g (made ys o li ly ls ln) = keep m ys i g o li ly ls ln
 
 pub after-good : (c : Call) (m : Model) → Good m → Good (after c m)
 unfolding after
@@ -84,7 +88,7 @@ apply-plain : (m : Model) (i : ℕ) {o : Outcome} → End (m .plain) i o
 unfolding apply resize
 apply-plain m i (said n) = refl
 apply-plain m i (not-done n) = refl
-apply-plain m i (made r f ys o li ly ls ln) = refl
+apply-plain m i (made ys o li ly ls ln) = refl
 
 pub after-plain : (c : Call) (m : Model) → Good m → after c m .plain ≡ next c (m .plain)
 unfolding after next

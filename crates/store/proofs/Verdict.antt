@@ -5,40 +5,35 @@ use mathlib.Core.List.{List, [], _∷_, _++_}
 use Prim.Native.Nat.{ℕ, suc, _+_, _-_, _*_, _≤_, _<_}
 use native.Mathlib.Omega.{arith}
 use native.Mathlib.Decide.{decLe}
-use lib.ListN.{length, getD, take, replicate, length-replicate, getD-replicate, length-append, List·getD-eq-default}
+use lib.ListN.{length, getD, take, replicate, length-replicate, length-append}
 use lib.Dec.{leb, eqb}
 use borrow.Author.Tests.{le-leb, leb-true, eq-eqb, eqb-true}
 use Rattle.lists.specs.Lists.{concat, every, occurrences, part, same, sum, tabulate}
 use Rattle.bits.specs.Numbers.{little, numberAt}
+use Rattle.bits.proofs.Little.{stored}
 use Rattle.store.specs.Layout.{Model, bytesOf, header}
 use Rattle.store.specs.PageCode.{cells, pageBytes}
 use Rattle.store.specs.Plain.{need, page}
 use Rattle.store.specs.Reading.{chainFrom, chainIn, codeIn, pageIn, read, readFor, spareIn, sumIn}
 use Rattle.store.specs.Sound.{Good, isCell, onChains, sound}
-use Rattle.lists.proofs.Occurrences.{length-concat, occurrences-append, occurrences-getD-concat}
+use Rattle.lists.proofs.Occurrences.{length-concat, occurrences-append, occurrences-tabulate}
 use Rattle.lists.proofs.Parts.{part-front}
 use Rattle.lists.proofs.Sums.{sum-concat, sum-take-le}
 use Rattle.lists.proofs.Tables.{getD-tabulate, length-tabulate, tabulate-ext}
-use Rattle.lists.proofs.Tests.{left, right, Each, both, each, every-of, same-is, same-refl}
+use Rattle.lists.proofs.Tests.{left, right, Each, agree, both, each, every-of, same-eq, same-is}
+use Rattle.lists.proofs.Zeros.{zeros-at}
 use Rattle.store.proofs.CheckChain.{Marked, Unmarked, Walk, and-then, broken, goes-then}
 use Rattle.store.proofs.CheckChain.{markAll, marks, walk-through, walkMarks, walked, whole}
 use Rattle.store.proofs.CheckPages.{PageGood, checkPages, pageTests, pages-good, pages-through, pagesOf, then-whole}
-use Rattle.store.proofs.FreshLaws.{cell-in, cell-is, cell-le}
+use Rattle.store.proofs.FreshLaws.{cell-in, cell-le}
 use Rattle.store.proofs.Holds.{Holds, holds-bytes, holds-only, page-length}
+use Rattle.store.proofs.Joining.{chain-all, chain-part}
 use Rattle.store.proofs.Keep.{spare-is}
-use Rattle.store.proofs.Numbers.{stored}
 use Rattle.store.proofs.PageLaws.{code-filled, concat-range, list-length, page-back, quiet, quiet-page, sum-pages-le}
 use Rattle.store.proofs.ReadBack.{code-in, hours-is, page-is, spare-count, spare-in, sum-is}
 use Rattle.store.proofs.SoundLaws.{once-of, ones-same, same-ones, sound-bytes, sound-good}
 use Rattle.store.proofs.Spread.{Spread, part-two, spread-holds, spread-of}
 use Rattle.store.proofs.Writes.{Chain, Linked}
-
-pub same-eq : (xs ys : List ℕ) → xs ≡ ys → same xs ys ≡ true
-same-eq xs ys e = rw e (same-refl ys)
-
-occurrences-tabulate : (d n : ℕ) (f : ℕ → List ℕ) (p : ℕ) → p < n → occurrences d (f p) ≤ occurrences d (concat (tabulate n f))
-occurrences-tabulate d n f p l =
-    omega (arith, occurrences-getD-concat d (tabulate n f) p (omega (arith, length-tabulate n f)), ap (occurrences d) (getD-tabulate n f p [] l))
 
 unfoldable pub ends-well : Walk → (List ℕ → Bool) → Bool
 ends-well (whole m) f = f m
@@ -53,18 +48,9 @@ well : (m : List ℕ) (f : List ℕ → Bool) → ends-well (whole m) f ≡ f m
 unfolding ends-well
 well m f = refl
 
-equal : (a b : Bool) → (a ≡ true → b ≡ true) → (b ≡ true → a ≡ true) → a ≡ b
-equal true b h j = sym (h refl)
-equal false true h j = j refl
-equal false false h j = refl
-
 zeros-marked : (C : ℕ) → Marked C (replicate 1801 0) []
 unfolding occurrences
-zeros-marked C d l = go (decLe (d + 1) 1801)
-  where
-    go : Dec (d + 1 ≤ 1801) → getD (replicate {A = ℕ} 1801 0) d 0 ≡ 0
-    go (yes q) = getD-replicate 1801 d 0 0 (omega arith)
-    go (no q) = List·getD-eq-default (replicate {A = ℕ} 1801 0) 0 {n = d} (omega (arith, length-replicate {A = ℕ} 1801 0))
+zeros-marked C d l = zeros-at 1801 d
 
 unfoldable pub headTests : List ℕ → List Bool
 headTests s =
@@ -79,6 +65,41 @@ headTests s =
     ∷ leb (numberAt s 12 4) (64 * numberAt s 2 2)
     ∷ leb (sum (tabulate (numberAt s 2 2) (sumIn s))) 4294967295
     ∷ []
+
+-- they hold
+pub record Headed (s : List ℕ) : Type 0 where
+  pub long : 16 ≤ length s
+  pub edition : part s 0 2 ≡ 1 ∷ 0 ∷ []
+  pub gap : part s 10 2 ≡ 0 ∷ 0 ∷ []
+  pub pages-low : 1 ≤ numberAt s 2 2
+  pub pages-high : numberAt s 2 2 ≤ 1024
+  pub cells-low : 1 ≤ numberAt s 4 2
+  pub cells-high : numberAt s 4 2 ≤ 1800
+  pub size : length s ≡ 16 + 6 * numberAt s 2 2 + 32 * numberAt s 4 2
+  pub hours : numberAt s 12 4 ≤ 64 * numberAt s 2 2
+  pub total : sum (tabulate (numberAt s 2 2) (sumIn s)) ≤ 4294967295
+
+pub head-each : (s : List ℕ) → Headed s → Each (headTests s)
+unfolding headTests
+head-each s h = (
+  le-leb _ _ (h .long),
+  (
+    same-eq _ _ (h .edition),
+    (
+      same-eq _ _ (h .gap),
+      (
+        le-leb _ _ (h .pages-low),
+        (
+          le-leb _ _ (h .pages-high),
+          (
+            le-leb _ _ (h .cells-low),
+            (le-leb _ _ (h .cells-high), (eq-eqb _ _ (h .size), (le-leb _ _ (h .hours), (le-leb _ _ (h .total), tt)))),
+          ),
+        ),
+      ),
+    ),
+  ),
+)
 
 -- the pages' chains, then the free one
 unfoldable pub chainsWalk : List ℕ → Walk
@@ -274,229 +295,167 @@ module _ (s : List ℕ) (bytes : (i : ℕ) → getD s i 0 < 256) where
   pub checked-sound : checked s ≡ true → sound s ≡ true
   checked-sound e = says-sound (found e)
 
--- the other way
-module _ (s : List ℕ) (bytes : (i : ℕ) → getD s i 0 < 256) (g : Good (readFor s (numberAt s 2 2))) (h : Holds s (readFor s (numberAt s 2 2))) where
-  sp : Spread s (readFor s (numberAt s 2 2))
-  sp = spread-of s (readFor s (numberAt s 2 2)) (g .rows) h
+  -- the other way
+  module _ (g : Good (readFor s P)) (h : Holds s (readFor s P)) where
+    sp : Spread s (readFor s P)
+    sp = spread-of s (readFor s P) (g .rows) h
 
-  xs : List ℕ
-  xs = readFor s (numberAt s 2 2) .plain .counts
+    xs : List ℕ
+    xs = readFor s P .plain .counts
 
-  hours-eq : numberAt s 12 4 ≡ length xs
-  unfolding xs
-  hours-eq = hours-is s (readFor s (numberAt s 2 2)) g h
+    hours-eq : N ≡ length xs
+    unfolding xs
+    hours-eq = hours-is s (readFor s P) g h
 
-  long-eq : length (chainFrom s (numberAt s 2 2) (numberAt s 8 2) (numberAt s 6 2)) ≡ numberAt s 8 2
-  unfolding readFor spareIn
-  long-eq = sym (spare-count s (readFor s (numberAt s 2 2)) g h)
+    long-eq : length F ≡ numberAt s 8 2
+    unfolding readFor spareIn
+    long-eq = sym (spare-count s (readFor s P) g h)
 
-  all-once : (d : ℕ) → occurrences d
-      (concat (tabulate (numberAt s 2 2) (chainIn s (numberAt s 2 2))) ++ chainFrom s (numberAt s 2 2) (numberAt s 8 2) (numberAt s 6 2)) ≡ isCell
-      (numberAt s 4 2) d
-  unfolding readFor spareIn onChains
-  all-once d = g .once d
+    all-once : (d : ℕ) → occurrences d (concat chains ++ F) ≡ isCell C d
+    unfolding readFor spareIn onChains
+    all-once d = g .once d
 
-  chain-sub : (cs : List ℕ)
-      → ((d : ℕ) → occurrences d cs ≤ occurrences d
-      (concat (tabulate (numberAt s 2 2) (chainIn s (numberAt s 2 2))) ++ chainFrom s (numberAt s 2 2) (numberAt s 8 2) (numberAt s 6 2)))
-      → Chain (numberAt s 4 2) cs
-  chain-sub cs q = record {
-    once = λ d. omega (arith, q d, all-once d, cell-le (numberAt s 4 2) d);
-    from = λ d r. cell-is (numberAt s 4 2) d (omega (arith, q d, all-once d)) .0;
-    upto = λ d r. cell-is (numberAt s 4 2) d (omega (arith, q d, all-once d)) .1;
-  }
+    counted : (d : ℕ) → occurrences d (concat chains) + occurrences d F ≡ isCell C d
+    counted d = sym (occurrences-append d (concat chains) F) ∙ all-once d
 
-  sum-eq : (p : ℕ) → p < numberAt s 2 2 → sumIn s p ≡ sum (page xs p)
-  unfolding readFor spareIn xs
-  sum-eq p l = sum-is s (readFor s (numberAt s 2 2)) g h p l
+    chain-sub : (cs : List ℕ) → ((d : ℕ) → occurrences d cs ≤ occurrences d (concat chains) + occurrences d F) → Chain C cs
+    chain-sub cs q = chain-part (concat chains ++ F) cs (λ d. omega (arith, q d, occurrences-append d (concat chains) F)) (chain-all C _ all-once)
 
-  page-eq : (p : ℕ) → p < numberAt s 2 2 → pageIn s (numberAt s 2 2) p ≡ page xs p
-  unfolding readFor spareIn xs
-  page-eq p l = page-is s (readFor s (numberAt s 2 2)) g h p l
+    sum-eq : (p : ℕ) → p < P → sumIn s p ≡ sum (page xs p)
+    unfolding readFor spareIn xs
+    sum-eq p l = sum-is s (readFor s P) g h p l
 
-  page-chain : (p : ℕ) → p < numberAt s 2 2 → Chain (numberAt s 4 2) (chainIn s (numberAt s 2 2) p)
-  page-chain p l =
-      chain-sub (chainIn s (numberAt s 2 2) p)
-      (λ d. omega (
-        arith,
-        occurrences-append d (concat (tabulate (numberAt s 2 2) (chainIn s (numberAt s 2 2))))
-            (chainFrom s (numberAt s 2 2) (numberAt s 8 2) (numberAt s 6 2)),
-        occurrences-tabulate d (numberAt s 2 2) (chainIn s (numberAt s 2 2)) p l,
-      ))
+    page-eq : (p : ℕ) → p < P → pageIn s P p ≡ page xs p
+    unfolding readFor spareIn xs
+    page-eq p l = page-is s (readFor s P) g h p l
 
-  page-ok : (p : ℕ) → p < numberAt s 2 2 → PageGood s (numberAt s 2 2) (numberAt s 4 2) (numberAt s 12 4) p
-  unfolding pageTests readFor spareIn xs
-  page-ok p l =
-      let e = page-eq p l in
-      record {
-        tests = (
-          eq-eqb _ _ (ap length e ∙ page-length xs p),
-          (
-            eq-eqb _ _ (ap sum e ∙ sym (sum-eq p l)),
+    page-chain : (p : ℕ) → p < P → Chain C (chainIn s P p)
+    page-chain p l = chain-sub (chainIn s P p) (λ d. omega (arith, occurrences-tabulate d P (chainIn s P) p l))
+
+    page-ok : (p : ℕ) → p < P → PageGood s P C N p
+    unfolding pageTests readFor spareIn xs
+    page-ok p l =
+        let e = page-eq p l in
+        record {
+          tests = (
+            eq-eqb _ _ (ap length e ∙ page-length xs p),
             (
-              same-eq _ _ (code-in s (readFor s (numberAt s 2 2)) g h p l ∙ ap pageBytes (sym e)),
-              (same-eq _ _ (e ∙ quiet-page xs p ∙ ap₂ (λ (n : ℕ) (z : List ℕ). quiet n p z) (sym hours-eq) (sym e)), tt),
-            ),
-          ),
-        );
-        long = ap length (sym (getD-tabulate (numberAt s 2 2) (chainIn s (numberAt s 2 2)) p [] l)) ∙ g .lengths p l ∙ ap cells (sym (sum-eq p l));
-        chain = page-chain p l;
-        linked = rw (getD-tabulate (numberAt s 2 2) (chainIn s (numberAt s 2 2)) p [] l) at (sp .links p l);
-      }
-
-  -- the walks go through
-  abbrev Z : List ℕ
-  Z = replicate 1801 0
-
-  concat-is : concat (pagesOf s (numberAt s 2 2) 0 (numberAt s 2 2)) ≡ concat (tabulate (numberAt s 2 2) (chainIn s (numberAt s 2 2)))
-  concat-is = ap concat
-      (tabulate-ext (numberAt s 2 2) (λ j. chainIn s (numberAt s 2 2) (0 + j)) (chainIn s (numberAt s 2 2))
-      (λ j _. ap (chainIn s (numberAt s 2 2)) {x = 0 + j} {y = j} (omega arith)))
-
-  size-fits : 16 + 6 * numberAt s 2 2 + 32 * numberAt s 4 2 ≤ length s
-  unfolding readFor spareIn
-  size-fits = omega (arith, h .size)
-
-  cells-small : numberAt s 4 2 ≤ 1800
-  unfolding readFor spareIn
-  cells-small = g .cells-high
-
-  pages-small : numberAt s 2 2 ≤ 1024
-  unfolding readFor spareIn
-  pages-small = g .pages-high
-
-  through : (m′ : List ℕ) × (checkPages s (numberAt s 2 2) (numberAt s 4 2) (numberAt s 12 4) (numberAt s 2 2) 0 Z ≡ whole m′)
-      × (length m′ ≡ length Z)
-      × Marked (numberAt s 4 2) m′ (concat (pagesOf s (numberAt s 2 2) 0 (numberAt s 2 2)))
-  through =
-      pages-through s (numberAt s 2 2) (numberAt s 4 2) (numberAt s 12 4) cells-small pages-small bytes size-fits (numberAt s 2 2) 0 Z []
-      (omega (arith, cells-small, length-replicate {A = ℕ} 1801 0)) (zeros-marked (numberAt s 4 2))
-      (λ j l. let e : 0 + j ≡ j = omega arith in rw e (page-ok j l))
-      (λ d. omega (
-        arith,
-        ap (occurrences d) concat-is,
-        occurrences-append d (concat (tabulate (numberAt s 2 2) (chainIn s (numberAt s 2 2))))
-            (chainFrom s (numberAt s 2 2) (numberAt s 8 2) (numberAt s 6 2)),
-        all-once d,
-        cell-le (numberAt s 4 2) d,
-      ))
-
-  free-chain : Chain (numberAt s 4 2) (chainFrom s (numberAt s 2 2) (numberAt s 8 2) (numberAt s 6 2))
-  free-chain = chain-sub (chainFrom s (numberAt s 2 2) (numberAt s 8 2) (numberAt s 6 2))
-      (λ d. omega (
-        arith,
-        occurrences-append d (concat (tabulate (numberAt s 2 2) (chainIn s (numberAt s 2 2))))
-            (chainFrom s (numberAt s 2 2) (numberAt s 8 2) (numberAt s 6 2)),
-      ))
-
-  free-linked : Linked s (numberAt s 2 2) 6 (chainFrom s (numberAt s 2 2) (numberAt s 8 2) (numberAt s 6 2)) 0
-  unfolding readFor spareIn
-  free-linked = sp .free
-
-  free-new : Unmarked (through .0) (chainFrom s (numberAt s 2 2) (numberAt s 8 2) (numberAt s 6 2))
-  free-new d q =
-      through .3 d (free-chain .upto d q)
-      ∙ omega (
-        arith,
-        ap (occurrences d) concat-is,
-        occurrences-append d (concat (tabulate (numberAt s 2 2) (chainIn s (numberAt s 2 2))))
-            (chainFrom s (numberAt s 2 2) (numberAt s 8 2) (numberAt s 6 2)),
-        all-once d,
-        cell-le (numberAt s 4 2) d,
-      )
-
-  last-marks : List ℕ
-  last-marks = markAll (through .0) (chainFrom s (numberAt s 2 2) (numberAt s 8 2) (numberAt s 6 2))
-
-  walk-is : chainsWalk s ≡ whole last-marks
-  unfolding chainsWalk last-marks
-  walk-is =
-      ap (λ (z : Walk). and-then z (λ m. walkMarks s (numberAt s 2 2) (numberAt s 4 2) (numberAt s 8 2) m 6)) (through .1)
-      ∙ then-whole (through .0) (λ m. walkMarks s (numberAt s 2 2) (numberAt s 4 2) (numberAt s 8 2) m 6)
-      ∙ ap (λ (z : ℕ). walkMarks s (numberAt s 2 2) (numberAt s 4 2) z (through .0) 6) (sym long-eq)
-      ∙ walk-through s (numberAt s 2 2) (numberAt s 4 2) cells-small (chainFrom s (numberAt s 2 2) (numberAt s 8 2) (numberAt s 6 2))
-      (through .0) 6 free-chain free-linked free-new
-
-  last-marked : Marked (numberAt s 4 2) last-marks
-      (concat (pagesOf s (numberAt s 2 2) 0 (numberAt s 2 2)) ++ chainFrom s (numberAt s 2 2) (numberAt s 8 2) (numberAt s 6 2))
-  unfolding last-marks
-  last-marked =
-      marks (numberAt s 4 2) (chainFrom s (numberAt s 2 2) (numberAt s 8 2) (numberAt s 6 2)) (through .0)
-      (concat (pagesOf s (numberAt s 2 2) 0 (numberAt s 2 2)))
-      (omega (arith, through .2, cells-small, length-replicate {A = ℕ} 1801 0)) free-chain free-new (through .3)
-
-  number-is : sum (tabulate (numberAt s 2 2) (λ p. cells (sumIn s p))) + numberAt s 8 2 ≡ numberAt s 4 2
-  unfolding readFor spareIn need xs
-  number-is =
-      ap (λ (z : List ℕ). sum z + numberAt s 8 2)
-      (tabulate-ext (numberAt s 2 2) (λ p. cells (sumIn s p)) (λ p. cells (sum (page xs p))) (λ p l. ap cells (sum-eq p l)))
-      ∙ omega (arith, spare-is (readFor s (numberAt s 2 2)) g, long-eq)
-
-  clear-is : codeIn s (numberAt s 2 2) (chainFrom s (numberAt s 2 2) (numberAt s 8 2) (numberAt s 6 2)) ≡ replicate (30 * numberAt s 8 2) 0
-  unfolding readFor spareIn
-  clear-is = spare-in s (readFor s (numberAt s 2 2)) g h ∙ ap (λ (z : ℕ). replicate (30 * z) 0) long-eq
-
-  end-ok : every (endTests s last-marks) ≡ true
-  unfolding endTests
-  end-ok =
-      every-of (endTests s last-marks) (
-        ones-same (numberAt s 4 2) (λ j. getD last-marks (suc j) 0)
-            (λ j l. last-marked (suc j) (omega arith)
-            ∙ ap (λ (z : List ℕ). occurrences (suc j) (z ++ chainFrom s (numberAt s 2 2) (numberAt s 8 2) (numberAt s 6 2))) concat-is
-            ∙ all-once (suc j) ∙ cell-in (numberAt s 4 2) (suc j) (omega arith) (omega arith)),
-        (eq-eqb _ _ number-is, (same-eq _ _ clear-is, tt)),
-      )
-
-  head-ok : every (headTests s) ≡ true
-  unfolding headTests readFor spareIn header concat little xs
-  head-ok =
-      every-of (headTests s) (
-        le-leb 16 (length s) (omega (arith, size-fits)),
-        (
-          same-eq (part s 0 2) (1 ∷ 0 ∷ []) (part-front s (header (readFor s (numberAt s 2 2))) 0 16 2 (h .head) (omega arith)),
-          (
-            same-eq (part s 10 2) (0 ∷ 0 ∷ []) (sp .gap),
-            (
-              le-leb 1 (numberAt s 2 2) (g .pages-low),
+              eq-eqb _ _ (ap sum e ∙ sym (sum-eq p l)),
               (
-                le-leb (numberAt s 2 2) 1024 (g .pages-high),
-                (
-                  le-leb 1 (numberAt s 4 2) (g .cells-low),
-                  (
-                    le-leb (numberAt s 4 2) 1800 (g .cells-high),
-                    (
-                      eq-eqb (length s) (16 + 6 * numberAt s 2 2 + 32 * numberAt s 4 2) (h .size),
-                      (
-                        le-leb (numberAt s 12 4) (64 * numberAt s 2 2) (omega (arith, hours-eq, g .hours)),
-                        (
-                          le-leb (sum (tabulate (numberAt s 2 2) (sumIn s))) 4294967295
-                              (omega (
-                                arith,
-                                ap sum (tabulate-ext (numberAt s 2 2) (sumIn s) (λ p. sum (page xs p)) sum-eq),
-                                sum-pages-le (numberAt s 2 2) xs,
-                                g .total,
-                              )),
-                          tt,
-                        ),
-                      ),
-                    ),
-                  ),
-                ),
+                same-eq _ _ (code-in s (readFor s P) g h p l ∙ ap pageBytes (sym e)),
+                (same-eq _ _ (e ∙ quiet-page xs p ∙ ap₂ (λ (n : ℕ) (z : List ℕ). quiet n p z) (sym hours-eq) (sym e)), tt),
               ),
             ),
-          ),
-        ),
-      )
+          );
+          long = ap length (sym (getD-tabulate P (chainIn s P) p [] l)) ∙ g .lengths p l ∙ ap cells (sym (sum-eq p l));
+          chain = page-chain p l;
+          linked = rw (getD-tabulate P (chainIn s P) p [] l) at (sp .links p l);
+        }
 
-  pub sound-checked : checked s ≡ true
-  unfolding checked
-  sound-checked = both head-ok (ap (λ (z : Walk). ends-well z (λ m. every (endTests s m))) walk-is ∙ well last-marks (λ m. every (endTests s m))
-      ∙ end-ok)
+    -- the walks go through
+    abbrev Z : List ℕ
+    Z = replicate 1801 0
+
+    size-fits : 16 + 6 * P + 32 * C ≤ length s
+    unfolding readFor spareIn
+    size-fits = omega (arith, h .size)
+
+    cells-small : C ≤ 1800
+    unfolding readFor spareIn
+    cells-small = g .cells-high
+
+    pages-small : P ≤ 1024
+    unfolding readFor spareIn
+    pages-small = g .pages-high
+
+    through : (m′ : List ℕ) × (checkPages s P C N P 0 Z ≡ whole m′) × (length m′ ≡ length Z) × Marked C m′ (concat (pagesOf s P 0 P))
+    through =
+        pages-through s P C N cells-small pages-small bytes size-fits P 0 Z []
+        (omega (arith, cells-small, length-replicate {A = ℕ} 1801 0)) (zeros-marked C)
+        (λ j l. let e : 0 + j ≡ j = omega arith in rw e (page-ok j l))
+        (λ d. omega (arith, ap (occurrences d) pages-are, counted d, cell-le C d))
+
+    spare-chain : Chain C F
+    spare-chain = chain-sub F (λ d. omega arith)
+
+    spare-linked : Linked s P 6 F 0
+    unfolding readFor spareIn
+    spare-linked = sp .free
+
+    free-new : Unmarked (through .0) F
+    free-new d q = through .3 d (spare-chain .upto d q) ∙ omega (arith, ap (occurrences d) pages-are, counted d, cell-le C d)
+
+    last-marks : List ℕ
+    last-marks = markAll (through .0) F
+
+    walk-is : chainsWalk s ≡ whole last-marks
+    unfolding chainsWalk last-marks
+    walk-is =
+        ap (λ (z : Walk). and-then z (λ m. walkMarks s P C (numberAt s 8 2) m 6)) (through .1)
+        ∙ then-whole (through .0) (λ m. walkMarks s P C (numberAt s 8 2) m 6)
+        ∙ ap (λ (z : ℕ). walkMarks s P C z (through .0) 6) (sym long-eq)
+        ∙ walk-through s P C cells-small F (through .0) 6 spare-chain spare-linked free-new
+
+    last-marked : Marked C last-marks (concat (pagesOf s P 0 P) ++ F)
+    unfolding last-marks
+    last-marked =
+        marks C F (through .0) (concat (pagesOf s P 0 P))
+        (omega (arith, through .2, cells-small, length-replicate {A = ℕ} 1801 0)) spare-chain free-new (through .3)
+
+    number-is : sum (tabulate P (λ p. cells (sumIn s p))) + numberAt s 8 2 ≡ C
+    unfolding readFor spareIn need xs
+    number-is =
+        ap (λ (z : List ℕ). sum z + numberAt s 8 2)
+        (tabulate-ext P (λ p. cells (sumIn s p)) (λ p. cells (sum (page xs p))) (λ p l. ap cells (sum-eq p l)))
+        ∙ omega (arith, spare-is (readFor s P) g, long-eq)
+
+    clear-is : codeIn s P F ≡ replicate (30 * numberAt s 8 2) 0
+    unfolding readFor spareIn
+    clear-is = spare-in s (readFor s P) g h ∙ ap (λ (z : ℕ). replicate (30 * z) 0) long-eq
+
+    end-ok : every (endTests s last-marks) ≡ true
+    unfolding endTests
+    end-ok =
+        every-of (endTests s last-marks) (
+          ones-same C (λ j. getD last-marks (suc j) 0)
+              (λ j l. last-marked (suc j) (omega arith)
+              ∙ ap (λ (z : List ℕ). occurrences (suc j) (z ++ F)) pages-are ∙ all-once (suc j) ∙ cell-in C (suc j) (omega arith) (omega arith)),
+          (eq-eqb _ _ number-is, (same-eq _ _ clear-is, tt)),
+        )
+
+    head-ok : every (headTests s) ≡ true
+    unfolding readFor spareIn header concat little xs
+    head-ok =
+        every-of (headTests s)
+        (head-each s (record {
+          long = omega (arith, size-fits);
+          edition = part-front s (header (readFor s P)) 0 16 2 (h .head) (omega arith);
+          gap = sp .gap;
+          pages-low = g .pages-low;
+          pages-high = g .pages-high;
+          cells-low = g .cells-low;
+          cells-high = g .cells-high;
+          size = h .size;
+          hours = omega (arith, hours-eq, g .hours);
+          total =
+              omega (
+                arith,
+                ap sum (tabulate-ext P (sumIn s) (λ p. sum (page xs p)) sum-eq),
+                sum-pages-le P xs,
+                g .total,
+              );
+        }))
+
+    pub sound-checked : checked s ≡ true
+    unfolding checked
+    sound-checked =
+        both head-ok
+        (ap (λ (z : Walk). ends-well z (λ m. every (endTests s m))) walk-is ∙ well last-marks (λ m. every (endTests s m)) ∙ end-ok)
 
 -- the check says `sound`
 pub verdict : (s : List ℕ) → ((i : ℕ) → getD s i 0 < 256) → checked s ≡ sound s
 unfolding read
-verdict s b = equal (checked s) (sound s) (checked-sound s b) back
+verdict s b = agree (checked s) (sound s) (checked-sound s b) back
   where
     back : sound s ≡ true → checked s ≡ true
     back e =

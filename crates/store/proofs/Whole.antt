@@ -1,35 +1,35 @@
 -- Mission demand 3: any list of calls on a fresh store. Assumes nothing.
 use mathlib.Core.Path.{_≡_, refl, sym, ap, _∙_}
 use mathlib.Core.Logic.{_↔_}
-use mathlib.Core.Bool.{Bool, true, false, _&&_}
+use mathlib.Core.Bool.{Bool, true, false}
 use mathlib.Core.List.{List, [], _∷_, _++_}
 use Prim.Native.Nat.{ℕ, zero, suc, _+_, _-_, _*_, _≤_, _<_}
 use native.Mathlib.Nat.{not-suc-le-zero, le-of-suc-le-suc}
 use native.Mathlib.Omega.{arith}
 use native.Mathlib.Decide.{decLe}
 use lib.ListN.{length, getD, take, set, List·getD-eq-default}
-use lib.Dec.{leb, eqb}
-use borrow.Author.Tests.{le-leb, lt-leb, eq-eqb}
-use Rattle.lists.specs.Lists.{pick, sum, tabulate}
-use Rattle.store.specs.Call.{Result, after, call, freshCall, freshFits, storeAnswers, storeEnd}
-use Rattle.store.specs.Layout.{Model, bytesOf, fresh, size}
+use borrow.Author.Tests.{lt-leb}
+use Rattle.lists.specs.Lists.{pick, sum}
+use Rattle.store.specs.Call.{Fitting, Result, after, call, freshCall, storeAnswers, storeEnd}
+use Rattle.store.specs.Layout.{Model, bytesOf, fresh}
 use Rattle.store.specs.PageCode.{cells}
 use Rattle.store.specs.Plain.{Answer, Append, Call, Count, Day, Free, Outcome, Plain, Reach, Reading, Set}
 use Rattle.store.specs.Plain.{answered, change, need, next, page, plainAnswers, plainEnd, plainFresh, refuse, refused, step, tell}
 use Rattle.store.specs.Reading.{read}
 use Rattle.store.specs.Sound.{Good, sound}
-use Rattle.store.specs.Demand3.{Demand3, Passes, answerAt, appends, listAfter, sets, storeAfter}
-use Rattle.lists.proofs.Tests.{every-of}
+use Rattle.store.specs.Demand3.{Demand-3, Demand3, Passes, answerAt, appends, listAfter, sets, storeAfter}
+use Rattle.lists.proofs.Sums.{sum-most}
 use Rattle.store.proofs.ChainLaws.{Says, says}
+use Rattle.store.proofs.FreshBytes.{fitting-exactly}
 use Rattle.store.proofs.FreshLaws.{fresh-good}
 use Rattle.store.proofs.Holds.{holds-bytes}
-use Rattle.store.proofs.Keep.{spare-is}
 use Rattle.store.proofs.PageCodeLaws.{cells-most}
 use Rattle.store.proofs.ReadBack.{page-le, read-is}
 use Rattle.store.proofs.SoundLaws.{sound-bytes}
 use Rattle.store.proofs.StepLaws.{Change, after-good, after-plain, change-is, done, over, short}
+use Rattle.store.proofs.Unchanged.{kept-at}
 
-call-good : (c : Call) (m : Model) → Good m → call c (bytesOf m) ≡ record { answer = step c (m .plain) .answer; bytes = bytesOf (after c m) }
+pub call-good : (c : Call) (m : Model) → Good m → call c (bytesOf m) ≡ record { answer = step c (m .plain) .answer; bytes = bytesOf (after c m) }
 unfolding call pick
 call-good c m g = rw (sound-bytes m g, read-is (bytesOf m) m g (holds-bytes m g))
 
@@ -74,16 +74,11 @@ length-answers [] L = refl
 length-answers (c ∷ cs) L = ap suc (length-answers cs (next c L))
 
 -- with at least eight cells a page the cells suffice
-at-most-eight : (n : ℕ) (f : ℕ → ℕ) → ((p : ℕ) → f p ≤ 8) → sum (tabulate n f) ≤ 8 * n
-unfolding sum tabulate
-at-most-eight zero f h = omega arith
-at-most-eight (suc n) f h = omega (arith, h 0, at-most-eight n (λ p. f (suc p)) (λ p. h (suc p)))
-
 enough : (L : Plain) (ys : List ℕ) → 8 * L .pages ≤ L .cells → sum ys ≤ 4294967295 → need ys (L .pages) ≤ L .cells
 unfolding need
 enough L ys h t = omega (
   arith,
-  at-most-eight (L .pages) (λ p. cells (sum (page ys p))) (λ p. cells-most (sum (page ys p)) (omega (arith, page-le ys p))),
+  sum-most 8 (L .pages) (λ p. cells (sum (page ys p))) (λ p. cells-most (sum (page ys p)) (omega (arith, page-le ys p))),
 )
 
 change-never : (L : Plain) (ys : List ℕ) → 8 * L .pages ≤ L .cells → change L ys .answer ≡ refused 12 → ⊥
@@ -92,7 +87,7 @@ change-never L ys h = go (change-is L ys)
     go : {o : Outcome} → Change L ys o → o .answer ≡ refused 12 → ⊥
     go (over a) e = let z : _≡_ {A = ℕ} 3 12 = cc in omega arith
     go (short a d) e = omega (arith, enough L ys h a)
-    go (done r f a d) e = let z : _≡_ {A = ℕ} 0 1 = cc in omega arith
+    go (done a d) e = let z : _≡_ {A = ℕ} 0 1 = cc in omega arith
 
 -- refused for cells exactly when the changed list needs more than there are
 change-when : (L : Plain) (ys : List ℕ) → sum ys ≤ 4294967295 → (change L ys .answer ≡ refused 12) ↔ (L .cells < need ys (L .pages))
@@ -101,7 +96,7 @@ change-when L ys t = go (change-is L ys)
     go : {o : Outcome} → Change L ys o → (o .answer ≡ refused 12) ↔ (L .cells < need ys (L .pages))
     go (over a) = absurd (omega arith)
     go (short a d) = (λ _. d, λ _. refl)
-    go (done r f a d) = (λ e. let z : _≡_ {A = ℕ} 0 1 = cc in absurd (omega arith), λ e. absurd (omega arith))
+    go (done a d) = (λ e. let z : _≡_ {A = ℕ} 0 1 = cc in absurd (omega arith), λ e. absurd (omega arith))
 
 -- ---- the same of calls
 pick-never : (b : Bool) (k : ℕ) (L : Plain) (o : Outcome) → (k ≡ 12 → ⊥) → (o .answer ≡ refused 12 → ⊥) → pick b (refuse k L) o .answer ≡ refused 12
@@ -145,16 +140,10 @@ never-said : (a : Answer) (c : Call) (L : Plain) (P C : ℕ) → a ≡ step c L 
 never-said a c L P C e p q h r = step-never c L (omega arith) (sym e ∙ r)
 
 -- ---- mission demand 3
-module _ (b : List ℕ) (P C : ℕ) (p₁ : 1 ≤ P) (p₂ : P ≤ 1024) (c₁ : 1 ≤ C) (c₂ : C ≤ 1800) (lb : length b ≡ size P C) (cs : List Call) where
-  fits : freshFits b P C ≡ true
-  unfolding freshFits
-  fits =
-      every-of (leb 1 P ∷ leb P 1024 ∷ leb 1 C ∷ leb C 1800 ∷ eqb (length b) (size P C) ∷ [])
-      (le-leb 1 P p₁, (le-leb P 1024 p₂, (le-leb 1 C c₁, (le-leb C 1800 c₂, (eq-eqb (length b) (size P C) lb, tt)))))
-
+module _ (b : List ℕ) (P C : ℕ) (h : Fitting b P C) (cs : List Call) where
   started : freshCall b P C ≡ record { answer = answered 0; bytes = bytesOf (fresh P C) }
   unfolding freshCall pick
-  started = rw fits
+  started = rw (fitting-exactly b P C .0 h)
 
   start : freshCall b P C .bytes ≡ bytesOf (fresh P C)
   start = ap (λ (z : Result). z .bytes) started
@@ -166,7 +155,7 @@ module _ (b : List ℕ) (P C : ℕ) (p₁ : 1 ≤ P) (p₂ : P ≤ 1024) (c₁ :
   ended : (m : Model) × Good m × (storeAfter b P C cs ≡ bytesOf m) × (m .plain ≡ listAfter P C cs)
       × (storeAnswers cs (freshCall b P C .bytes) ≡ plainAnswers cs (plainFresh P C))
   ended =
-      let w = ends cs (fresh P C) (fresh-good P C p₁ p₂ c₁ c₂) in
+      let w = ends cs (fresh P C) (fresh-good P C (h .pages-low) (h .pages-high) (h .cells-low) (h .cells-high)) in
       (w .0, w .1, ap (storeEnd cs) start ∙ w .2, w .3 ∙ ap (plainEnd cs) begun, ap (storeAnswers cs) start ∙ w .4 ∙ ap (plainAnswers cs) begun)
 
   pages-kept : listAfter P C cs .pages ≡ P
@@ -194,16 +183,16 @@ module _ (b : List ℕ) (P C : ℕ) (p₁ : 1 ≤ P) (p₂ : P ≤ 1024) (c₁ :
   cells-then n = end-cells (take n cs) (plainFresh P C)
 
   never : 8 * P ≤ C → (n : ℕ) → Dec (suc n ≤ length cs) → answerAt b P C cs n ≡ refused 12 → ⊥
-  never h n (yes l) e = never-said (answerAt b P C cs n) (getD cs n Free) (listAfter P C (take n cs)) P C (answer-is n l) (pages-then n)
-      (cells-then n) h e
-  never h n (no l) e =
+  never k n (yes l) e = never-said (answerAt b P C cs n) (getD cs n Free) (listAfter P C (take n cs)) P C (answer-is n l) (pages-then n)
+      (cells-then n) k e
+  never k n (no l) e =
       let d : answerAt b P C cs n ≡ answered 0 =
       List·getD-eq-default (storeAnswers cs (freshCall b P C .bytes)) (answered 0)
       (omega (arith, ap (λ (z : List Answer). length z) (ended .4), length-answers cs (plainFresh P C))) in
       let z : _≡_ {A = ℕ} 0 1 = cc in omega arith
 
-  pub demand-3 : Demand3 b P C cs
-  demand-3 =
+  holds : Demand3 b P C cs
+  holds =
       let w = said in
       record {
         accepted = ap (λ (z : Result). z .answer) started;
@@ -220,7 +209,11 @@ module _ (b : List ℕ) (P C : ℕ) (p₁ : 1 ≤ P) (p₂ : P ≤ 1024) (c₁ :
         once = w .once;
         need-fits = omega (arith, w .free-cells);
         free = free-said (storeAfter b P C cs) (listAfter P C cs) P C (w .is-sound) list-is pages-kept cells-kept;
-        when-12 = λ n l ys h. when-said (answerAt b P C cs n) (getD cs n Free) (listAfter P C (take n cs)) P C ys (answer-is n l) (pages-then n)
-            (cells-then n) h;
-        never-12 = λ h n. never h n (decLe (suc n) (length cs));
+        when-12 = λ n l ys a. when-said (answerAt b P C cs n) (getD cs n Free) (listAfter P C (take n cs)) P C ys (answer-is n l) (pages-then n)
+            (cells-then n) a;
+        never-12 = λ e n. never e n (decLe (suc n) (length cs));
+        kept = kept-at cs (freshCall b P C .bytes);
       }
+
+pub demand-3 : Demand-3
+demand-3 = holds

@@ -1,16 +1,15 @@
--- Zeros: in lists, and in the code of free cells. Assumes nothing.
-use mathlib.Core.Path.{_≡_, refl, sym, ap, ap₂, _∙_}
+-- Zeros in the code of free cells, and bytes that were all made 0. Assumes nothing.
+use mathlib.Core.Path.{_≡_, sym, ap, _∙_}
 use mathlib.Core.List.{List, [], _∷_, _++_, append-nil}
-use Prim.Native.Nat.{ℕ, zero, suc, _+_, _-_, _*_, _/_, _≤_, _<_}
-use native.Mathlib.Nat.{not-suc-le-zero, le-of-suc-le-suc}
+use Prim.Native.Nat.{ℕ, _+_, _-_, _*_, _≤_}
 use native.Mathlib.Omega.{arith}
 use native.Mathlib.Decide.{ℕ-discrete}
-use lib.ListN.{length, take, drop, replicate, length-drop}
+use lib.ListN.{length, drop, replicate, length-drop}
 use lib.Seq.{drop-length, take-append-le, drop-append-le}
 use Rattle.lists.specs.Lists.{occurrences, part}
-use Rattle.bits.specs.Numbers.{little}
 use Rattle.store.specs.Layout.{cellAt}
 use Rattle.lists.proofs.Occurrences.{one-other, one-same}
+use Rattle.lists.proofs.Zeros.{drop-zeros, take-zeros}
 use Rattle.store.proofs.Filling.{Filled}
 
 pub filled-split : (s : List ℕ) (P : ℕ) (xs ys u v : List ℕ) → length u ≡ 30 * length xs → Filled s P (xs ++ ys) (u ++ v)
@@ -20,16 +19,6 @@ filled-split s P [] ys (x ∷ u) v e h = absurd (omega (arith, e))
 filled-split s P (x ∷ xs) ys u v e h =
     let w = filled-split s P xs ys (drop 30 u) v (omega (arith, length-drop 30 u)) (rw (drop-append-le 30 u v (omega arith)) at (h .1)) in
     ((h .0 ∙ take-append-le 30 u v (omega arith), w .0), w .1)
-
-pub take-zeros : (n k : ℕ) → k ≤ n → take k (replicate {A = ℕ} n 0) ≡ replicate k 0
-take-zeros n zero l = refl
-take-zeros zero (suc k) l = absurd (not-suc-le-zero l)
-take-zeros (suc n) (suc k) l = ap (λ (z : List ℕ). 0 ∷ z) (take-zeros n k (le-of-suc-le-suc l))
-
-pub drop-zeros : (n k : ℕ) → drop k (replicate {A = ℕ} n 0) ≡ replicate (n - k) 0
-drop-zeros n zero = ap (λ (z : ℕ). replicate {A = ℕ} z 0) {x = n} {y = n - 0} (omega arith)
-drop-zeros zero (suc k) = ap (λ (z : ℕ). replicate {A = ℕ} z 0) {x = 0} {y = 0 - suc k} (omega arith)
-drop-zeros (suc n) (suc k) = drop-zeros n k ∙ ap (λ (z : ℕ). replicate {A = ℕ} z 0) {x = n - k} {y = suc n - suc k} (omega arith)
 
 abbrev pub Zeroed : List ℕ → ℕ → List ℕ → Type 0
 Zeroed s P cs = (d : ℕ) → 1 ≤ occurrences d cs → part s (cellAt P d + 2) 30 ≡ replicate 30 0
@@ -52,14 +41,6 @@ zeros-filled s P (c ∷ cs) n l h = (
       ∙ sym (take-zeros n 30 (omega arith)),
   rw (drop-zeros n 30) (zeros-filled s P cs (n - 30) (omega arith) (λ d q. h d (omega arith))),
 )
-
-pub part-zeros : (n a k : ℕ) → a + k ≤ n → part (replicate n 0) a k ≡ replicate k 0
-part-zeros n a k l = ap (take k) (drop-zeros n a) ∙ take-zeros (n - a) k (omega arith)
-
-pub little-zeros : (w : ℕ) → little w 0 ≡ replicate w 0
-unfolding little
-little-zeros zero = refl
-little-zeros (suc w) = ap (λ (z : List ℕ). 0 ∷ z) (little-zeros w)
 
 -- a list whose elements were all made 0
 pub cleared : (s t : List ℕ) (i : ℕ) → i ≡ length s → t ≡ replicate i 0 ++ drop i s → t ≡ replicate (length s) 0

@@ -2,7 +2,7 @@
 use mathlib.Core.Bool.{Bool, true, false}
 use mathlib.Core.List.{List, [], _∷_}
 use mathlib.Core.Path.{_≡_}
-use Prim.Native.Nat.{ℕ, _/_}
+use Prim.Native.Nat.{ℕ, _/_, _≤_}
 use lib.ListN.{length}
 use lib.Dec.{leb, eqb}
 use Rattle.lists.specs.Lists.{every, pick, sum}
@@ -64,6 +64,14 @@ freshFits b P C = every (leb 1 P ∷ leb P 1024 ∷ leb 1 C ∷ leb C 1800 ∷ e
 unfoldable pub freshCall : List ℕ → ℕ → ℕ → Result
 freshCall b P C =
     pick (freshFits b P C) (record { answer = answered 0; bytes = bytesOf (fresh P C) }) (record { answer = refused 9; bytes = b })
+
+-- fresh does not refuse, as facts: 'Limits of the store: pages P from 1 to 1,024; cells C from 1 to 1,800', 'Length is 16 + 6P + 32C bytes exactly'
+pub record Fitting (b : List ℕ) (P C : ℕ) : Type 0 where
+  pub pages-low : 1 ≤ P
+  pub pages-high : P ≤ 1024
+  pub cells-low : 1 ≤ C
+  pub cells-high : C ≤ 1800
+  pub long : length b ≡ size P C
 
 -- the answer r and the bytes t are those of fresh on the buffer b
 pub record Started (b : List ℕ) (P C : ℕ) (r : Answer) (t : List ℕ) : Type 0 where

@@ -3,7 +3,7 @@ use mathlib.Core.Bool.{true}
 use mathlib.Core.List.{List, [], _∷_, _++_}
 use mathlib.Core.Logic.{_↔_}
 use mathlib.Core.Path.{_≡_}
-use Prim.Native.Nat.{ℕ, _+_, _-_, _*_, _≤_, _<_}
+use Prim.Native.Nat.{ℕ, suc, _+_, _-_, _*_, _≤_, _<_}
 use lib.ListN.{length, getD, take, set}
 use Rattle.lists.specs.Lists.{tabulate, concat, sum, occurrences}
 use Rattle.bits.specs.Numbers.{numberAt}
@@ -12,7 +12,7 @@ use Rattle.store.specs.Plain.{Plain, Call, Append, Set, Free, Answer, an
 use Rattle.store.specs.Layout.{size}
 use Rattle.store.specs.Reading.{Runs, firstIn, sumIn, chainIn, spareIn, read}
 use Rattle.store.specs.Sound.{sound, isCell}
-use Rattle.store.specs.Call.{call, storeEnd, storeAnswers, freshCall}
+use Rattle.store.specs.Call.{Fitting, call, storeEnd, storeAnswers, freshCall}
 
 -- a store that fresh made in the buffer b, after a list of calls; and the plain list that was fed the same calls
 abbrev pub storeAfter : List ℕ → ℕ → ℕ → List Call → List ℕ
@@ -31,8 +31,8 @@ pub data Passes : Call → Plain → List ℕ → Type 0 where
       → Passes (Append v) L (L .counts ++ v ∷ [])
   sets : (i v : ℕ) (L : Plain) → i < length (L .counts) → sum (set (L .counts) i v) ≤ 4294967295 → Passes (Set i v) L (set (L .counts) i v)
 
--- For P pages, C cells, any buffer b of the right length and any list of calls. As the list is any list, all of this holds after every
--- call of it.
+-- For P pages and C cells within the limits, any buffer b of the right length and any list of calls (`Demand-3` below). As the list is any
+-- list, all of this holds after every call of it.
 pub record Demand3 (b : List ℕ) (P C : ℕ) (cs : List Call) : Type 0 where
   pub accepted : freshCall b P C .answer ≡ answered 0
   -- each answer is the plain list's
@@ -58,3 +58,9 @@ pub record Demand3 (b : List ℕ) (P C : ℕ) (cs : List Call) : Type 0 where
       → (answerAt b P C cs n ≡ refused 12) ↔ (C < need ys P)
   -- and never with at least eight cells a page
   pub never-12 : 8 * P ≤ C → (n : ℕ) → answerAt b P C cs n ≡ refused 12 → ⊥
+  -- a refused call changes no byte: after call n, if it is refused, the store is what the n calls before it left
+  pub kept : (n k : ℕ) → answerAt b P C cs n ≡ refused k → storeAfter b P C (take (suc n) cs) ≡ storeAfter b P C (take n cs)
+
+-- The whole claim: wherever refusal 9 does not stand ('P, C or buffer length wrong'), and for every list of calls
+abbrev pub Demand-3 : Type 0
+Demand-3 = (b : List ℕ) (P C : ℕ) → Fitting b P C → (cs : List Call) → Demand3 b P C cs

@@ -77,7 +77,7 @@ fresh P C = record { plain = record { pages = P; cells = C; counts = [] }; chain
 
 -- The list becomes ys, and page p is to have k cells: the line between the page's chain and the free chain behind it moves. So 'a page
 -- that grows takes cells from the front of the free chain, in that order, onto the end of its own. A page that shrinks gives its last
--- cell to the front of the free chain, then the one before it' (`one-more`, one cell at a time).
+-- cell to the front of the free chain, then the one before it' (`InOrder`, one cell at a time).
 unfoldable pub resize : Model → List ℕ → ℕ → ℕ → Model
 resize m ys p k = record {
   plain = record { pages = m .plain .pages; cells = m .plain .cells; counts = ys };

@@ -2,9 +2,11 @@
 pub mod PageCode
 pub mod Plain
 pub mod Layout
+pub mod OneCell
 pub mod Reading
 pub mod Sound
 pub mod Call
+pub mod Demand1
 pub mod Demand3
 pub mod Links
 pub mod Heads

@@ -61,21 +61,22 @@ change L ys =
 abbrev pub dayStart : ℕ → ℕ
 dayStart d = 24 * d
 
--- 'append v: refused 11 if 64P hours are logged, 3 .., 12 ..; else v joins the end'
--- 'set i v: 7 if i ≥ N; 3; 12; else count i becomes v'
--- 'count i: 7 if i ≥ N. Reading i: 7 if i > N'
--- 'reach p: 8 if p is above the total; else the smallest i with reading at i ≥ p'
--- 'day d: reading at 24d + 24 minus reading at 24d; 7 if 24d + 24 > N'
--- 'free: C - need'
+-- what each call answers, and the counts afterwards: the refusals first, in document 01's order
 unfoldable pub step : Call → Plain → Outcome
+-- 'refused 11 if 64P hours are logged'
 step (Append v) L = pick (leb (64 * L .pages) (length (L .counts))) (refuse 11 L) (change L (L .counts ++ v ∷ []))
+-- '7 if i ≥ N'
 step (Set i v) L = pick (leb (length (L .counts)) i) (refuse 7 L) (change L (set (L .counts) i v))
 step (Count i) L = pick (leb (length (L .counts)) i) (refuse 7 L) (tell (getD (L .counts) i 0) L)
+-- '7 if i > N'
 step (Reading i) L = pick (ltb (length (L .counts)) i) (refuse 7 L) (tell (reading (L .counts) i) L)
+-- '8 if p is above the total'
 step (Reach p) L = pick (ltb (sum (L .counts)) p) (refuse 8 L) (tell (reached p (L .counts)) L)
+-- 'reading at 24d + 24 minus reading at 24d; 7 if 24d + 24 > N'
 step (Day d) L =
     pick (ltb (length (L .counts)) (dayStart (d + 1))) (refuse 7 L)
     (tell (reading (L .counts) (dayStart (d + 1)) - reading (L .counts) (dayStart d)) L)
+-- 'C - need'
 step Free L = tell (L .cells - need (L .counts) (L .pages)) L
 
 -- the plain list after a call

@@ -1,4 +1,5 @@
 // A page's code along its chain.
+use crate::header::Header;
 use crate::header::cell_at;
 use crate::links::link;
 ghost use mathlib.Core.Path.{_≡_};
@@ -14,7 +15,7 @@ pub fn put_block(s: &mut [u8], at: usize, code: &[u8], from: usize)
     ensures { λ _. ⌜ now (s .exit) ≡ sets (now (s .entry)) at (part (now (code .entry)) from 30) ⌝ }
 {
     let mut i = 0;
-    while i < 30 {
+    while i < Header::CODE {
         s[at + i] = code[from + i];
         i = i + 1;
     }
@@ -29,7 +30,7 @@ pub(crate) fn fill(s: &mut [u8], pages: usize, e: usize, n: usize, code: &[u8])
     let mut j = 0;
     while j < n {
         at = cell_at(pages, link(s, at));
-        put_block(s, at + 2, code, 30 * j);
+        put_block(s, at + 2, code, Header::CODE * j);
         j = j + 1;
     }
 }

@@ -34,6 +34,8 @@ impl Header {
     pub const CELL: usize = 32;
 
     pub const CODE: usize = 30;
+    // The bits of a cell's code.
+    pub const BITS: usize = 240;
 
     // The header of a fresh store: all cells are free.
     pub fn fresh(pages: usize, cells: usize) -> Self

@@ -1,4 +1,5 @@
 // A page's code as the bytes of its cells.
+use crate::header::Header;
 ghost use mathlib.Core.Path.{_≡_};
 ghost use Prim.Native.Nat.{_≤_};
 ghost use Rattle.store.specs.PageCode.{cells};
@@ -8,5 +9,5 @@ pub fn cells_of(s: u64) -> usize
     requires { ⌜ s ≤ 4294967295 ⌝ }
     ensures { λ r. ⌜ (r ≡ cells s) × (r ≤ 8) ⌝ }
 {
-    (reserve::reserve_of(6, s) + 239) / 240
+    (reserve::reserve_of(6, s) + (Header::BITS - 1)) / Header::BITS
 }

@@ -1,16 +1,18 @@
-// The sum of a store's list.
+// The sums in a store's page entries, added up.
 use crate::header::entry_at;
 ghost use mathlib.Core.Bool.{true};
 ghost use mathlib.Core.Path.{_≡_};
-ghost use Rattle.lists.specs.Lists.{sum};
+ghost use Prim.Native.Nat.{_+_, _*_, _≤_};
+ghost use lib.ListN.{length};
+ghost use Rattle.lists.specs.Lists.{sum, tabulate};
 ghost use Rattle.bits.specs.Numbers.{numberAt};
-ghost use Rattle.store.specs.Reading.{read};
+ghost use Rattle.store.specs.Reading.{read, sumIn};
 ghost use Rattle.store.specs.Sound.{sound};
 
-// The total of a sound store of so many pages: the sums in its page entries, added up.
-pub fn total(s: &[u8], pages: usize) -> u64
-    requires { ⌜ (sound (now s) ≡ true) × (pages ≡ numberAt (now s) 2 2) ⌝ }
-    ensures { λ r. ⌜ r ≡ sum (read (now (s .entry)) .plain .counts) ⌝ }
+// The sums of so many pages, of any bytes that have their entries. It fits: 1,024 pages of less than 2^32.
+pub fn page_sums(s: &[u8], pages: usize) -> u64
+    requires { ⌜ (pages ≤ 1024) × (16 + 6 * pages ≤ length (now s)) ⌝ }
+    ensures { λ r. ⌜ r ≡ sum (tabulate pages (sumIn (now (s .entry)))) ⌝ }
 {
     let mut all = 0;
     let mut p = 0;
@@ -19,4 +21,12 @@ pub fn total(s: &[u8], pages: usize) -> u64
         p = p + 1;
     }
     all
+}
+
+// The total of a sound store of so many pages: the sum of its list.
+pub fn total(s: &[u8], pages: usize) -> u64
+    requires { ⌜ (sound (now s) ≡ true) × (pages ≡ numberAt (now s) 2 2) ⌝ }
+    ensures { λ r. ⌜ r ≡ sum (read (now (s .entry)) .plain .counts) ⌝ }
+{
+    page_sums(s, pages)
 }

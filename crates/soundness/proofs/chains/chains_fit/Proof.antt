@@ -12,7 +12,7 @@ use borrow.Author.Tests.{eqb-false, eqb-true, not-false, not-true}
 use Rattle.lists.specs.Lists.{part}
 use Rattle.bits.specs.Numbers.{numberAt}
 use Rattle.soundness.specs.Chains.{chainsFit, freeFits}
-use Rattle.soundness.proofs.HeadTest.{bounds, headed}
+use Rattle.soundness.proofs.HeadTest.{Bounds, bounds, headed}
 use Rattle.soundness.proofs.ChainTest.{SoFar, cell-broken, cell-next, cellsOn, gather-next, gather-start, page-next}
 use Rattle.soundness.proofs.ChainTest.{page-open, page-start, page-wrong, pages-end, pages-start, pagesOn}
 use Rattle.soundness.proofs.CellTest.{cell-range, good-cell, met-cell, no-cell}
@@ -38,6 +38,21 @@ Inv-pages s pages cells hours marks₀ code₀ ok₀ p₀ marks code ok p =
 abbrev μ-pages : tie.MeasureT-pages
 μ-pages s pages cells hours marks₀ code₀ ok₀ p₀ marks code ok p = pages - p
 
+-- what the header holds to
+held : (o : tie.After-of Inv-loop μ-loop Inv-pages μ-pages) → Bounds (o .before .before .args .s .now) (o .of .result)
+held o = bounds (o .before .before .args .s .now) (o .of .result) (o .before .before .pre) (o .of .ensures)
+
+-- past the test of a cell: the header's place, and what is known of the cell
+abbrev header-of : tie.Else1 Inv-loop μ-loop Inv-pages μ-pages → tie.After-of Inv-loop μ-loop Inv-pages μ-pages
+header-of fine = fine .before .before .before .before .before .before .before .before .before .before
+
+known : (fine : tie.Else1 Inv-loop μ-loop Inv-pages μ-pages) → Bounds (header-of fine .before .before .args .s .now) (header-of fine .of .result)
+    × (1 ≤ fine .before .before .link .result)
+    × (fine .before .before .link .result ≤ header-of fine .of .result .cells)
+known fine =
+    let w = cell-range _ (fine .before .before .link .result) (fine .before .is-cell .ensures) (fine .if1 .left) in
+    (held (header-of fine), w .0, w .1)
+
 of-requires : tie.Need-of-requires Inv-loop μ-loop Inv-pages μ-pages
 of-requires c κs = omega (arith, headed (c .before .args .s .now) (c .before .pre) .long)
 
@@ -49,13 +64,13 @@ pages-holds c =
 entry-at-requires : tie.Need-entry-at-requires Inv-loop μ-loop Inv-pages μ-pages
 entry-at-requires c κs =
     let o = c .before .before in
-    let h = bounds (o .before .before .args .s .now) (o .of .result) (o .before .before .pre) (o .of .ensures) in
+    let h = held o in
     omega arith
 
 get4-requires : tie.Need-get4-requires Inv-loop μ-loop Inv-pages μ-pages
 get4-requires c κs =
     let o = c .before .before .before in
-    let h = bounds (o .before .before .args .s .now) (o .of .result) (o .before .before .pre) (o .of .ensures) in
+    let h = held o in
     omega (arith, c .entry-at .ensures)
 
 cells-of-requires : tie.Need-cells-of-requires Inv-loop μ-loop Inv-pages μ-pages
@@ -64,7 +79,7 @@ cells-of-requires c κs = omega (arith, c .get4 .ensures .small)
 add-at : tie.Need-add-at Inv-loop μ-loop Inv-pages μ-pages
 add-at c =
     let o = c .before .before .before .before .before in
-    let h = bounds (o .before .before .args .s .now) (o .of .result) (o .before .before .pre) (o .of .ensures) in
+    let h = held o in
     omega (arith, c .before .before .entry-at .ensures)
 
 loop-holds : tie.Need-loop-holds Inv-loop μ-loop Inv-pages μ-pages
@@ -76,17 +91,14 @@ loop-holds c =
     let l = at-pages .pages in
     let o = at-pages .before in
     let s = o .before .before .args .s .now in
-    let P = o .of .result .pages in
-    let C = o .of .result .cells in
-    let N = o .of .result .hours in
-    let h = bounds (o .before .before .args .s .now) (o .of .result) (o .before .before .pre) (o .of .ensures) in (
+    let h = held o in (
       omega arith,
       l .inv .1,
       l .inv .2,
       l .inv .3,
       omega (arith, e .ensures),
-      l .inv .4 ∙ page-start s P C N (l .p) (l .marks) (e .ensures) (g .ensures) (k .ensures .0) (omega arith),
-      gather-start s P C N (l .p) (l .marks) (e .ensures) (g .ensures) (k .ensures .0) (l .code),
+      l .inv .4 ∙ page-start _ _ _ _ (l .p) (l .marks) (e .ensures) (g .ensures) (k .ensures .0) (omega arith),
+      gather-start _ _ (o .of .result .cells) (o .of .result .hours) (l .p) (l .marks) (e .ensures) (g .ensures) (k .ensures .0) (l .code),
     )
 
 link-requires : tie.Need-link-requires Inv-loop μ-loop Inv-pages μ-pages
@@ -96,27 +108,15 @@ is-cell-requires : tie.Need-is-cell-requires Inv-loop μ-loop Inv-pages μ-pages
 is-cell-requires c κs = search needs
 
 array-read-if2 : tie.Need-array-read-if2 Inv-loop μ-loop Inv-pages μ-pages
-array-read-if2 c =
-    let o = c .before .before .before .before .before .before .before .before .before .before in
-    let h = bounds (o .before .before .args .s .now) (o .of .result) (o .before .before .pre) (o .of .ensures) in
-    let w = cell-range (o .of .result .cells) (c .before .before .link .result) (c .before .is-cell .ensures) (c .if1 .left) in
-    omega arith
+array-read-if2 c = omega (arith, known c)
 
 array-write-marks : tie.Need-array-write-marks Inv-loop μ-loop Inv-pages μ-pages
-array-write-marks c =
-    let o = c .before .before .before .before .before .before .before .before .before .before .before in
-    let h = bounds (o .before .before .args .s .now) (o .of .result) (o .before .before .pre) (o .of .ensures) in
-    let fine = c .before in
-    let w = cell-range (o .of .result .cells) (fine .before .before .link .result) (fine .before .is-cell .ensures) (fine .if1 .left) in
-    omega arith
+array-write-marks c = omega (arith, known (c .before))
 
 cell-at-requires : tie.Need-cell-at-requires Inv-loop μ-loop Inv-pages μ-pages
 cell-at-requires c κs =
-    let o = c .before .before .before .before .before .before .before .before .before .before .before in
-    let h = bounds (o .before .before .args .s .now) (o .of .result) (o .before .before .pre) (o .of .ensures) in
-    let fine = c .before in
-    let w = cell-range (o .of .result .cells) (fine .before .before .link .result) (fine .before .is-cell .ensures) (fine .if1 .left) in
-    (omega arith, w .0, omega arith)
+    let w = known (c .before) in
+    (omega arith, w .1, omega arith)
 
 slice-aggregate-put-block : tie.Need-slice-aggregate-put-block Inv-loop μ-loop Inv-pages μ-pages
 slice-aggregate-put-block c = search needs
@@ -125,19 +125,12 @@ mul-put-block : tie.Need-mul-put-block Inv-loop μ-loop Inv-pages μ-pages
 mul-put-block c = omega (arith, c .before .before .before .before .before .before .before .before .cells-of .ensures .1)
 
 add-put-block : tie.Need-add-put-block Inv-loop μ-loop Inv-pages μ-pages
-add-put-block c =
-    let o = c .before .before .before .before .before .before .before .before .before .before .before .before .before in
-    let h = bounds (o .before .before .args .s .now) (o .of .result) (o .before .before .pre) (o .of .ensures) in
-    let fine = c .before .before .before in
-    let w = cell-range (o .of .result .cells) (fine .before .before .link .result) (fine .before .is-cell .ensures) (fine .if1 .left) in
-    omega (arith, c .before .cell-at .ensures)
+add-put-block c = omega (arith, c .before .cell-at .ensures, known (c .before .before .before))
 
 put-block-requires : tie.Need-put-block-requires Inv-loop μ-loop Inv-pages μ-pages
 put-block-requires c κs =
-    let o = c .before .before .before .before .before .before .before .before .before .before .before .before .before in
-    let h = bounds (o .before .before .args .s .now) (o .of .result) (o .before .before .pre) (o .of .ensures) in
     let fine = c .before .before .before in
-    let w = cell-range (o .of .result .cells) (fine .before .before .link .result) (fine .before .is-cell .ensures) (fine .if1 .left) in
+    let w = known fine in
     let k = fine .before .before .before .before .before .cells-of in
     (omega (arith, k .ensures .1), omega (arith, c .before .cell-at .ensures))
 
@@ -162,13 +155,9 @@ loop-again c =
     let p = at-pages .pages .p in
     let o = at-pages .before in
     let s = o .before .before .args .s .now in
-    let P = o .of .result .pages in
-    let C = o .of .result .cells in
-    let N = o .of .result .hours in
-    let h = bounds (o .before .before .args .s .now) (o .of .result) (o .before .before .pre) (o .of .ensures) in
-    let w = cell-range (o .of .result .cells) (fine .before .before .link .result) (fine .before .is-cell .ensures) (fine .if1 .left) in
+    let w = known fine in
     let none = eqb-true (getD (l .marks) (d .result) 0) 0 (not-false (eqb (getD (l .marks) (d .result) 0) 0) (new .if2 .left)) in
-    let good = good-cell C (d .result) (t .ensures) (l .marks) (fine .if1 .left) none in
+    let good = good-cell _ (d .result) (t .ensures) (l .marks) (fine .if1 .left) none in
     let far : r .result + 32 ≤ length s = omega (arith, r .ensures) in
     let room : 30 * l .j + 30 ≤ length (l .code) = omega (arith, k .ensures .1) in (
       omega arith,
@@ -176,9 +165,9 @@ loop-again c =
       ap length (b .ensures) ∙ length-sets (l .code) (30 * l .j) (part s (r .result + 2) 30) ∙ l .inv .2,
       l .inv .3,
       omega arith,
-      l .inv .5 ∙ cell-next s P C N p (l .marks) (k .result) (l .j) (d .ensures) (omega arith) (r .ensures) good,
-      gather-next s P C N p (l .marks) (k .result) (l .j) (d .ensures) (omega arith) (r .ensures) (l .code) (b .last .0) room far (b .ensures)
-          (l .inv .6),
+      l .inv .5 ∙ cell-next _ _ _ _ p (l .marks) (k .result) (l .j) (d .ensures) (omega arith) (r .ensures) good,
+      gather-next _ _ (o .of .result .cells) (o .of .result .hours) p (l .marks) (k .result) (l .j) (d .ensures) (omega arith) (r .ensures)
+          (l .code) (b .last .0) room far (b .ensures) (l .inv .6),
     )
 
 link-requires-2 : tie.Need-link-requires-2 Inv-loop μ-loop Inv-pages μ-pages
@@ -193,7 +182,7 @@ page-fits-requires c κs =
     let l = at-loop .loop in
     let g = at-loop .before .before .get4 in
     let o = at-loop .before .before .before .before .before .before in
-    let h = bounds (o .before .before .args .s .now) (o .of .result) (o .before .before .pre) (o .of .ensures) in (
+    let h = held o in (
       record { long = l .inv .2; small = omega (arith, g .ensures .small); page = omega arith; hours = o .of .ensures .hours-small },
       at-loop .before .cells-of .ensures .0,
     )
@@ -201,7 +190,7 @@ page-fits-requires c κs =
 add-p : tie.Need-add-p Inv-loop μ-loop Inv-pages μ-pages
 add-p c =
     let o = c .before .before .before .before .before .before .before .before .before .before .before .before in
-    let h = bounds (o .before .before .args .s .now) (o .of .result) (o .before .before .pre) (o .of .ensures) in
+    let h = held o in
     omega arith
 
 pages-less : tie.Need-pages-less Inv-loop μ-loop Inv-pages μ-pages
@@ -218,18 +207,13 @@ pages-again c =
     let g = at-loop .before .before .get4 in
     let e = at-loop .before .before .before .entry-at in
     let at-pages = at-loop .before .before .before .before .before in
-    let p = at-pages .pages .p in
-    let o = at-pages .before in
-    let s = o .before .before .args .s .now in
-    let P = o .of .result .pages in
-    let C = o .of .result .cells in
-    let N = o .of .result .hours in (
+    let p = at-pages .pages .p in (
       omega (arith, at-loop .before .before .before .before .pages-test .taken),
       l .inv .1,
       l .inv .2,
       l .inv .3,
       l .inv .5
-          ∙ page-next s P C N p (l .marks) (k .result) (l .j) (d .ensures) (omega arith) (l .inv .0) (end .if3 .left) (e .ensures) (g .ensures)
+          ∙ page-next _ _ _ _ p (l .marks) (k .result) (l .j) (d .ensures) (omega arith) (l .inv .0) (end .if3 .left) (e .ensures) (g .ensures)
           (l .code) (l .inv .6) (t .ensures) (c .if4 .left),
     )
 
@@ -238,7 +222,7 @@ free-fits-requires c κs =
     let left = c .before in
     let l = left .before .pages in
     let o = left .before .before in
-    let h = bounds (o .before .before .args .s .now) (o .of .result) (o .before .before .pre) (o .of .ensures) in (
+    let h = held o in (
       h .size,
       h .pages-high,
       h .cells-high,
@@ -252,42 +236,36 @@ returns c =
     let l = left .before .pages in
     let o = left .before .before in
     let s = o .before .before .args .s .now in
-    let P = o .of .result .pages in
-    let C = o .of .result .cells in
-    let N = o .of .result .hours in
     let ok = c .before .if5 .taken in
     ⊎-elim
-    (λ w. c .free-fits .ensures ∙ ap (freeFits s P C) (w .1) ∙ sym (l .inv .4 ∙ pages-end s P C N (l .p) (l .marks) (w .0 .left)))
+    (λ w.
+    c .free-fits .ensures
+    ∙ ap (freeFits s (o .of .result .pages) (o .of .result .cells)) (w .1)
+    ∙ sym (l .inv .4 ∙ pages-end _ _ _ _ (l .p) (l .marks) (w .0 .left)))
     (⊎-elim (λ w. absurd (clash _ (w .10) ok)) (λ w. absurd (clash _ (w .9) ok)))
     (left .pages-test .came)
 
 returns-2 : tie.Need-returns-2 Inv-loop μ-loop Inv-pages μ-pages
 returns-2 c =
     let left = c .before in
-    let at-pages = left .before in
-    let l = at-pages .pages in
-    let o = at-pages .before in
-    let s = o .before .before .args .s .now in
-    let P = o .of .result .pages in
-    let C = o .of .result .cells in
-    let N = o .of .result .hours in
+    let l = left .before .pages in
     ⊎-elim
     (λ w. absurd (clash _ (c .if5 .left) (w .2 ∙ l .inv .3)))
     (⊎-elim
     (λ w.
     let m = w .4 .marks in
     let d = w .6 in
-    let bad = ⊎-elim (λ t. no-cell C (d .result) (w .7 .ensures) m (t .taken))
-    (λ t. met-cell C m (d .result) (eqb-false (getD m (d .result) 0) 0 (not-true (eqb (getD m (d .result) 0) 0) (t .1 .taken)))) (w .8 .came) in
-    w .10 ∙ cell-broken s P C N (l .p) m (w .3 .result) (w .4 .j) (d .ensures) (w .5 .taken) bad ∙ sym (w .4 .inv .5))
+    let bad = ⊎-elim (λ t. no-cell _ (d .result) (w .7 .ensures) m (t .taken))
+    (λ t. met-cell _ m (d .result) (eqb-false (getD m (d .result) 0) 0 (not-true (eqb (getD m (d .result) 0) 0) (t .1 .taken)))) (w .8 .came) in
+    w .10 ∙ cell-broken _ _ _ _ (l .p) m (w .3 .result) (w .4 .j) (d .ensures) (w .5 .taken) bad ∙ sym (w .4 .inv .5))
     (λ w.
     let m = w .4 .marks in
     let k = w .3 .result in
     let j = w .4 .j in
     let d = w .6 .ensures in
     w .9
-    ∙ ⊎-elim (λ t. page-open s P C N (l .p) m k j d (w .5 .left) (t .taken))
-    (λ t. page-wrong s P C N (l .p) m k j d (w .5 .left) (w .4 .inv .0) (t .0 .left) (w .1 .ensures) (w .2 .ensures) (w .4 .code) (w .4 .inv .6)
+    ∙ ⊎-elim (λ t. page-open _ _ _ _ (l .p) m k j d (w .5 .left) (t .taken))
+    (λ t. page-wrong _ _ _ _ (l .p) m k j d (w .5 .left) (w .4 .inv .0) (t .0 .left) (w .1 .ensures) (w .2 .ensures) (w .4 .code) (w .4 .inv .6)
     (t .2 .ensures) (t .3 .taken)) (w .7 .came)
     ∙ sym (w .4 .inv .5)))
     (left .pages-test .came)

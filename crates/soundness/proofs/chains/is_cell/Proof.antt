@@ -6,8 +6,6 @@ use native.Mathlib.Omega.{arith}
 use borrow.Author.Tests.{le-leb, lt-leb}
 use Rattle.soundness.proofs.chains.is_cell.Statement.{statement}
 use Rattle.soundness.proofs.chains.is_cell.Tie as tie
-use Rattle.soundness.proofs.chains.is_cell.Reads as reads
-use Rattle.soundness.proofs.chains.is_cell.Lts as lts
 
 returns : tie.Need-returns
 returns c = sym (ap (λ (b : Bool). b && leb (c .before .args .c) (c .before .args .cells)) (lt-leb 1 (c .before .args .c) (omega arith)))

@@ -17,6 +17,12 @@ Inv-loop s pages cells marks₀ free at₀ j₀ marks at j =
 abbrev μ-loop : tie.MeasureT-loop
 μ-loop s pages cells marks₀ free at₀ j₀ marks at j = free - j
 
+-- the cell that a link names, once it was tested
+cell-of : (fine : tie.Else1 Inv-loop μ-loop)
+    → (1 ≤ fine .before .before .link2 .result)
+    × (fine .before .before .link2 .result ≤ fine .before .before .before .before .before .before .before .args .cells)
+cell-of fine = cell-range _ (fine .before .before .link2 .result) (fine .before .is-cell .ensures) (fine .if1 .left)
+
 link-requires : tie.Need-link-requires Inv-loop μ-loop
 link-requires c κs = search needs
 
@@ -35,63 +41,43 @@ returns : tie.Need-returns Inv-loop μ-loop
 returns c =
     let t = c .before .is-cell in
     let k = c .before .before .link2 in
-    let at-loop = c .before .before .before .before in
-    let l = at-loop .loop in
-    let a = at-loop .before .before .before .args in
-    free-broken (a .pages) (a .cells) (at-loop .before .link .result) (l .j) (l .marks) (k .ensures) (omega arith)
-    (no-cell (a .cells) (k .result) (t .ensures) (l .marks) (c .if1 .taken))
+    let l = c .before .before .before .before .loop in
+    free-broken _ _ _ (l .j) (l .marks) (k .ensures) (omega arith)
+    (no-cell _ (k .result) (t .ensures) (l .marks) (c .if1 .taken))
     ∙ sym (l .inv .3)
 
 array-read-if2 : tie.Need-array-read-if2 Inv-loop μ-loop
-array-read-if2 c =
-    let a = c .before .before .before .before .before .before .before .args in
-    omega (arith, cell-range (a .cells) (c .before .before .link2 .result) (c .before .is-cell .ensures) (c .if1 .left))
+array-read-if2 c = omega (arith, cell-of c)
 
 returns-2 : tie.Need-returns-2 Inv-loop μ-loop
 returns-2 c =
     let k = c .before .before .before .link2 in
-    let at-loop = c .before .before .before .before .before in
-    let l = at-loop .loop in
-    let a = at-loop .before .before .before .args in
-    free-broken (a .pages) (a .cells) (at-loop .before .link .result) (l .j) (l .marks) (k .ensures) (omega arith)
-    (met-cell (a .cells) (l .marks) (k .result) (c .if2 .taken))
+    let l = c .before .before .before .before .before .loop in
+    free-broken _ _ _ (l .j) (l .marks) (k .ensures) (omega arith)
+    (met-cell _ (l .marks) (k .result) (c .if2 .taken))
     ∙ sym (l .inv .3)
 
 array-write-marks : tie.Need-array-write-marks Inv-loop μ-loop
-array-write-marks c =
-    let fine = c .before in
-    let a = fine .before .before .before .before .before .before .before .args in
-    omega (arith, cell-range (a .cells) (fine .before .before .link2 .result) (fine .before .is-cell .ensures) (fine .if1 .left))
+array-write-marks c = omega (arith, cell-of (c .before))
 
 cell-at-requires : tie.Need-cell-at-requires Inv-loop μ-loop
 cell-at-requires c κs =
-    let fine = c .before in
-    let a = fine .before .before .before .before .before .before .before .args in
-    let w = cell-range (a .cells) (fine .before .before .link2 .result) (fine .before .is-cell .ensures) (fine .if1 .left) in
+    let w = cell-of (c .before) in
     (omega arith, w .0, omega arith)
 
 add-zero-block : tie.Need-add-zero-block Inv-loop μ-loop
-add-zero-block c =
-    let fine = c .before .before in
-    let a = fine .before .before .before .before .before .before .before .args in
-    omega (arith, cell-range (a .cells) (fine .before .before .link2 .result) (fine .before .is-cell .ensures) (fine .if1 .left))
+add-zero-block c = omega (arith, cell-of (c .before .before))
 
 zero-block-requires : tie.Need-zero-block-requires Inv-loop μ-loop
-zero-block-requires c κs =
-    let fine = c .before .before in
-    let a = fine .before .before .before .before .before .before .before .args in
-    let w = cell-range (a .cells) (fine .before .before .link2 .result) (fine .before .is-cell .ensures) (fine .if1 .left) in
-    omega arith
+zero-block-requires c κs = omega (arith, cell-of (c .before .before))
 
 returns-3 : tie.Need-returns-3 Inv-loop μ-loop
 returns-3 c =
     let fine = c .before .before .before .before in
     let k = fine .before .before .link2 in
-    let at-loop = fine .before .before .before .before in
-    let l = at-loop .loop in
-    let a = at-loop .before .before .before .args in
-    let w = cell-range (a .cells) (k .result) (fine .before .is-cell .ensures) (fine .if1 .left) in
-    free-set (a .pages) (a .cells) (at-loop .before .link .result) (l .j) (l .marks) (k .ensures) (omega arith)
+    let l = fine .before .before .before .before .loop in
+    let w = cell-of fine in
+    free-set _ _ _ (l .j) (l .marks) (k .ensures) (omega arith)
     (c .before .before .cell-at .ensures) (omega arith) (c .before .zero-block .ensures) (c .if3 .taken)
     ∙ sym (l .inv .3)
 
@@ -106,16 +92,14 @@ loop-again c =
     let fine = c .before .before .before .before in
     let t = fine .before .is-cell in
     let k = fine .before .before .link2 in
-    let at-loop = fine .before .before .before .before in
-    let l = at-loop .loop in
-    let a = at-loop .before .before .before .args in
-    let w = cell-range (a .cells) (k .result) (t .ensures) (fine .if1 .left) in
-    let good = good-cell (a .cells) (k .result) (t .ensures) (l .marks) (fine .if1 .left) (c .before .before .before .if2 .left) in (
+    let l = fine .before .before .before .before .loop in
+    let w = cell-of fine in
+    let good = good-cell _ (k .result) (t .ensures) (l .marks) (fine .if1 .left) (c .before .before .before .if2 .left) in (
       omega arith,
       length-set (l .marks) (k .result) 1 ∙ l .inv .1,
       omega arith,
       l .inv .3
-          ∙ free-next (a .pages) (a .cells) (at-loop .before .link .result) (l .j) (l .marks) (k .ensures) (omega arith)
+          ∙ free-next _ _ _ (l .j) (l .marks) (k .ensures) (omega arith)
           (c .before .before .cell-at .ensures) (omega arith) (c .before .zero-block .ensures) (c .if3 .left) good,
     )
 
@@ -124,10 +108,8 @@ link-requires-3 c κs = search needs
 
 returns-4 : tie.Need-returns-4 Inv-loop μ-loop
 returns-4 c =
-    let at-loop = c .before .before .before in
-    let l = at-loop .loop in
-    let a = at-loop .before .before .before .args in
-    free-open (a .pages) (a .cells) (at-loop .before .link .result) (l .j) (l .marks) (c .before .link3 .ensures) (omega arith) (c .if4 .taken)
+    let l = c .before .before .before .loop in
+    free-open _ _ _ (l .j) (l .marks) (c .before .link3 .ensures) (omega arith) (c .if4 .taken)
     ∙ sym (l .inv .3)
 
 slice-aggregate-all-marked : tie.Need-slice-aggregate-all-marked Inv-loop μ-loop
@@ -139,13 +121,10 @@ all-marked-requires c κs = search needs
 returns-5 : tie.Need-returns-5 Inv-loop μ-loop
 returns-5 c =
     let ends = c .before .before in
-    let at-loop = ends .before .before .before in
-    let l = at-loop .loop in
-    let a = at-loop .before .before .before .args in
+    let l = ends .before .before .before .loop in
     c .all-marked .ensures
     ∙ sym (l .inv .3
-    ∙ free-ends (a .pages) (a .cells) (at-loop .before .link .result) (l .j) (l .marks) (ends .before .link3 .ensures) (omega arith)
-    (ends .if4 .left))
+    ∙ free-ends _ _ _ (l .j) (l .marks) (ends .before .link3 .ensures) (omega arith) (ends .if4 .left))
 
 pub free-fits-spec : {M : Type 1} → statement M
 free-fits-spec =

@@ -107,8 +107,8 @@ returns-9 c =
     let h = read .of .ensures in
     head-fails s 8 (lt-leb (numberAt s 12 4) (64 * numberAt s 2 2) (omega (arith, h .pages-is, h .hours-is)))
 
-total-requires : tie.Need-total-requires
-total-requires c κs = search needs
+page-sums-requires : tie.Need-page-sums-requires
+page-sums-requires c κs = search needs
 
 returns-10 : tie.Need-returns-10
 returns-10 c =
@@ -120,7 +120,7 @@ returns-10 c =
     let t₃ = t₄ .before .before in
     let t₂ = t₃ .before .before in
     let s = t₂ .before .before .before .before .args .s .now in
-    ap (λ (z : ℕ). leb z 4294967295) (c .total .ensures ∙ ap (λ (n : ℕ). sum (tabulate n (sumIn s))) (h .pages-is))
+    ap (λ (z : ℕ). leb z 4294967295) (c .page-sums .ensures ∙ ap (λ (n : ℕ). sum (tabulate n (sumIn s))) (h .pages-is))
     ∙ head-last s record {
       long = omega (arith, t₂ .before .before .if1 .left);
       edition = sym (t₂ .before .get2 .ensures .is) ∙ t₂ .if2 .left;
@@ -154,5 +154,5 @@ head-fits-spec =
     returns-8
     mul-if9
     returns-9
-    total-requires
+    page-sums-requires
     returns-10)

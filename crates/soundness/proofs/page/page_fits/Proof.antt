@@ -1,8 +1,11 @@
 -- `soundness::page::page_fits` meets its contract: each return is one of the three tests of a page's code. Assumes nothing.
-use mathlib.Core.Path.{sym, _∙_}
+use mathlib.Core.Path.{_≡_, sym, _∙_}
+use mathlib.Core.Bool.{true}
 use native.Mathlib.Omega.{arith}
 use borrow.Author.Needs.{needs}
 use borrow.Author.Tests.{not-false}
+use Rattle.bits.specs.Bits.{bits}
+use Rattle.tree.specs.Exact.{exact}
 use Rattle.soundness.proofs.PageTest.{few, fits-hours, fits-no-rest, fits-no-tree, fits-none, holds, page-lies}
 use Rattle.soundness.proofs.page.page_fits.Statement.{statement}
 use Rattle.soundness.proofs.page.page_fits.Tie as tie
@@ -44,30 +47,33 @@ zero-bits-requires c κs =
     let long = pre .0 .long in
     (omega arith, omega arith, omega arith)
 
+-- past the test of its tree
+tree-fits : (t : tie.Else2)
+    → exact 6 (t .before .before .before .before .args .s) (bits (t .before .before .before .before .args .code .now)) 0 ≡ true
+tree-fits t = sym (t .before .check .ensures) ∙ not-false (t .before .check .result) (t .if2 .left)
+
 returns-3 : tie.Need-returns-3
 returns-3 c =
-    let bits = c .before in
-    let check = bits .before .before .before in
-    let known = check .before .before in
+    let clear = c .before in
+    let fits = clear .before .before in
+    let known = fits .before .before .before in
     let pre = known .before .pre in
-    let exact = sym (check .check .ensures) ∙ not-false (check .check .result) (bits .before .before .if2 .left) in
-    fits-no-rest (pre .0) (pre .1) (λ i. omega (arith, known .shared-slice-known .given i)) exact (bits .before .reserve-of .ensures)
-    (bits .zero-bits .ensures) (c .if3 .taken)
+    fits-no-rest (pre .0) (pre .1) (λ i. omega (arith, known .shared-slice-known .given i)) (tree-fits fits)
+    (clear .before .reserve-of .ensures) (clear .zero-bits .ensures) (c .if3 .taken)
 
 hours-fit-requires : tie.Need-hours-fit-requires
 hours-fit-requires c κs =
-    let check = c .before .before .before .before in
-    (check .before .before .before .pre .0, sym (check .check .ensures) ∙ not-false (check .check .result) (c .before .before .before .if2 .left))
+    let fits = c .before .before .before in
+    (fits .before .before .before .before .pre .0, tree-fits fits)
 
 returns-4 : tie.Need-returns-4
 returns-4 c =
-    let bits = c .before .before in
-    let check = bits .before .before .before in
-    let known = check .before .before in
+    let clear = c .before .before in
+    let fits = clear .before .before in
+    let known = fits .before .before .before in
     let pre = known .before .pre in
-    let exact = sym (check .check .ensures) ∙ not-false (check .check .result) (bits .before .before .if2 .left) in
-    fits-hours (pre .0) (pre .1) (λ i. omega (arith, known .shared-slice-known .given i)) exact (bits .before .reserve-of .ensures)
-    (bits .zero-bits .ensures) (c .before .if3 .left) (c .hours-fit .ensures)
+    fits-hours (pre .0) (pre .1) (λ i. omega (arith, known .shared-slice-known .given i)) (tree-fits fits)
+    (clear .before .reserve-of .ensures) (clear .zero-bits .ensures) (c .before .if3 .left) (c .hours-fit .ensures)
 
 pub page-fits-spec : {M : Type 1} → statement M
 page-fits-spec =

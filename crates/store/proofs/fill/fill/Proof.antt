@@ -9,11 +9,6 @@ use Rattle.store.proofs.Filling.{fill-next, fill-again, fill-done}
 use borrow.Author.Needs.{needs}
 use Rattle.store.proofs.fill.fill.Statement.{statement}
 use Rattle.store.proofs.fill.fill.Tie as tie
-use Rattle.store.proofs.fill.fill.Reads as reads
-use Rattle.store.proofs.fill.fill.Lts as lts
-use Rattle.store.proofs.fill.put_block.Reads as put-block-reads
-use Rattle.store.proofs.header.cell_at.Reads as cell-at-reads
-use Rattle.store.proofs.links.link.Reads as link-reads
 
 abbrev Inv-loop : tie.InvT-loop
 Inv-loop s₀ pages e n code at₀ j₀ s at j =

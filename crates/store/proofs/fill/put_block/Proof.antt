@@ -1,15 +1,13 @@
-use mathlib.Core.Path.{_≡_, refl, sym, ap, _∙_}
+use mathlib.Core.Path.{_≡_, refl, ap, _∙_}
 use Prim.Native.Nat.{ℕ, _+_, _-_, _≤_}
 use native.Mathlib.Omega.{arith}
 use lib.ListN.{length, getD, set, length-set}
 use lib.Seq.{sets}
 use Rattle.lists.specs.Lists.{part}
-use Rattle.store.proofs.LinkSteps.{block-next}
+use Rattle.lists.proofs.Parts.{sets-next}
 use borrow.Author.Needs.{needs}
 use Rattle.store.proofs.fill.put_block.Statement.{statement}
 use Rattle.store.proofs.fill.put_block.Tie as tie
-use Rattle.store.proofs.fill.put_block.Reads as reads
-use Rattle.store.proofs.fill.put_block.Lts as lts
 
 abbrev Inv-loop : tie.InvT-loop
 Inv-loop s₀ at code from i₀ s i = (i ≤ 30) × (length s ≡ length s₀) × (s ≡ sets s₀ at (part code from i))
@@ -45,7 +43,7 @@ loop-again c =
       omega arith,
       length-set (l .s) _ _ ∙ l .inv .1,
       ap (λ z. set z (a .at + l .i) (getD (a .code .now) (a .from + l .i) 0)) (l .inv .2)
-          ∙ block-next (a .s .now) (a .code .now) (a .at) (a .from) (l .i) (omega arith),
+          ∙ sets-next (a .s .now) (a .code .now) (a .at) (a .from) (l .i) (omega arith),
     )
 
 same-length : tie.Need-same-length Inv-loop μ-loop

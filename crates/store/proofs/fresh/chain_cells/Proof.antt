@@ -1,4 +1,4 @@
-use mathlib.Core.Path.{_≡_, refl, sym, ap, _∙_}
+use mathlib.Core.Path.{_≡_, refl, ap, _∙_}
 use mathlib.Core.List.{List}
 use Prim.Native.Nat.{ℕ, _+_, _-_, _≤_}
 use native.Mathlib.Omega.{arith}
@@ -8,10 +8,6 @@ use Rattle.store.proofs.FreshBytes.{chained-none, chained-next, chained
 use borrow.Author.Needs.{needs}
 use Rattle.store.proofs.fresh.chain_cells.Statement.{statement}
 use Rattle.store.proofs.fresh.chain_cells.Tie as tie
-use Rattle.store.proofs.fresh.chain_cells.Reads as reads
-use Rattle.store.proofs.fresh.chain_cells.Lts as lts
-use Rattle.store.proofs.header.cell_at.Reads as cell-at-reads
-use Rattle.store.proofs.put.put_two.Reads as put-two-reads
 
 abbrev Inv-loop : tie.InvT-loop
 Inv-loop s₀ pages cells c₀ s c = (1 ≤ c) × (c ≤ cells) × (length s ≡ length s₀) × (s ≡ chained s₀ pages (c - 1))

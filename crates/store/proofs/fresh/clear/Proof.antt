@@ -1,6 +1,6 @@
 use Rattle.store.proofs.Zeros.{cleared}
-use mathlib.Core.Path.{_≡_, refl, sym, ap, _∙_}
-use mathlib.Core.List.{List, _++_, append-nil}
+use mathlib.Core.Path.{_≡_, refl, ap, _∙_}
+use mathlib.Core.List.{List, _++_}
 use Prim.Native.Nat.{ℕ, _+_, _-_, _≤_}
 use native.Mathlib.Omega.{arith}
 use lib.ListN.{length, drop, replicate, set, length-set}
@@ -8,8 +8,6 @@ use borrow.Author.Fill.{fill-none, fill-more}
 use borrow.Author.Needs.{needs}
 use Rattle.store.proofs.fresh.clear.Statement.{statement}
 use Rattle.store.proofs.fresh.clear.Tie as tie
-use Rattle.store.proofs.fresh.clear.Reads as reads
-use Rattle.store.proofs.fresh.clear.Lts as lts
 
 abbrev Inv-loop : tie.InvT-loop
 Inv-loop s₀ i₀ s i = (i ≤ length s₀) × (length s ≡ length s₀) × (s ≡ replicate i 0 ++ drop i s₀)

@@ -2,8 +2,6 @@ use Rattle.store.proofs.FreshBytes.{few-pages, many-pages, few-cells, m
 use borrow.Author.Needs.{needs}
 use Rattle.store.proofs.fresh.fits.Statement.{statement}
 use Rattle.store.proofs.fresh.fits.Tie as tie
-use Rattle.store.proofs.fresh.fits.Reads as reads
-use Rattle.store.proofs.fresh.fits.Lts as lts
 
 returns : tie.Need-returns
 returns c = let a = c .before .args in few-pages (a .s .now) (a .pages) (a .cells) (c .if1 .taken)

@@ -7,13 +7,6 @@ use Rattle.store.proofs.FreshBytes.{fitting, started, started-9}
 use borrow.Author.Needs.{needs}
 use Rattle.store.proofs.fresh.fresh.Statement.{statement}
 use Rattle.store.proofs.fresh.fresh.Tie as tie
-use Rattle.store.proofs.fresh.fresh.Reads as reads
-use Rattle.store.proofs.fresh.fresh.Lts as lts
-use Rattle.store.proofs.fresh.chain_cells.Reads as chain-cells-reads
-use Rattle.store.proofs.fresh.clear.Reads as clear-reads
-use Rattle.store.proofs.fresh.fits.Reads as fits-reads
-use Rattle.store.proofs.header.Header.fresh.Reads as fresh-reads
-use Rattle.store.proofs.header.put_header.Reads as put-header-reads
 
 fits-requires : tie.Need-fits-requires
 fits-requires c κs = search needs

@@ -2,10 +2,6 @@ use Rattle.store.proofs.FreshBytes.{headed-is}
 use borrow.Author.Needs.{needs}
 use Rattle.store.proofs.header.put_header.Statement.{statement}
 use Rattle.store.proofs.header.put_header.Tie as tie
-use Rattle.store.proofs.header.put_header.Reads as reads
-use Rattle.store.proofs.header.put_header.Lts as lts
-use Rattle.store.proofs.put.put_four.Reads as put-four-reads
-use Rattle.store.proofs.put.put_two.Reads as put-two-reads
 
 put-two-requires : tie.Need-put-two-requires
 put-two-requires c κs = search needs

@@ -2,11 +2,6 @@ use Rattle.store.specs.Links.{cut}
 use borrow.Author.Needs.{needs}
 use Rattle.store.proofs.links.cut.Statement.{statement}
 use Rattle.store.proofs.links.cut.Tie as tie
-use Rattle.store.proofs.links.cut.Reads as reads
-use Rattle.store.proofs.links.cut.Lts as lts
-use Rattle.store.proofs.links.link.Reads as link-reads
-use Rattle.store.proofs.links.link_after.Reads as link-after-reads
-use Rattle.store.proofs.put.put_two.Reads as put-two-reads
 
 link-after-requires : tie.Need-link-after-requires
 link-after-requires c κs = search needs

@@ -2,11 +2,6 @@ use Rattle.store.specs.Links.{joined}
 use borrow.Author.Needs.{needs}
 use Rattle.store.proofs.links.join.Statement.{statement}
 use Rattle.store.proofs.links.join.Tie as tie
-use Rattle.store.proofs.links.join.Reads as reads
-use Rattle.store.proofs.links.join.Lts as lts
-use Rattle.store.proofs.links.link.Reads as link-reads
-use Rattle.store.proofs.links.link_after.Reads as link-after-reads
-use Rattle.store.proofs.put.put_two.Reads as put-two-reads
 
 link-after-requires : tie.Need-link-after-requires
 link-after-requires c κs = search needs

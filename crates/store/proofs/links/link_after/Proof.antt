@@ -6,10 +6,6 @@ use Rattle.store.proofs.LinkSteps.{step-of, steps-fit}
 use borrow.Author.Needs.{needs}
 use Rattle.store.proofs.links.link_after.Statement.{statement}
 use Rattle.store.proofs.links.link_after.Tie as tie
-use Rattle.store.proofs.links.link_after.Reads as reads
-use Rattle.store.proofs.links.link_after.Lts as lts
-use Rattle.store.proofs.header.cell_at.Reads as cell-at-reads
-use Rattle.store.proofs.links.link.Reads as link-reads
 
 abbrev Inv-loop : tie.InvT-loop
 Inv-loop s pages a k at₀ left₀ at left = (left ≤ k) × (Steps s pages at left) × (linkAfter s pages a k ≡ linkAfter s pages at left)

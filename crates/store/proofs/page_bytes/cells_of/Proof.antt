@@ -6,12 +6,12 @@ use Rattle.store.proofs.PageCodeLaws.{cells-is, cells-most}
 use borrow.Author.Needs.{needs}
 use Rattle.store.proofs.page_bytes.cells_of.Statement.{statement}
 use Rattle.store.proofs.page_bytes.cells_of.Tie as tie
-use Rattle.store.proofs.page_bytes.cells_of.Reads as reads
-use Rattle.store.proofs.page_bytes.cells_of.Lts as lts
-use Rattle.reserve.proofs.reserve_of.Reads as reserve-of-reads
 
 reserve-of-requires : tie.Need-reserve-of-requires
 reserve-of-requires c κs = search needs
+
+sub-result : tie.Need-sub-result
+sub-result c = search needs
 
 add-result : tie.Need-add-result
 add-result c = omega (arith, c .reserve-of .ensures, most (c .before .args .s) (omega arith))
@@ -22,4 +22,4 @@ returns c =
     (e, omega (arith, e, cells-most (c .before .args .s) (c .before .pre)))
 
 pub cells-of-spec : {M : Type 1} → statement M
-cells-of-spec = tie.close (tie.spec reserve-of-requires add-result returns)
+cells-of-spec = tie.close (tie.spec reserve-of-requires sub-result add-result returns)

@@ -3,9 +3,6 @@ use mathlib.Core.Path.{_∙_}
 use borrow.Author.Needs.{needs}
 use Rattle.store.proofs.put.put_four.Statement.{statement}
 use Rattle.store.proofs.put.put_four.Tie as tie
-use Rattle.store.proofs.put.put_four.Reads as reads
-use Rattle.store.proofs.put.put_four.Lts as lts
-use Rattle.bits.proofs.numbers.put4.Reads as put4-reads
 
 put4-requires : tie.Need-put4-requires
 put4-requires c κs = search needs

@@ -3,9 +3,6 @@ use mathlib.Core.Path.{_∙_}
 use borrow.Author.Needs.{needs}
 use Rattle.store.proofs.put.put_two.Statement.{statement}
 use Rattle.store.proofs.put.put_two.Tie as tie
-use Rattle.store.proofs.put.put_two.Reads as reads
-use Rattle.store.proofs.put.put_two.Lts as lts
-use Rattle.bits.proofs.numbers.put2.Reads as put2-reads
 
 put2-requires : tie.Need-put2-requires
 put2-requires c κs = search needs

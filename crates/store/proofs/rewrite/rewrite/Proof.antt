@@ -3,16 +3,6 @@ use Rattle.store.proofs.LinkSteps.{rewritten-is}
 use borrow.Author.Needs.{needs}
 use Rattle.store.proofs.rewrite.rewrite.Statement.{statement}
 use Rattle.store.proofs.rewrite.rewrite.Tie as tie
-use Rattle.store.proofs.rewrite.rewrite.Reads as reads
-use Rattle.store.proofs.rewrite.rewrite.Lts as lts
-use Rattle.lists.proofs.larger.Reads as larger-reads
-use Rattle.store.proofs.fill.fill.Reads as fill-reads
-use Rattle.store.proofs.header.entry_at.Reads as entry-at-reads
-use Rattle.store.proofs.links.cut.Reads as cut-reads
-use Rattle.store.proofs.links.join.Reads as join-reads
-use Rattle.store.proofs.links.link.Reads as link-reads
-use Rattle.store.proofs.put.put_two.Reads as put-two-reads
-use Rattle.store.proofs.put.put_four.Reads as put-four-reads
 
 entry-at-requires : tie.Need-entry-at-requires
 entry-at-requires c κs = search needs

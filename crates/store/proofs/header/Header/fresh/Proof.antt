@@ -3,11 +3,8 @@ use Prim.Native.Nat.{suc}
 use Rattle.lists.proofs.Tables.{length-tabulate}
 use Rattle.store.specs.Layout.{fresh}
 use Rattle.store.proofs.FreshLaws.{fresh-first}
-use borrow.Author.Needs.{needs}
 use Rattle.store.proofs.header.Header.fresh.Statement.{statement}
 use Rattle.store.proofs.header.Header.fresh.Tie as tie
-use Rattle.store.proofs.header.Header.fresh.Reads as reads
-use Rattle.store.proofs.header.Header.fresh.Lts as lts
 
 returns : tie.Need-returns
 unfolding fresh

@@ -1,14 +1,14 @@
--- `soundness::head::total` meets its contract. The loop's invariant: the sum of the pages that were passed. Assumes nothing.
-use mathlib.Core.Path.{_≡_, ap, _∙_}
+-- `store::total::page_sums` meets its contract. The loop's invariant: the sum of the pages that were passed. Assumes nothing.
+use mathlib.Core.Path.{_≡_, sym, ap, _∙_}
 use Prim.Native.Nat.{ℕ, _+_, _-_, _*_, _≤_}
 use native.Mathlib.Omega.{arith}
 use Rattle.lists.specs.Lists.{sum, tabulate}
 use Rattle.bits.specs.Numbers.{numberAt}
 use Rattle.store.specs.Reading.{sumIn}
-use Rattle.soundness.proofs.Blocks.{sum-next}
+use Rattle.lists.proofs.Sums.{sum-next}
 use borrow.Author.Needs.{needs}
-use Rattle.soundness.proofs.head.total.Statement.{statement}
-use Rattle.soundness.proofs.head.total.Tie as tie
+use Rattle.store.proofs.total.page_sums.Statement.{statement}
+use Rattle.store.proofs.total.page_sums.Tie as tie
 
 abbrev Inv-loop : tie.InvT-loop
 Inv-loop s pages all₀ p₀ all p = (p ≤ pages) × (all ≡ sum (tabulate p (sumIn s))) × (all ≤ 4294967295 * p)
@@ -42,7 +42,8 @@ loop-again c =
     let l = c .before .before .before .loop in (
       omega arith,
       ap (λ (z : ℕ). l .all + z) (c .get4 .ensures .is ∙ ap (λ (a : ℕ). numberAt s a 4) (c .before .entry-at .ensures))
-          ∙ sum-next (sumIn s) (l .p) (l .all) (l .inv .1),
+          ∙ ap (λ (z : ℕ). z + sumIn s (l .p)) (l .inv .1)
+          ∙ sym (sum-next (sumIn s) (l .p)),
       omega (arith, c .get4 .ensures .small),
     )
 
@@ -53,8 +54,8 @@ returns c =
     let e : l .p ≡ a .pages = omega arith in
     l .inv .1 ∙ ap (λ (n : ℕ). sum (tabulate n (sumIn (a .s .now)))) e
 
-pub total-spec : {M : Type 1} → statement M
-total-spec =
+pub page-sums-spec : {M : Type 1} → statement M
+page-sums-spec =
     tie.close
     (tie.spec
     Inv-loop
