@@ -1,10 +1,10 @@
 -- The list of a sound store, as it is unpacked; and the call's refusals. Assumes nothing.
-use mathlib.Core.Path.{_≡_, refl, sym, ap, ap₂, _∙_}
+use mathlib.Core.Path.{_≡_, refl, ap, _∙_}
 use mathlib.Core.Bool.{Bool, true, false, _&&_}
 use mathlib.Core.List.{List}
-use Prim.Native.Nat.{ℕ, _+_, _*_, _≤_, _<_}
+use Prim.Native.Nat.{ℕ, _*_, _≤_}
 use native.Mathlib.Omega.{arith}
-use lib.ListN.{length, take, replicate, length-replicate}
+use lib.ListN.{length, take}
 use lib.Dec.{leb}
 use borrow.Author.Tests.{le-leb}
 use Rattle.lists.specs.Lists.{concat, pick, splice, sum, tabulate}
@@ -17,10 +17,11 @@ use Rattle.store.specs.Heads.{Heads}
 use Rattle.store.specs.declared.header.Header.{Header}
 use Rattle.store.proofs.Holds.{page-length}
 use Rattle.store.proofs.ReadBack.{counts-back}
-use Rattle.store.proofs.SoundFacts.{Facts, facts}
+use Rattle.store.proofs.SoundFacts.{facts}
 use Rattle.image.specs.Calls.{Wrote, lengthCall, unwritten, writeCall}
 use Rattle.image.specs.Image.{image}
 use Rattle.image.specs.Reply.{given, refused}
+use Rattle.image.proofs.Made.{write-refused}
 use Rattle.freeze.specs.Freeze.{freezeCall}
 use Rattle.freeze.proofs.Listing.{front-of, put-length}
 
@@ -87,3 +88,15 @@ only-page-size e s h =
       le-leb (length (read s .plain .counts)) 65536 (omega (arith, f .hours-are, f .hours-fit, f .pages-high)),
       le-leb (sum (read s .plain .counts)) 4294967295 (f .total-fits),
     )
+
+-- 'A refusal is its number alone; no byte changes.'
+pub freeze-refused : (e : ℕ) (s out : List ℕ) (k : ℕ) → freezeCall e s out .reply ≡ refused k → freezeCall e s out .bytes ≡ out
+unfolding freezeCall pick unwritten
+freeze-refused e s out k = go (sound s)
+  where
+    W : Wrote
+    W = writeCall e (read s .plain .counts) out
+
+    go : (b : Bool) → pick b W (unwritten out 10) .reply ≡ refused k → pick b W (unwritten out 10) .bytes ≡ out
+    go true q = write-refused e (read s .plain .counts) out k q
+    go false q = refl

@@ -1,21 +1,20 @@
 -- Pages put into a list, one after another. Assumes nothing.
-use mathlib.Core.Path.{_≡_, refl, sym, ap, ap₂, _∙_}
-use mathlib.Core.List.{List, [], _∷_, _++_}
-use Prim.Native.Nat.{ℕ, zero, suc, _+_, _-_, _*_, _≤_, _<_}
+use mathlib.Core.Path.{_≡_, sym, ap, _∙_}
+use mathlib.Core.List.{List}
+use Prim.Native.Nat.{ℕ, _+_, _-_, _*_, _≤_, _<_}
 use native.Mathlib.Numerals.{add-one}
 use native.Mathlib.Omega.{arith}
-use lib.ListN.{length, getD, set, take, drop, length-append, length-take, length-drop}
+use lib.ListN.{length, getD, set, take}
 use lib.Seq.{sets, take-all}
 use Rattle.lists.specs.Lists.{concat, part, splice, tabulate}
-use Rattle.lists.proofs.Parts.{length-splice, sets-splice, splice-more, splice-nil}
-use Rattle.store.proofs.LinkSteps.{block-next}
+use Rattle.lists.proofs.Parts.{length-splice, sets-next, sets-splice, splice-nil, splice-then}
 use Rattle.lists.proofs.Tables.{concat-each, concat-suc}
 
 -- one more store
 pub next : (s v : List ℕ) (a i : ℕ) → i < length v → set (sets s a (part v 0 i)) (a + i) (getD v i 0) ≡ sets s a (part v 0 (i + 1))
 next s v a i l =
     let e : 0 + i ≡ i = omega arith in
-    ap (λ (z : ℕ). set (sets s a (part v 0 i)) (a + i) (getD v z 0)) (sym e) ∙ block-next s v a 0 i (omega arith)
+    ap (λ (z : ℕ). set (sets s a (part v 0 i)) (a + i) (getD v z 0)) (sym e) ∙ sets-next s v a 0 i (omega arith)
 
 -- 64 stores are a splice
 pub all-stored : (s v : List ℕ) (a i : ℕ) → length v ≡ 64 → i ≡ 64 → a + 64 ≤ length s → sets s a (part v 0 i) ≡ splice s a v
@@ -33,9 +32,7 @@ pub one-put : (l m r : List ℕ) (f : ℕ → List ℕ) (p : ℕ) → ((j : ℕ)
 one-put l m r f p n h em er =
     let k : length (concat (tabulate p f)) ≡ 64 * p = concat-each p 64 f (λ j _. n j) in
     let z : 64 * p ≡ 0 + length (concat (tabulate p f)) = omega arith in
-    er
-    ∙ ap₂ (λ (x : List ℕ) (a : ℕ). splice x a (f p)) em z
-    ∙ splice-more l 0 (concat (tabulate p f)) (f p) (omega (arith, n p))
+    splice-then l m r (concat (tabulate p f)) (f p) 0 (64 * p) em er z (omega (arith, n p))
     ∙ ap (splice l 0) (sym (concat-suc p f) ∙ ap (λ (k : ℕ). concat (tabulate k f)) (sym (add-one p)))
 
 -- how long the list stays

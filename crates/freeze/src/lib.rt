@@ -1,5 +1,5 @@
 // The frozen image of a live store's list.
-use image::query::Answer;
+use image::answer::Answer;
 use pages::counts::page_counts;
 use store::header::Header;
 ghost use mathlib.Core.Bool.{true};
@@ -12,7 +12,7 @@ ghost use Rattle.store.specs.Plain.{page};
 ghost use Rattle.store.specs.Reading.{read};
 ghost use Rattle.store.specs.Sound.{sound};
 ghost use Rattle.image.specs.Calls.{writeCall};
-ghost use Rattle.image.specs.Writer.{wrote};
+ghost use Rattle.image_write.specs.Writer.{wrote};
 ghost use Rattle.freeze.specs.Freeze.{freezeCall};
 
 // Puts a page's counts into the list from index from on.
@@ -21,7 +21,7 @@ fn put_page(list: &mut [u32], from: usize, counts: &[u32])
     ensures { λ _. ⌜ now (list .exit) ≡ splice (now (list .entry)) from (now (counts .entry)) ⌝ }
 {
     let mut i = 0;
-    while i < 64 {
+    while i < Header::HOURS {
         list[from + i] = counts[i];
         i = i + 1;
     }
@@ -35,7 +35,7 @@ fn unpack(s: &[u8], pages: usize, list: &mut [u32])
     let mut p = 0;
     while p < pages {
         let counts = page_counts(s, p);
-        put_page(list, 64 * p, &counts);
+        put_page(list, Header::HOURS * p, &counts);
         p = p + 1;
     }
 }
@@ -45,7 +45,7 @@ fn write_front(list: &[u32], n: usize, e: u32, out: &mut [u8]) -> Answer
     requires { ⌜ n ≤ length (now list) ⌝ }
     ensures { λ r. ⌜ wrote r (now (out .exit)) ≡ writeCall e (take n (now (list .entry))) (now (out .entry)) ⌝ }
 {
-    image::write::write(&list[..n], e, out)
+    image_write::write(&list[..n], e, out)
 }
 
 // Writes the image of a sound store's list. A store has at most 65,536 hours, and they are unpacked before they are written.

@@ -1,14 +1,13 @@
 -- The tree in a page's gathered code. Assumes nothing.
-use mathlib.Core.Path.{_≡_, refl, sym, ap, _∙_}
+use mathlib.Core.Path.{_≡_, ap, _∙_}
 use mathlib.Core.List.{List}
 use Prim.Native.Nat.{ℕ, _+_, _*_, _≤_, _<_}
-use native.Mathlib.Omega.{arith}
 use lib.ListN.{getD}
 use Rattle.lists.specs.Lists.{part, reached, reading, sum}
 use Rattle.bits.specs.Bits.{bits}
 use Rattle.reserve.specs.Reserve.{reserve}
 use Rattle.tree.specs.Tree.{tree}
-use Rattle.tree.specs.Read.{Found, Place, seek, walk}
+use Rattle.tree.specs.Read.{seek, walk}
 use Rattle.tree.specs.Code.{spotted, told}
 use Rattle.tree.proofs.WalkLaws.{walk-tree}
 use Rattle.tree.proofs.SearchLaws.{seek-tree}

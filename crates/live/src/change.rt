@@ -30,12 +30,12 @@ pub(crate) fn change_hour(s: &mut [u8], i: usize, v: u32, hours: usize) -> Answe
     let before = get4(s, entry_at(p));
     let old = cells_of(before);
     let mut counts = counts_at(s, head.pages, p, before, old);
-    let was = counts[j] as u64;
+    let was = counts[j];
     let all = total(s, head.pages);
-    if Header::MAX_TOTAL < all - was + v as u64 {
+    if Header::MAX_TOTAL < all - was as u64 + v as u64 {
         return Answer::Refused(3);
     }
-    let after = before - was + v as u64;
+    let after = before - was as u64 + v as u64;
     let new = cells_of(after);
     let room = old + head.free;
     if room < new {

@@ -1,10 +1,11 @@
 // The prefix-sum search in a sound store: first over the page sums, then in the page's tree.
 use crate::page::search_page;
 use bits::numbers::get4;
-use pages::sums::total;
 use store::answer::Answer;
 use store::header::Header;
 use store::header::entry_at;
+use store::links::link;
+use store::total::total;
 ghost use mathlib.Core.Bool.{true};
 ghost use mathlib.Core.Path.{_≡_};
 ghost use Prim.Native.Nat.{_≤_, _<_};
@@ -17,6 +18,7 @@ ghost use Rattle.store.specs.Call.{Called};
 ghost use Rattle.store.specs.Answers.{told};
 ghost use Rattle.live.specs.Spots.{Spots};
 
+// A page, and what of a figure is left when the pages before it are passed.
 struct Spot {
     page: usize,
     rest: u64,
@@ -57,7 +59,7 @@ pub(crate) fn reach(s: &[u8], q: u32) -> Answer
     requires { ⌜ sound (now s) ≡ true ⌝ }
     ensures { λ r. ⌜ Called (Reach q) (now (s .entry)) (told r) (now (s .exit)) ⌝ }
 {
-    if total(s) < q as u64 {
+    if total(s, link(s, 2)) < q as u64 {
         return Answer::Refused(8);
     }
     Answer::Number(reach_in(s, q as u64))

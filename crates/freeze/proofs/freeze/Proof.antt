@@ -1,14 +1,11 @@
-use mathlib.Core.Path.{_≡_, sym, _∙_}
-use borrow.Author.Tests.{not-true, not-false}
+use mathlib.Core.Path.{sym, _∙_}
+use borrow.Author.Tests.{not-true}
 use Rattle.image.specs.Answers.{told}
+use Rattle.store.proofs.CallLaws.{passed}
 use Rattle.freeze.proofs.Freezing.{freeze-10, freeze-sound}
 use borrow.Author.Needs.{needs}
 use Rattle.freeze.proofs.freeze.Statement.{statement}
 use Rattle.freeze.proofs.freeze.Tie as tie
-use Rattle.freeze.proofs.freeze.Reads as reads
-use Rattle.freeze.proofs.freeze.Lts as lts
-use Rattle.freeze.proofs.freeze_list.Reads as freeze-list-reads
-use Rattle.soundness.proofs.check.Reads as check-reads
 
 check-requires : tie.Need-check-requires
 check-requires c κs = search needs
@@ -20,14 +17,15 @@ returns c =
 
 freeze-list-requires : tie.Need-freeze-list-requires
 freeze-list-requires c κs =
-    sym (c .before .before .check .ensures) ∙ not-false _ (c .before .if1 .left)
+    passed _ (c .before .before .check .ensures) (c .before .if1 .left)
 
 same-length : tie.Need-same-length
 same-length c = search needs
 
 returns-2 : tie.Need-returns-2
 returns-2 c =
-    c .before .before .freeze-list .ensures ∙ freeze-sound _ _ _ (sym (c .before .before .before .before .before .check .ensures) ∙ not-false _ (c .before .before .before .before .if1 .left))
+    let fine = c .before .before .before .before in
+    c .before .before .freeze-list .ensures ∙ freeze-sound _ _ _ (passed _ (fine .before .check .ensures) (fine .if1 .left))
 
 pub freeze-spec : {M : Type 1} → statement M
 freeze-spec =

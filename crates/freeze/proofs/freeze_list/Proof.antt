@@ -1,17 +1,11 @@
-use mathlib.Core.Path.{_≡_, ap, _∙_}
+use mathlib.Core.Path.{ap, _∙_}
 use Prim.Native.Nat.{ℕ}
-use native.Mathlib.Omega.{arith}
-use lib.ListN.{length, length-replicate, replicate}
+use lib.ListN.{length-replicate, replicate}
 use Rattle.image.specs.Calls.{writeCall}
 use Rattle.freeze.proofs.Freezing.{long-enough, unpack-asks, hours-in, list-is}
 use borrow.Author.Needs.{needs}
 use Rattle.freeze.proofs.freeze_list.Statement.{statement}
 use Rattle.freeze.proofs.freeze_list.Tie as tie
-use Rattle.freeze.proofs.freeze_list.Reads as reads
-use Rattle.freeze.proofs.freeze_list.Lts as lts
-use Rattle.freeze.proofs.unpack.Reads as unpack-reads
-use Rattle.freeze.proofs.write_front.Reads as write-front-reads
-use Rattle.store.proofs.header.Header.of.Reads as of-reads
 
 of-requires : tie.Need-of-requires
 of-requires c κs =
@@ -29,16 +23,20 @@ slice-aggregate-write-front c = search needs
 
 write-front-requires : tie.Need-write-front-requires
 write-front-requires c κs =
-    hours-in _ _ _ _ (c .before .before .before .before .before .before .before .before .pre) (c .before .before .before .before .before .of .ensures) (length-replicate {A = ℕ} 65536 0) (c .before .before .before .unpack .ensures)
+    let o = c .before .before .before .before .before in
+    hours-in _ _ _ _ (o .before .before .before .pre) (o .of .ensures) (length-replicate {A = ℕ} 65536 0) (c .before .before .before .unpack .ensures)
 
 same-length : tie.Need-same-length
 same-length c = search needs
 
 returns : tie.Need-returns
 returns c =
-    let a = c .before .before .before .before .before .before .before .before .before .before .before in
+    let filled = c .before .before .before .before .before .before in
+    let o = filled .before .before in
+    let a = o .before .before .before in
     let e : ℕ = a .args .e in
-    c .before .before .write-front .ensures ∙ ap (λ z. writeCall e z (a .args .out .now)) (list-is _ _ _ _ (a .pre) (c .before .before .before .before .before .before .before .before .of .ensures) (c .before .before .before .before .before .before .unpack .ensures))
+    c .before .before .write-front .ensures
+    ∙ ap (λ z. writeCall e z (a .args .out .now)) (list-is _ _ _ _ (a .pre) (o .of .ensures) (filled .unpack .ensures))
 
 pub freeze-list-spec : {M : Type 1} → statement M
 freeze-list-spec =

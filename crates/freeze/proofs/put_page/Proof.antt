@@ -1,5 +1,5 @@
-use mathlib.Core.Path.{_≡_, refl, sym, ap, _∙_}
-use Prim.Native.Nat.{ℕ, _+_, _-_, _≤_}
+use mathlib.Core.Path.{_≡_, refl, ap, _∙_}
+use Prim.Native.Nat.{_+_, _-_, _≤_}
 use native.Mathlib.Omega.{arith}
 use lib.ListN.{length, getD, set, length-set}
 use lib.Seq.{sets}
@@ -8,8 +8,6 @@ use Rattle.freeze.proofs.Listing.{all-stored, next}
 use borrow.Author.Needs.{needs}
 use Rattle.freeze.proofs.put_page.Statement.{statement}
 use Rattle.freeze.proofs.put_page.Tie as tie
-use Rattle.freeze.proofs.put_page.Reads as reads
-use Rattle.freeze.proofs.put_page.Lts as lts
 
 abbrev Inv-loop : tie.InvT-loop
 Inv-loop list₀ from counts i₀ list i = (i ≤ 64) × (length list ≡ length list₀) × (list ≡ sets list₀ from (part counts 0 i))

@@ -1,5 +1,5 @@
-use mathlib.Core.Path.{_≡_, refl, sym, ap, _∙_}
-use Prim.Native.Nat.{ℕ, _+_, _-_, _*_, _≤_}
+use mathlib.Core.Path.{_≡_, refl, ap, _∙_}
+use Prim.Native.Nat.{_+_, _-_, _*_, _≤_}
 use native.Mathlib.Omega.{arith}
 use lib.ListN.{length}
 use Rattle.lists.specs.Lists.{concat, splice, tabulate}
@@ -10,10 +10,6 @@ use Rattle.freeze.proofs.Listing.{none-put, one-put, put-length}
 use borrow.Author.Needs.{needs}
 use Rattle.freeze.proofs.unpack.Statement.{statement}
 use Rattle.freeze.proofs.unpack.Tie as tie
-use Rattle.freeze.proofs.unpack.Reads as reads
-use Rattle.freeze.proofs.unpack.Lts as lts
-use Rattle.freeze.proofs.put_page.Reads as put-page-reads
-use Rattle.pages.proofs.counts.page_counts.Reads as page-counts-reads
 
 abbrev Inv-loop : tie.InvT-loop
 Inv-loop s pages list₀ p₀ list p = (p ≤ pages) × (length list ≡ length list₀) × (list ≡ splice list₀ 0 (concat (tabulate p (page (read s .plain .counts)))))
@@ -52,7 +48,9 @@ loop-again c =
     let a = c .before .before .before .before .before .before .before .before .before .before in
     let l = c .before .before .before .before .before .before .before .loop in
     let xs = read (a .args .s .now) .plain .counts in
-    let e = one-put (a .args .list .now) (l .list) _ (page xs) (l .p) (page-length xs) (omega (arith, a .pre .2)) (l .inv .2) (c .before .before .put-page .ensures ∙ ap (λ z. splice (l .list) (64 * l .p) z) (c .before .before .before .before .before .page-counts .ensures)) in
+    let counts = c .before .before .before .before .before .page-counts .ensures in
+    let e = one-put (a .args .list .now) (l .list) _ (page xs) (l .p) (page-length xs) (omega (arith, a .pre .2)) (l .inv .2)
+    (c .before .before .put-page .ensures ∙ ap (λ z. splice (l .list) (64 * l .p) z) counts) in
     (omega arith, put-length (a .args .list .now) _ (page xs) (l .p + 1) (page-length xs) (omega (arith, a .pre .2)) e, e)
 
 same-length : tie.Need-same-length Inv-loop μ-loop

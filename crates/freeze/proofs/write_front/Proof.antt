@@ -3,9 +3,6 @@ use lib.Seq.{length-take-le}
 use borrow.Author.Needs.{needs}
 use Rattle.freeze.proofs.write_front.Statement.{statement}
 use Rattle.freeze.proofs.write_front.Tie as tie
-use Rattle.freeze.proofs.write_front.Reads as reads
-use Rattle.freeze.proofs.write_front.Lts as lts
-use Rattle.image.proofs.write.write.Reads as write-reads
 
 slice-aggregate-write : tie.Need-slice-aggregate-write
 slice-aggregate-write c = sym (length-take-le _ _ (c .before .before .before .pre))

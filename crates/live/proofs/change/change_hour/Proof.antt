@@ -80,11 +80,11 @@ mul-was c = search needs
 array-read-was : tie.Need-array-read-was
 array-read-was c = search needs
 
-cast-was : tie.Need-cast-was
-cast-was c = search needs
-
 total-requires : tie.Need-total-requires
 total-requires c κs = search needs
+
+cast-if1 : tie.Need-cast-if1
+cast-if1 c = search needs
 
 sub-if1 : tie.Need-sub-if1
 sub-if1 c =
@@ -109,6 +109,9 @@ returns c =
     let b = t .before .before .before .before .before .before .before .before .before .before .before in
     let h = t .before .before .before .before .before .before .before .before .of .ensures in
     end-3 (b .args .v) (b .pre .0) h (known t) (c .if1 .taken)
+
+cast-after : tie.Need-cast-after
+cast-after c = search needs
 
 sub-after : tie.Need-sub-after
 sub-after c =
@@ -201,12 +204,13 @@ change-hour-spec =
     counts-at-requires
     mul-was
     array-read-was
-    cast-was
     total-requires
+    cast-if1
     sub-if1
     add-if1
     same-length
     returns
+    cast-after
     sub-after
     add-after
     cells-of-requires-2

@@ -10,17 +10,15 @@ of-requires : tie.Need-of-requires
 of-requires c κs = omega (arith, facts (c .before .args .s .now) (c .before .pre) .long)
 
 returns : tie.Need-returns
-returns c =
-    let b = c .before .before .before .before in
-    count-7 (b .pre) (c .before .before .of .ensures) (b .args .i) (c .if1 .taken)
+returns c = count-7 (c .before .before .before .before .pre) (c .before .before .of .ensures) _ (c .if1 .taken)
 
 count-in-requires : tie.Need-count-in-requires
 count-in-requires c κs = search needs
 
 returns-2 : tie.Need-returns-2
 returns-2 c =
-    let b = c .before .before .before .before .before in
-    count-is (b .pre) (c .before .before .before .of .ensures) (b .args .i) (c .count-in .result) (c .before .if1 .left) (c .count-in .ensures)
+    let o = c .before .before .before in
+    count-is (o .before .before .pre) (o .of .ensures) _ _ (c .before .if1 .left) (c .count-in .ensures)
 
 pub count-spec : {M : Type 1} → statement M
 count-spec = tie.close (tie.spec of-requires returns count-in-requires returns-2)

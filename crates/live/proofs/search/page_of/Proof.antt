@@ -5,7 +5,6 @@ use Rattle.bits.specs.Numbers.{numberAt}
 use Rattle.store.specs.Reading.{read}
 use Rattle.store.proofs.SoundFacts.{facts}
 use Rattle.live.proofs.SpotLaws.{Going, goes, more, small, starts, stops}
-use borrow.Author.Needs.{needs}
 use Rattle.live.proofs.search.page_of.Statement.{statement}
 use Rattle.live.proofs.search.page_of.Tie as tie
 
