@@ -1,2 +1,3 @@
 -- Definitions of the crate.
 pub mod Words
+pub mod ReadBack

@@ -14,7 +14,8 @@ use Rattle.image.specs.Reach.{Reach}
 unfoldable pub minus : ℕ → ℕ
 minus k = (2 ^ 64 - k) % 2 ^ 64
 
--- two numbers in one word, the second one's unit at the k-th bit; exact where the sum is below 2^64 (`pair-exact`)
+-- two numbers in one word, the second one's unit at the k-th bit; exact where the sum is below 2^64 (`pair-exact`), as for every answer
+-- (`every-word`)
 unfoldable pub pair : ℕ → ℕ → ℕ → ℕ
 pair k a b = (a + b * 2 ^ k) % 2 ^ 64
 

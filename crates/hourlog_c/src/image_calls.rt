@@ -19,14 +19,14 @@ pub extern "C" fn hourlog_freeze(store: &[u8], e: u32, image: &mut [u8]) -> u64
 pub extern "C" fn hourlog_image_length(counts: &[u32], e: u32) -> u64
     ensures { λ r. ⌜ r ≡ replyWord (lengthCall e (now (counts .entry))) ⌝ }
 {
-    of_image(image::write::length(counts, e))
+    of_image(image_write::length(counts, e))
 }
 
 #[no_mangle]
 pub extern "C" fn hourlog_image_write(counts: &[u32], e: u32, image: &mut [u8]) -> u64
     ensures { λ r. ⌜ Writes (writeCall e (now (counts .entry)) (now (image .entry))) r (now (image .exit)) ⌝ }
 {
-    of_image(image::write::write(counts, e, image))
+    of_image(image_write::write(counts, e, image))
 }
 
 #[no_mangle]

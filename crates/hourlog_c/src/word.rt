@@ -31,12 +31,12 @@ pub(crate) fn of_store(a: store::answer::Answer) -> u64
     }
 }
 
-pub(crate) fn of_image(a: image::query::Answer) -> u64
+pub(crate) fn of_image(a: image::answer::Answer) -> u64
     ensures { λ r. ⌜ r ≡ replyWord (replied a) ⌝ }
 {
     match a {
-        image::query::Answer::Number(n) => n,
-        image::query::Answer::Refused(k) => minus(k),
+        image::answer::Answer::Number(n) => n,
+        image::answer::Answer::Refused(k) => minus(k),
     }
 }
 

@@ -1,6 +1,6 @@
 -- Numbers read digit by digit. Assumes nothing.
 use mathlib.Core.Path.{_≡_, refl, _∙_}
-use mathlib.Core.Bool.{Bool, true, false, _&&_}
+use mathlib.Core.Bool.{Bool, true, false, _&&_, and-false}
 use mathlib.Core.List.{List, [], _∷_, map}
 use Prim.Native.Nat.{ℕ, zero, suc, _+_, _-_, _*_, _≤_, _<_}
 use native.Mathlib.Nat.{not-suc-le-zero, le-of-suc-le-suc}
@@ -40,10 +40,6 @@ value-grows : (n : ℕ) (bs : List ℕ) → n ≤ valueFrom n bs
 unfolding valueFrom
 value-grows n [] = omega arith
 value-grows n (b ∷ bs) = omega (arith, value-grows (10 * n + (b - 48)) bs)
-
-and-false : (a : Bool) → (a && false) ≡ false
-and-false true = refl
-and-false false = refl
 
 pub from-over : (n : ℕ) (bs : List ℕ) → 4294967295 < n → numberFrom n bs ≡ Wrong
 unfolding numberFrom pick

@@ -10,6 +10,7 @@ use lib.ListN.{length, take, set, length-append, length-take}
 use lib.Seq.{take-nil, take-suc-set, take-all, take-take, take-append-le}
 use borrow.Author.Tests.{eq-eqb, ne-eqb}
 use Rattle.lists.specs.Lists.{pick}
+use Rattle.lists.proofs.Parts.{take-smaller}
 use Rattle.session.specs.Line.{splitOn, onFirst, command}
 use Rattle.session.specs.Lines.{closed, lines, holds, completes, ends, gathered, Gathers}
 use Rattle.session.specs.declared.line.Command.{Command}
@@ -105,16 +106,9 @@ one-for-each-line room input h =
     ∙ ap (λ ls. map command (closed (before [] ls))) (p .are) ∙ ap (λ ls. map command (closed ls)) (sym (p .are))
 
 -- the steps of the code: h of the n bytes are there
-pub take-min : (n : ℕ) (s : List ℕ) → take (min n (length s)) s ≡ take n s
-take-min n s = go (decLe n (length s))
-  where
-    go : Dec (n ≤ length s) → take (min n (length s)) s ≡ take n s
-    go (yes e) = ap (λ (k : ℕ). take k s) {x = min n (length s)} {y = n} (omega arith)
-    go (no e) = take-all (min n (length s)) s (omega arith) ∙ sym (take-all n s (omega arith))
-
 module _ (s : List ℕ) (n b h : ℕ) (e : h ≡ min n (length s)) where
   kept : take h s ≡ take n s
-  kept = ap (λ (k : ℕ). take k s) e ∙ take-min n s
+  kept = take-smaller s n h e
 
   pub gathers-end : (c : Command) → b ≡ 10 → c ≡ command (take h s) → Gathers s n b (Whole c) s
   gathers-end c q p = record {
@@ -149,7 +143,7 @@ module _ (s : List ℕ) (n b h : ℕ) (e : h ≡ min n (length s)) where
 -- the last line
 pub ends-none : (s : List ℕ) (n h : ℕ) → h ≡ min n (length s) → h ≡ 0 → ends (take n s) ≡ []
 unfolding ends
-ends-none s n h e z = ap ends (sym (take-min n s) ∙ ap (λ (k : ℕ). take k s) {x = min n (length s)} {y = 0} (omega arith))
+ends-none s n h e z = ap ends (sym (take-smaller s n h e) ∙ ap (λ (k : ℕ). take k s) z)
 
 ends-some : (l : List ℕ) → (length l ≡ 0 → ⊥) → ends l ≡ command l ∷ []
 unfolding ends
@@ -158,5 +152,5 @@ ends-some (b ∷ l) h = refl
 
 pub ends-line : (s : List ℕ) (n h : ℕ) → h ≡ min n (length s) → (h ≡ 0 → ⊥) → (c : Command) → c ≡ command (take h s) → c ∷ [] ≡ ends (take n s)
 ends-line s n h e z c p =
-    let k : take h s ≡ take n s = ap (λ (k : ℕ). take k s) e ∙ take-min n s in
+    let k : take h s ≡ take n s = take-smaller s n h e in
     ap (λ (d : Command). d ∷ []) (p ∙ ap command k) ∙ sym (ends-some (take n s) (λ q. z (omega (arith, q, length-take n s))))

@@ -14,7 +14,7 @@ use Rattle.session.specs.Printed.{decimal, printed, Prints}
 use Rattle.session.specs.declared.output.Reply.{Reply}
 use Rattle.session.specs.declared.output.Reply.the-variants.{Number, Done, Refused, Unknown}
 use Rattle.session.proofs.DecimalLaws.{decimal-length}
-use Rattle.lists.proofs.Parts.{splice-more, length-splice}
+use Rattle.lists.proofs.Parts.{splice-then, length-splice}
 
 -- a turn of the copying loop
 module _ (out : List ℕ) (at : ℕ) (text : List ℕ) (h : at + length text ≤ length out) (now : List ℕ) (i : ℕ) (e : now ≡ paste out at text i) where
@@ -31,18 +31,13 @@ module _ (out : List ℕ) (at : ℕ) (text : List ℕ) (h : at + length text ≤
       e ∙ append-assoc (take at out) (take i text) (drop (at + i) out)
       ∙ ap₂ (λ (x y : List ℕ). take at out ++ (x ++ y)) (take-all i text l′) (ap (λ (k : ℕ). drop (at + k) out) q)
 
--- two texts in a row are one
-pub put-both : (out : List ℕ) (at : ℕ) (a b mid fin : List ℕ) (end : ℕ) → at + length a + length b ≤ length out
-    → mid ≡ splice out at a → end ≡ at + length a → fin ≡ splice mid end b → fin ≡ splice out at (a ++ b)
-put-both out at a b mid fin end h p q r = r ∙ ap₂ (λ (z : List ℕ) (k : ℕ). splice z k b) p q ∙ splice-more out at a b h
-
 -- a number's line, from the digits that stand in a buffer of their own
 pub number-put : (out : List ℕ) (at n : ℕ) (text mid fin : List ℕ) (end r : ℕ) → at + 21 ≤ length out → text ≡ decimal n
     → mid ≡ splice out at text → end ≡ at + length text → fin ≡ splice mid end (10 ∷ []) → r ≡ end + 1
     → (r ≡ at + length (decimal n ++ (10 ∷ []))) × (fin ≡ splice out at (decimal n ++ (10 ∷ [])))
 number-put out at n text mid fin end r h e p q f g = (
   omega (arith, length-append (decimal n) (10 ∷ []), ap length e, g, q),
-  put-both out at text (10 ∷ []) mid fin end (omega (arith, ap length e, decimal-length 20 n)) p q f
+  splice-then out mid fin text (10 ∷ []) at end p f q (omega (arith, ap length e, decimal-length 20 n))
       ∙ ap (λ (z : List ℕ). splice out at (z ++ (10 ∷ []))) e,
 )
 
@@ -54,7 +49,7 @@ refused-put out k mid fin end r h p q f g =
     let w = length-append (bytes "refused ") (decimal k ++ (10 ∷ [])) in
     let l = length-append (decimal k) (10 ∷ []) in (
       omega (arith, w, g, q),
-      put-both out 0 (bytes "refused ") (decimal k ++ (10 ∷ [])) mid fin end (omega (arith, l, decimal-length 20 k)) p q f,
+      splice-then out mid fin (bytes "refused ") (decimal k ++ (10 ∷ [])) 0 end p f q (omega (arith, l, decimal-length 20 k)),
     )
 
 -- no reply's line is longer
@@ -67,11 +62,11 @@ printed-length (Refused k) =
 printed-length Unknown = omega arith
 
 -- a reply's line is this text
-module _ (reply : Reply) (text : List ℕ) (e : printed reply ≡ text) (out : List ℕ) (h : 32 ≤ length out) where
-  pub prints : (fin : List ℕ) (r : ℕ) → r ≡ 0 + length text → fin ≡ splice out 0 text → Prints reply out r fin × Counts r fin
-  prints fin r p q =
-      let l : r ≡ length (printed reply) = omega (arith, ap length e, p) in
-      let f : fin ≡ splice out 0 (printed reply) = q ∙ ap (splice out 0) (sym e) in
-      let room = printed-length reply in
-      let k = ap length f ∙ length-splice out 0 (printed reply) (omega arith) in
-      (record { long = l; bytes = f }, counts r fin (omega (arith, k)))
+pub prints : {reply : Reply} {text out fin : List ℕ} {r : ℕ} → printed reply ≡ text → 32 ≤ length out
+    → (r ≡ 0 + length text) × (fin ≡ splice out 0 text) → Prints reply out r fin × Counts r fin
+prints {reply} {text} {out} {fin} {r} e h w =
+    let l : r ≡ length (printed reply) = omega (arith, ap length e, w .0) in
+    let f : fin ≡ splice out 0 (printed reply) = w .1 ∙ ap (splice out 0) (sym e) in
+    let room = printed-length reply in
+    let k = ap length f ∙ length-splice out 0 (printed reply) (omega arith) in
+    (record { long = l; bytes = f }, counts r fin (omega (arith, k)))

@@ -1,7 +1,13 @@
-use mathlib.Core.Path.{refl, sym, ap, _∙_}
+use mathlib.Core.Path.{refl, sym, ap}
 use native.Mathlib.Omega.{arith}
 use lib.Seq.{length-take-le}
+use mathlib.Core.Path.{_≡_}
+use mathlib.Core.List.{[], _∷_}
+use types.Run.{OneOf, miss}
+use Rattle.store.specs.Plain.{refused}
 use Rattle.store.specs.Answers.{told}
+use Rattle.store.specs.declared.answer.Answer.{Answer}
+use Rattle.store.specs.declared.answer.Answer.the-variants.{Changed, Number, Refused}
 use Rattle.hourlog.proofs.TurnLaws.{renew-refuses, renew-starts, not-changed, not-answered}
 use borrow.Author.Needs.{needs}
 use Rattle.hourlog.proofs.respond.renew.Statement.{statement}
@@ -21,12 +27,6 @@ slice-aggregate-fresh c =
 fresh-requires : tie.Need-fresh-requires
 fresh-requires c κs = search needs
 
-enum-told : tie.Need-enum-told
-enum-told c = search needs
-
-enum-told-2 : tie.Need-enum-told-2
-enum-told-2 c = search needs
-
 enum-known-answer : tie.Need-enum-known-answer
 enum-known-answer c = search needs
 
@@ -35,32 +35,6 @@ same-length c = search needs
 
 returns : tie.Need-returns
 returns c =
-    let s = c .before .before .before .before .before .before .before .before in
-    let a = s .args in
-    let k = c .before .before .before .before .before .before .size-of in
-    let f = c .before .before .before .before .fresh in
-    renew-starts (a .pages) (a .cells) (a .store .now) (a .used) (k .result) (s .pre) (k .ensures .0) (k .ensures .1)
-    (told (f .result)) (f .last .0) (f .ensures)
-    _ (λ e. not-changed _ _ 9 (ap told (sym (c .enum-told .given .1)) ∙ e)) refl refl (f .kept .0)
-
-same-length-2 : tie.Need-same-length-2
-same-length-2 c = search needs
-
-returns-2 : tie.Need-returns-2
-returns-2 c =
-    let s = c .before .before .before .before .before .before .before .before in
-    let a = s .args in
-    let k = c .before .before .before .before .before .before .size-of in
-    let f = c .before .before .before .before .fresh in
-    renew-starts (a .pages) (a .cells) (a .store .now) (a .used) (k .result) (s .pre) (k .ensures .0) (k .ensures .1)
-    (told (f .result)) (f .last .0) (f .ensures)
-    _ (λ e. not-answered _ 9 (ap told (sym (c .enum-told2 .given .1)) ∙ e)) refl refl (f .kept .0)
-
-same-length-3 : tie.Need-same-length-3
-same-length-3 c = search needs
-
-returns-3 : tie.Need-returns-3
-returns-3 c =
     let s = c .before .before .before .before .before .before .before .before .before in
     let a = s .args in
     let k = c .before .before .before .before .before .before .before .size-of in
@@ -68,6 +42,24 @@ returns-3 c =
     renew-refuses (a .pages) (a .cells) (a .store .now) (a .used) (k .result) (s .pre) (k .ensures .0) (k .ensures .1)
     (told (f .result)) (f .last .0) (f .ensures)
     _ _ (ap told (c .before .answer .given .1)) refl refl
+
+same-length-2 : tie.Need-same-length-2
+same-length-2 c = search needs
+
+-- an answer of the other two cases
+other : (x : Answer) → OneOf (0 ∷ 1 ∷ []) (denote.Enum.Declared.tagOf Rattle.store.proofs.answer.Answer.the-type x) → told x ≡ refused 9 → ⊥
+other (Changed x y) k e = not-changed x y 9 e
+other (Number n) k e = not-answered n 9 e
+other (Refused n) k e = miss (0 ∷ 1 ∷ []) 2 tt k
+
+returns-2 : tie.Need-returns-2
+returns-2 c =
+    let s = c .before .before .before .before .before .before .before in
+    let a = s .args in
+    let k = c .before .before .before .before .before .size-of in
+    let f = c .before .before .before .fresh in
+    renew-starts (a .pages) (a .cells) (a .store .now) (a .used) (k .result) (s .pre) (k .ensures .0) (k .ensures .1)
+    (told (f .result)) (f .last .0) (f .ensures) _ (other (f .result) (c .match .keys2)) refl refl (f .kept .0)
 
 pub renew-spec : {M : Type 1} → statement M
 renew-spec =
@@ -77,12 +69,8 @@ renew-spec =
     slice-relend-prefix-fresh
     slice-aggregate-fresh
     fresh-requires
-    enum-told
-    enum-told-2
     enum-known-answer
     same-length
     returns
     same-length-2
-    returns-2
-    same-length-3
-    returns-3)
+    returns-2)

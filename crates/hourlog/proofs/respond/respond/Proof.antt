@@ -1,12 +1,7 @@
-use mathlib.Core.Path.{refl, sym, ap}
-use native.Mathlib.Omega.{arith}
-use lib.ListN.{take}
-use lib.Seq.{length-take-le}
-use Rattle.store.specs.Answers.{told}
+use mathlib.Core.Path.{refl}
 use Rattle.store.specs.Plain.{Call}
-use Rattle.session.specs.declared.line.Command.{Command}
 use Rattle.hourlog.specs.Session.{turn}
-use Rattle.hourlog.proofs.TurnLaws.{changes-it, asks-it, leaves-it, of-part}
+use Rattle.hourlog.proofs.TurnLaws.{asks-it, changes-it, front-long, leaves-it, of-part}
 use borrow.Author.Needs.{needs}
 use Rattle.hourlog.proofs.respond.respond.Statement.{statement}
 use Rattle.hourlog.proofs.respond.respond.Tie as tie
@@ -27,9 +22,7 @@ slice-relend-prefix-append : tie.Need-slice-relend-prefix-append
 slice-relend-prefix-append c = search needs
 
 slice-aggregate-append : tie.Need-slice-aggregate-append
-slice-aggregate-append c =
-    let k = c .before .before .before .before .smaller in
-    sym (length-take-le (k .result) (c .before .before .before .before .before .before .args .store .now) (omega (arith, k .ensures)))
+slice-aggregate-append c = front-long _ _ _ (c .before .before .before .before .smaller .ensures)
 
 append-requires : tie.Need-append-requires
 append-requires c κs = search needs
@@ -44,9 +37,7 @@ slice-relend-prefix-set : tie.Need-slice-relend-prefix-set
 slice-relend-prefix-set c = search needs
 
 slice-aggregate-set : tie.Need-slice-aggregate-set
-slice-aggregate-set c =
-    let k = c .before .before .before .before .smaller in
-    sym (length-take-le (k .result) (c .before .before .before .before .before .before .args .store .now) (omega (arith, k .ensures)))
+slice-aggregate-set c = front-long _ _ _ (c .before .before .before .before .smaller .ensures)
 
 set-requires : tie.Need-set-requires
 set-requires c κs = search needs
@@ -61,9 +52,7 @@ slice-reshare-prefix-count : tie.Need-slice-reshare-prefix-count
 slice-reshare-prefix-count c = search needs
 
 slice-aggregate-count : tie.Need-slice-aggregate-count
-slice-aggregate-count c =
-    let k = c .before .before .before .before .smaller in
-    sym (length-take-le (k .result) (c .before .before .before .before .before .before .args .store .now) (omega (arith, k .ensures)))
+slice-aggregate-count c = front-long _ _ _ (c .before .before .before .before .smaller .ensures)
 
 count-requires : tie.Need-count-requires
 count-requires c κs = search needs
@@ -78,9 +67,7 @@ slice-reshare-prefix-reading : tie.Need-slice-reshare-prefix-reading
 slice-reshare-prefix-reading c = search needs
 
 slice-aggregate-reading : tie.Need-slice-aggregate-reading
-slice-aggregate-reading c =
-    let k = c .before .before .before .before .smaller in
-    sym (length-take-le (k .result) (c .before .before .before .before .before .before .args .store .now) (omega (arith, k .ensures)))
+slice-aggregate-reading c = front-long _ _ _ (c .before .before .before .before .smaller .ensures)
 
 reading-requires : tie.Need-reading-requires
 reading-requires c κs = search needs
@@ -95,9 +82,7 @@ slice-reshare-prefix-reach : tie.Need-slice-reshare-prefix-reach
 slice-reshare-prefix-reach c = search needs
 
 slice-aggregate-reach : tie.Need-slice-aggregate-reach
-slice-aggregate-reach c =
-    let k = c .before .before .before .before .smaller in
-    sym (length-take-le (k .result) (c .before .before .before .before .before .before .args .store .now) (omega (arith, k .ensures)))
+slice-aggregate-reach c = front-long _ _ _ (c .before .before .before .before .smaller .ensures)
 
 reach-requires : tie.Need-reach-requires
 reach-requires c κs = search needs
@@ -112,9 +97,7 @@ slice-reshare-prefix-day : tie.Need-slice-reshare-prefix-day
 slice-reshare-prefix-day c = search needs
 
 slice-aggregate-day : tie.Need-slice-aggregate-day
-slice-aggregate-day c =
-    let k = c .before .before .before .before .smaller in
-    sym (length-take-le (k .result) (c .before .before .before .before .before .before .args .store .now) (omega (arith, k .ensures)))
+slice-aggregate-day c = front-long _ _ _ (c .before .before .before .before .smaller .ensures)
 
 day-requires : tie.Need-day-requires
 day-requires c κs = search needs
@@ -129,9 +112,7 @@ slice-reshare-prefix-free : tie.Need-slice-reshare-prefix-free
 slice-reshare-prefix-free c = search needs
 
 slice-aggregate-free : tie.Need-slice-aggregate-free
-slice-aggregate-free c =
-    let k = c .before .before .before .smaller in
-    sym (length-take-le (k .result) (c .before .before .before .before .before .args .store .now) (omega (arith, k .ensures)))
+slice-aggregate-free c = front-long _ _ _ (c .before .before .before .smaller .ensures)
 
 free-requires : tie.Need-free-requires
 free-requires c κs = search needs
@@ -147,11 +128,8 @@ same-length c = search needs
 
 returns : tie.Need-returns
 returns c =
-    let a = c .before .before .before .before .before .before .before .before .before .args in
-    let k = c .before .before .before .before .before .before .before .smaller in
-    let r = c .before .before .renew in
-    of-part _ (a .command) (a .store .now) (a .used) (k .result) (r .result) (r .last .0)
-    (k .ensures) (c .before .before .before .before .before .command .given .1) (r .ensures)
+    of-part (c .before .before .before .before .before .before .before .smaller .ensures)
+    (c .before .before .before .before .before .command .given .1) (c .before .before .renew .ensures)
 
 same-length-2 : tie.Need-same-length-2
 same-length-2 c = search needs
@@ -159,13 +137,9 @@ same-length-2 c = search needs
 returns-2 : tie.Need-returns-2
 unfolding turn
 returns-2 c =
-    let a = c .before .before .before .before .before .before .before .before .before .before .args in
-    let k = c .before .before .before .before .before .before .before .before .smaller in
-    let v = c .before .before .before .before .before .before .command2 .given in
-    let w = ap (λ (z : Command). turn z (take (a .used) (a .store .now))) (v .1) in
     let r = c .before .before .before .append in
-    changes-it (a .command) (a .store .now) (a .used) (k .result) (k .ensures) (c .kept .result) (c .kept .ensures .0)
-    (Call.Append (v .0 .0)) (told (r .result)) (r .last .0) w (r .ensures) (r .kept .0) (c .kept .ensures .1)
+    changes-it (Call.Append _) (c .before .before .before .before .before .before .before .before .smaller .ensures)
+    (c .before .before .before .before .before .before .command2 .given .1) (c .kept .ensures) refl (r .ensures) (r .kept .0)
 
 same-length-3 : tie.Need-same-length-3
 same-length-3 c = search needs
@@ -173,13 +147,9 @@ same-length-3 c = search needs
 returns-3 : tie.Need-returns-3
 unfolding turn
 returns-3 c =
-    let a = c .before .before .before .before .before .before .before .before .before .before .args in
-    let k = c .before .before .before .before .before .before .before .before .smaller in
-    let v = c .before .before .before .before .before .before .command3 .given in
-    let w = ap (λ (z : Command). turn z (take (a .used) (a .store .now))) (v .1) in
     let r = c .before .before .before .set in
-    changes-it (a .command) (a .store .now) (a .used) (k .result) (k .ensures) (c .kept2 .result) (c .kept2 .ensures .0)
-    (Call.Set (v .0 .0) (v .0 .1 .0)) (told (r .result)) (r .last .0) w (r .ensures) (r .kept .0) (c .kept2 .ensures .1)
+    changes-it (Call.Set _ _) (c .before .before .before .before .before .before .before .before .smaller .ensures)
+    (c .before .before .before .before .before .before .command3 .given .1) (c .kept2 .ensures) refl (r .ensures) (r .kept .0)
 
 same-length-4 : tie.Need-same-length-4
 same-length-4 c = search needs
@@ -187,13 +157,8 @@ same-length-4 c = search needs
 returns-4 : tie.Need-returns-4
 unfolding turn
 returns-4 c =
-    let a = c .before .before .before .before .before .before .before .before .args in
-    let k = c .before .before .before .before .before .before .smaller in
-    let v = c .before .before .before .before .command4 .given in
-    let w = ap (λ (z : Command). turn z (take (a .used) (a .store .now))) (v .1) in
-    let r = c .before .count in
-    asks-it (a .command) (a .store .now) (a .used) (k .result) (k .ensures) (c .kept3 .result) (c .kept3 .ensures .0)
-    (Call.Count (v .0 .0)) (told (r .result)) w (r .ensures .answer) (c .kept3 .ensures .1)
+    asks-it (Call.Count _) (c .before .before .before .before .before .before .smaller .ensures)
+    (c .before .before .before .before .command4 .given .1) (c .kept3 .ensures) refl (c .before .count .ensures .answer)
 
 same-length-5 : tie.Need-same-length-5
 same-length-5 c = search needs
@@ -201,13 +166,8 @@ same-length-5 c = search needs
 returns-5 : tie.Need-returns-5
 unfolding turn
 returns-5 c =
-    let a = c .before .before .before .before .before .before .before .before .args in
-    let k = c .before .before .before .before .before .before .smaller in
-    let v = c .before .before .before .before .command5 .given in
-    let w = ap (λ (z : Command). turn z (take (a .used) (a .store .now))) (v .1) in
-    let r = c .before .reading in
-    asks-it (a .command) (a .store .now) (a .used) (k .result) (k .ensures) (c .kept4 .result) (c .kept4 .ensures .0)
-    (Call.Reading (v .0 .0)) (told (r .result)) w (r .ensures .answer) (c .kept4 .ensures .1)
+    asks-it (Call.Reading _) (c .before .before .before .before .before .before .smaller .ensures)
+    (c .before .before .before .before .command5 .given .1) (c .kept4 .ensures) refl (c .before .reading .ensures .answer)
 
 same-length-6 : tie.Need-same-length-6
 same-length-6 c = search needs
@@ -215,13 +175,8 @@ same-length-6 c = search needs
 returns-6 : tie.Need-returns-6
 unfolding turn
 returns-6 c =
-    let a = c .before .before .before .before .before .before .before .before .args in
-    let k = c .before .before .before .before .before .before .smaller in
-    let v = c .before .before .before .before .command6 .given in
-    let w = ap (λ (z : Command). turn z (take (a .used) (a .store .now))) (v .1) in
-    let r = c .before .reach in
-    asks-it (a .command) (a .store .now) (a .used) (k .result) (k .ensures) (c .kept5 .result) (c .kept5 .ensures .0)
-    (Call.Reach (v .0 .0)) (told (r .result)) w (r .ensures .answer) (c .kept5 .ensures .1)
+    asks-it (Call.Reach _) (c .before .before .before .before .before .before .smaller .ensures)
+    (c .before .before .before .before .command6 .given .1) (c .kept5 .ensures) refl (c .before .reach .ensures .answer)
 
 same-length-7 : tie.Need-same-length-7
 same-length-7 c = search needs
@@ -229,13 +184,8 @@ same-length-7 c = search needs
 returns-7 : tie.Need-returns-7
 unfolding turn
 returns-7 c =
-    let a = c .before .before .before .before .before .before .before .before .args in
-    let k = c .before .before .before .before .before .before .smaller in
-    let v = c .before .before .before .before .command7 .given in
-    let w = ap (λ (z : Command). turn z (take (a .used) (a .store .now))) (v .1) in
-    let r = c .before .day in
-    asks-it (a .command) (a .store .now) (a .used) (k .result) (k .ensures) (c .kept6 .result) (c .kept6 .ensures .0)
-    (Call.Day (v .0 .0)) (told (r .result)) w (r .ensures .answer) (c .kept6 .ensures .1)
+    asks-it (Call.Day _) (c .before .before .before .before .before .before .smaller .ensures)
+    (c .before .before .before .before .command7 .given .1) (c .kept6 .ensures) refl (c .before .day .ensures .answer)
 
 same-length-8 : tie.Need-same-length-8
 same-length-8 c = search needs
@@ -243,20 +193,13 @@ same-length-8 c = search needs
 returns-8 : tie.Need-returns-8
 unfolding turn
 returns-8 c =
-    let a = c .before .before .before .before .before .before .before .args in
-    let k = c .before .before .before .before .before .smaller in
-    let w = ap (λ (z : Command). turn z (take (a .used) (a .store .now))) (c .before .before .before .enum-told .given .1) in
-    let r = c .before .free in
-    asks-it (a .command) (a .store .now) (a .used) (k .result) (k .ensures) (c .kept7 .result) (c .kept7 .ensures .0)
-    Call.Free (told (r .result)) w (r .ensures .answer) (c .kept7 .ensures .1)
+    asks-it Call.Free (c .before .before .before .before .before .smaller .ensures)
+    (c .before .before .before .enum-told .given .1) (c .kept7 .ensures) refl (c .before .free .ensures .answer)
 
 returns-9 : tie.Need-returns-9
 unfolding turn
 returns-9 c =
-    let a = c .before .before .before .before .args in
-    let k = c .before .before .smaller in
-    let w = ap (λ (z : Command). turn z (take (a .used) (a .store .now))) (c .enum-told2 .given .1) in
-    leaves-it (a .command) (a .store .now) (a .used) (k .result) (k .ensures) _ refl _ w refl
+    leaves-it (c .before .before .smaller .ensures) (c .enum-told2 .given .1) refl
 
 pub respond-spec : {M : Type 1} → statement M
 respond-spec =

@@ -1,8 +1,8 @@
 use mathlib.Core.Path.{refl}
+use mathlib.Core.Bool.{and-false}
 use native.Mathlib.Omega.{arith}
 use borrow.Author.Tests.{le-leb, lt-leb}
 use Rattle.lists.specs.Lists.{pick}
-use Rattle.hourlog.proofs.TurnLaws.{and-false}
 use borrow.Author.Needs.{needs}
 use Rattle.hourlog.proofs.respond.size_of.Statement.{statement}
 use Rattle.hourlog.proofs.respond.size_of.Tie as tie

@@ -6,7 +6,7 @@ use Rattle.hourlog_c.proofs.image_calls.hourlog_image_length.Tie as tie
 use Rattle.hourlog_c.proofs.image_calls.hourlog_image_length.Reads as reads
 use Rattle.hourlog_c.proofs.image_calls.hourlog_image_length.Lts as lts
 use Rattle.hourlog_c.proofs.word.of_image.Reads as of-image-reads
-use Rattle.image.proofs.write.length.Reads as length-reads
+use Rattle.image_write.proofs.length.Reads as length-reads
 
 length-requires : tie.Need-length-requires
 length-requires c κs = search needs

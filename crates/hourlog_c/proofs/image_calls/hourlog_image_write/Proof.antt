@@ -5,7 +5,7 @@ use Rattle.hourlog_c.proofs.image_calls.hourlog_image_write.Tie as tie
 use Rattle.hourlog_c.proofs.image_calls.hourlog_image_write.Reads as reads
 use Rattle.hourlog_c.proofs.image_calls.hourlog_image_write.Lts as lts
 use Rattle.hourlog_c.proofs.word.of_image.Reads as of-image-reads
-use Rattle.image.proofs.write.write.Reads as write-reads
+use Rattle.image_write.proofs.write.Reads as write-reads
 
 write-requires : tie.Need-write-requires
 write-requires c κs = search needs

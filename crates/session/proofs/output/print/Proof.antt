@@ -50,10 +50,8 @@ same-length c = search needs
 returns : tie.Need-returns
 unfolding printed
 returns c =
-    let s = c .before .before .before .before .before .before .before .before in
-    let p = c .before .before .put-number in
-    let e = ap printed (c .before .before .before .before .before .reply .given .1) in
-    prints (s .args .reply) _ e (s .args .out .now) (s .pre) (p .last .0) (p .result) (p .ensures .0) (p .ensures .1)
+    let r = c .before .before .before .before .before in
+    prints (ap printed (r .reply .given .1)) (r .before .before .before .pre) (c .before .before .put-number .ensures)
 
 same-length-2 : tie.Need-same-length-2
 same-length-2 c = search needs
@@ -61,10 +59,8 @@ same-length-2 c = search needs
 returns-2 : tie.Need-returns-2
 unfolding printed
 returns-2 c =
-    let s = c .before .before .before .before .before .before .before .before in
-    let p = c .before .before .put in
-    let e = ap printed (c .before .before .before .before .before .enum-told .given .1) in
-    prints (s .args .reply) _ e (s .args .out .now) (s .pre) (p .last .0) (p .result) (p .ensures .0) (p .ensures .1)
+    let r = c .before .before .before .before .before in
+    prints (ap printed (r .enum-told .given .1)) (r .before .before .before .pre) (c .before .before .put .ensures)
 
 same-length-3 : tie.Need-same-length-3
 same-length-3 c = search needs
@@ -72,14 +68,11 @@ same-length-3 c = search needs
 returns-3 : tie.Need-returns-3
 unfolding printed
 returns-3 c =
-    let a = c .before .before .before .before .before .before .before .before .before .before .before .before .before .args in
-    let v = c .before .before .before .before .before .before .before .before .before .before .reply2 .given in
+    let h = c .before .before .before .before .before .before .before .before .before .before .before .before .before .pre in
     let p = c .before .before .before .before .before .before .put2 in
     let q = c .before .before .put-number2 in
-    let h = c .before .before .before .before .before .before .before .before .before .before .before .before .before .pre in
-    let w = refused-put (a .out .now) (v .0 .0) (p .last .0) (q .last .0) (p .result) (q .result) h
-    (p .ensures .1) (p .ensures .0) (q .ensures .1) (q .ensures .0) in
-    prints (a .reply) _ (ap printed (v .1)) (a .out .now) h (q .last .0) (q .result) (w .0) (w .1)
+    prints (ap printed (c .before .before .before .before .before .before .before .before .before .before .reply2 .given .1)) h
+    (refused-put _ _ (p .last .0) (q .last .0) (p .result) (q .result) h (p .ensures .1) (p .ensures .0) (q .ensures .1) (q .ensures .0))
 
 same-length-4 : tie.Need-same-length-4
 same-length-4 c = search needs
@@ -87,10 +80,8 @@ same-length-4 c = search needs
 returns-4 : tie.Need-returns-4
 unfolding printed
 returns-4 c =
-    let s = c .before .before .before .before .before .before .before .before in
-    let p = c .before .before .put3 in
-    let e = ap printed (c .before .before .before .before .before .enum-told2 .given .1) in
-    prints (s .args .reply) _ e (s .args .out .now) (s .pre) (p .last .0) (p .result) (p .ensures .0) (p .ensures .1)
+    let r = c .before .before .before .before .before in
+    prints (ap printed (r .enum-told2 .given .1)) (r .before .before .before .pre) (c .before .before .put3 .ensures)
 
 pub print-spec : {M : Type 1} → statement M
 print-spec =
