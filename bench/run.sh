@@ -1,15 +1,16 @@
 #!/bin/sh
 # The benchmark: the library beside unverified Rust of the same algorithm.
 #
-# usage: HOURLOG_LIB=folder bench/run.sh
-#   HOURLOG_LIB  the folder that holds libhourlog_c.a
+# usage: bench/run.sh
+#   HOURLOG_LIB  the folder that holds libhourlog_c.a (else it is built)
 set -eu
 
-: "${HOURLOG_LIB:?set HOURLOG_LIB to the folder that holds libhourlog_c.a}"
-HOURLOG_LIB=$(cd "$HOURLOG_LIB" && pwd)
+folder=$(dirname "$0")
+HOURLOG_LIB=$("$folder/../tests/library.sh")
 export HOURLOG_LIB
-cd "$(dirname "$0")/.."
+cd "$folder/.."
 
-CARGO_TARGET_DIR=target/bench cargo build --quiet --offline --release \
-    --manifest-path bench/Cargo.toml
+echo "== the benchmark is built" >&2
+cargo build --quiet --offline --release --manifest-path bench/Cargo.toml --target-dir target/bench
+echo "== the benchmark runs (a quarter of a minute; the machine should be quiet)" >&2
 target/bench/release/bench

@@ -14,8 +14,9 @@
 #include <stdlib.h>
 #include <string.h>
 
-/* Four pages log 256 hours, ten days and more; eight cells a page would
- * suffice for any takings, and so many are rarely needed. */
+/* Four pages log 256 hours, ten days and more.  This arcade takes some 1,000
+ * coins in the 64 hours of a page, which need two cells: twelve leave room for
+ * better weeks.  (Eight cells a page would suffice for any takings.) */
 #define PAGES 4
 #define CELLS 12
 
@@ -23,7 +24,7 @@
 #define IMAGE_E 5
 
 static uint8_t store[HOURLOG_STORE_LENGTH(PAGES, CELLS)];
-static uint8_t image[HOURLOG_IMAGE_LENGTH_MAX(PAGES * HOURLOG_HOURS_A_PAGE, IMAGE_E)];
+static uint8_t image[HOURLOG_FREEZE_LENGTH_MAX(PAGES, CELLS, IMAGE_E)];
 
 /* What to tell staff; the index is the refusal's number. */
 static const char *const meaning[] = {
@@ -109,7 +110,7 @@ static int log_hour(uint32_t coins)
     switch (hourlog_refusal(answer)) {
     case HOURLOG_REFUSED_FULL:
     case HOURLOG_REFUSED_CELLS:
-        puts("    -> freeze the log, then start a fresh store");
+        puts("    -> save the log, and log this hour in a fresh store");
         break;
     case HOURLOG_REFUSED_TOTAL:
         puts("    -> look at the coin counter: nobody pays that much");
@@ -150,7 +151,9 @@ static void correct_an_hour(void)
     report("count of hour 20", hourlog_count(store, sizeof store, 20));
 }
 
-/* The image goes to a file, as it would to a memory stick. */
+/* The image goes to a file, as it would to a memory stick.  A board without
+ * HOURLOG_FREEZE_STACK bytes of stack writes the store itself there, and the
+ * laptop freezes it. */
 static void freeze_to(const char *path)
 {
     int64_t length = must(hourlog_freeze(store, sizeof store, IMAGE_E, image, sizeof image));
@@ -161,6 +164,17 @@ static void freeze_to(const char *path)
         exit(EXIT_FAILURE);
     }
     report("image written, bytes", length);
+}
+
+/* A log that takes no more: it is saved, and the hour that was refused becomes
+ * hour 0 of the next one.  (The log knows no calendar: a board notes with the
+ * file which hour its hour 0 was.) */
+static void start_over(const char *path, uint32_t refused_coins)
+{
+    freeze_to(path);
+    must(hourlog_fresh(store, sizeof store, PAGES, CELLS));
+    report_cells("refused hour, in a fresh store",
+                 must(hourlog_append(store, sizeof store, refused_coins)));
 }
 
 /* ---- the laptop ---------------------------------------------------------- */
@@ -208,7 +222,7 @@ static void image_of_a_list(void)
 
 /* ---- every refusal once -------------------------------------------------- */
 
-static void refusals_of_the_store(void)
+static void refusals_of_the_store(const char *path)
 {
     report("fresh with no pages", hourlog_fresh(store, sizeof store, 0, CELLS));
     log_hour(HOURLOG_TOTAL_MAX);
@@ -219,6 +233,7 @@ static void refusals_of_the_store(void)
     report_cells("hour 0 set to 1,000,000,000",
                  hourlog_set(store, sizeof store, 0, 1000000000u));
     log_hour(1000000000u);
+    start_over(path, 1000000000u);
     while (log_hour(0)) {
         /* hours without coins need no cells: they fit until the log is full */
     }
@@ -254,7 +269,7 @@ int main(int argc, char **argv)
     freeze_to(argv[1]);
     look_into_image(argv[1]);
     image_of_a_list();
-    refusals_of_the_store();
+    refusals_of_the_store(argv[1]);
     refusals_of_the_image(argv[1]);
     return EXIT_SUCCESS;
 }

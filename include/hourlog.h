@@ -15,7 +15,30 @@
  * take const pointers change no byte ever.
  *
  * A pointer must be good for the length given with it; with length 0 it is not
- * followed and may be NULL.  The two buffers of one call must not overlap.
+ * followed and may be NULL.  Bytes may lie at any address, counts at one that
+ * is good for a uint32_t.  The two buffers of one call must not overlap.
+ *
+ * WHAT A BOARD HAS TO GIVE
+ *
+ * Processor: the library is compiled for x86-64 alone.  The bytes of a store or
+ * an image mean the same on every machine.
+ * Memory: the buffers, which the macros below measure (the largest store has
+ * 63,760 bytes); 14 KiB of code; memcpy and memset of the C library.
+ * Stack: HOURLOG_STACK, for freeze HOURLOG_FREEZE_STACK.  A board that has not
+ * so much sends its store's bytes as they are, and the laptop freezes them.
+ * Time: a store call reads the whole store to check it, so its time grows with
+ * the store: by about 4,000 instructions for a page that has coins in it.  A
+ * change of an hour costs some 30,000 more.  That is 40,000 for an append to a
+ * store of 4 pages, and 4 million, a third of a millisecond on a desktop, to
+ * one of 1,024.  An image is written and checked in time that grows with its
+ * hours; its count and reading take the same few hundred instructions whatever
+ * its length, reach about twice as many.
+ * Threads and interrupts: any number of calls may run at once, unless one of
+ * them changes a buffer that another is lent.
+ * Power: a call is not atomic.  Cut off within fresh, append or set, it may
+ * leave bytes that are not sound, or that are sound and hold another count.
+ * Where power can fail, change a copy, and say in a byte of your own beside the
+ * two which of them is whole.
  */
 #ifndef HOURLOG_H
 #define HOURLOG_H
@@ -41,6 +64,15 @@ extern "C" {
 #define HOURLOG_STORE_LENGTH(P, C) \
     ((size_t)16 + (size_t)6 * (size_t)(P) + (size_t)32 * (size_t)(C))
 
+/* How many cells a page of 64 hours needs goes by the coins in it:
+ *
+ *     coins, up to   0  122  1,771  25,226  353,686  4,860,066  66,043,643
+ *     cells          0    1      2       3        4          5           6
+ *
+ * and 7 up to 954,437,176, and 8 above.  So a store of 8*P cells is never
+ * refused 12; with fewer, it goes by what all pages need together. */
+#define HOURLOG_CELLS_A_PAGE_MAX 8u
+
 /* Bytes that suffice for the image of this many hours at page size 2^e,
  * whatever the counts are; a constant if both are.  Most images are far
  * shorter. */
@@ -52,8 +84,36 @@ extern "C" {
           (((size_t)1 << (e)) * (size_t)(35 - (e)) - 4) + \
       7) / 8)
 
+/* Bytes that suffice for freezing any store of P pages and C cells, for e up
+ * to 6; a constant if all three are.  With e = 6 it is about the length of the
+ * store. */
+#define HOURLOG_FREEZE_LENGTH_MAX(P, C, e)                              \
+    ((size_t)16 + (size_t)30 * (size_t)(C) +                            \
+     8 * HOURLOG_IMAGE_PAGES((size_t)(P) * HOURLOG_HOURS_A_PAGE, (e)))
+
+/* Bytes of stack that suffice for freeze, and for every other call: as measured
+ * on x86-64, with some room.  Recursion is never deeper than 8. */
+#define HOURLOG_FREEZE_STACK 278528u
+#define HOURLOG_STACK 8192u
+
 /* ---- refusals ---------------------------------------------------------- */
 
+/*
+ * What to do at one:
+ *   1, 2, 4, 7, 8, 9  The arguments do not fit: a matter for the program.  At 4
+ *       the macros above, or hourlog_image_length, say what does.
+ *   3   Nobody pays that much: look at the coin counter.
+ *   5, 6  A laptop takes the image from the board again.  At 6, count and
+ *       reading still answer for the hours whose path is whole.
+ *   10  These bytes are not a sound store, or len is not their length.  A new
+ *       board makes a fresh store.  One in use first copies the bytes away:
+ *       they may be a log that was damaged.
+ *   11, 12  The log takes no more, and the refused hour is NOT in it.  Save the
+ *       log, by freeze or as it stands; make a fresh store; append the refused
+ *       count to it, as its hour 0.  At 12 a smaller count may still fit, and
+ *       an hour without coins does; but no cell comes back unless a set makes
+ *       some count smaller.
+ */
 #define HOURLOG_REFUSED_PAGE_SIZE 1 /* e outside 2 to 8                        */
 #define HOURLOG_REFUSED_LIST 2      /* over 65,536 counts                      */
 #define HOURLOG_REFUSED_TOTAL 3     /* the total would pass 4,294,967,295      */
@@ -120,6 +180,7 @@ int64_t hourlog_free(const uint8_t *store, size_t len);
 
 /* Writes the image of all logged counts, pages of 2^e counts, and answers its
  * length in bytes.  Bytes of the buffer beyond the image are left unchanged.
+ * A smaller e makes the image longer and its queries faster.
  * Refuses: 10, 1, 4. */
 int64_t hourlog_freeze(const uint8_t *store, size_t len, uint32_t e,
                        uint8_t *image, size_t image_len);

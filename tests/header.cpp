@@ -1,5 +1,5 @@
-// The header as C++ sees it: it compiles, its constants are constants, and its
-// names link without C++'s mangling.
+// The header as C++ sees it: it compiles, its constants are constants, its names
+// link without C++'s mangling, and what it says of lengths and cells is so.
 #include "hourlog.h"
 
 #undef NDEBUG
@@ -11,9 +11,57 @@ static_assert(HOURLOG_STORE_LENGTH(1, 2) == 86, "16 + 6 + 64");
 static_assert(HOURLOG_STORE_LENGTH(HOURLOG_PAGES_MAX, HOURLOG_CELLS_MAX) == 63760,
               "the largest store");
 static_assert(HOURLOG_IMAGE_LENGTH_MAX(5, 2) == 16 + 8 + 32, "two pages of 128 bits");
+static_assert(HOURLOG_FREEZE_LENGTH_MAX(1, 2, 6) == 16 + 8 + 60, "one page of two cells");
+
+// One page that holds the greatest total is the longest page of its size.
+static void longest_images()
+{
+    const std::vector<uint32_t> counts{HOURLOG_TOTAL_MAX};
+    for (uint32_t e = HOURLOG_PAGE_SIZE_MIN; e <= HOURLOG_PAGE_SIZE_MAX; e++) {
+        const int64_t length = hourlog_image_length(counts.data(), counts.size(), e);
+        assert(!hourlog_is_refused(length));
+        assert(static_cast<size_t>(length) == HOURLOG_IMAGE_LENGTH_MAX(1, e));
+    }
+}
+
+// The header's table: the greatest sum of a page of 1, 2, .. 7 cells.
+static void cells_of_a_page()
+{
+    const uint32_t most[] = {122, 1771, 25226, 353686, 4860066, 66043643, 954437176};
+    std::vector<uint8_t> store(HOURLOG_STORE_LENGTH(1, HOURLOG_CELLS_A_PAGE_MAX));
+    uint32_t cells = 0;
+    for (const uint32_t sum : most) {
+        cells++;
+        assert(hourlog_fresh(store.data(), store.size(), 1, HOURLOG_CELLS_A_PAGE_MAX) == 0);
+        assert(hourlog_taken(hourlog_append(store.data(), store.size(), sum)) == cells);
+        assert(hourlog_taken(hourlog_set(store.data(), store.size(), 0, sum + 1)) == 1);
+    }
+    assert(cells + 1 == HOURLOG_CELLS_A_PAGE_MAX);
+    assert(hourlog_taken(hourlog_set(store.data(), store.size(), 0, HOURLOG_TOTAL_MAX)) == 0);
+}
+
+// Stores filled until they take no more, each hour ever dearer: their images fit.
+static void freezing_fits()
+{
+    const uint32_t pages = 3;
+    for (uint32_t cells = 1; cells <= pages * HOURLOG_CELLS_A_PAGE_MAX; cells++) {
+        std::vector<uint8_t> store(HOURLOG_STORE_LENGTH(pages, cells));
+        assert(hourlog_fresh(store.data(), store.size(), pages, cells) == 0);
+        for (uint32_t count = 1; !hourlog_is_refused(
+                 hourlog_append(store.data(), store.size(), count)); count += 1 + count / 16) {
+        }
+        for (uint32_t e = HOURLOG_PAGE_SIZE_MIN; e <= 6; e++) {
+            std::vector<uint8_t> image(HOURLOG_FREEZE_LENGTH_MAX(pages, cells, e));
+            assert(hourlog_freeze(store.data(), store.size(), e, image.data(), image.size()) > 0);
+        }
+    }
+}
 
 int main()
 {
+    longest_images();
+    cells_of_a_page();
+    freezing_fits();
     std::vector<uint8_t> store(HOURLOG_STORE_LENGTH(1, 2));
     assert(hourlog_fresh(store.data(), store.size(), 1, 2) == 0);
 

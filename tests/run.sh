@@ -1,32 +1,49 @@
 #!/bin/sh
 # The tests outside the proofs: the library against the second implementation,
-# the C example, the header as C++, and the sanitised runs.
+# the C example, the header as C++ and its figures, and comparison and example
+# once more in a build with AddressSanitizer.
 #
-# usage: HOURLOG_LIB=folder tests/run.sh
-#   HOURLOG_LIB     the folder that holds libhourlog_c.a
-#   HOURLOG_PROGRAM the session program hourlog, compared too if it is given
+# usage: tests/run.sh
+#   HOURLOG_LIB     the folder that holds libhourlog_c.a (else it is built)
+#   HOURLOG_PROGRAM the session program (else it is built; empty: left out)
 #   HOURLOG_ROUNDS  makes the comparison so many times as long (1)
 #   HOURLOG_SEED    plays one seed of the comparison alone
+#
+# A byte that the library reads or writes outside a slice it is lent is seen
+#   - in the comparison: each call is made on memory that ends, and once more on
+#     memory that starts, at inaccessible pages. The library is the one that is
+#     shipped, and any step outside faults (tests/second/src/lent.rs);
+#   - in the build with AddressSanitizer: the library is compiled anew from its
+#     proved code with a check in front of each load and store
+#     (tests/instrumented.sh), and lent exactly sized heap blocks by the
+#     comparison, static arrays by the C example.
+# Both first try themselves on buffers that lack one element ('steps outside').
 set -eu
 
-: "${HOURLOG_LIB:?set HOURLOG_LIB to the folder that holds libhourlog_c.a}"
-HOURLOG_LIB=$(cd "$HOURLOG_LIB" && pwd)
+folder=$(dirname "$0")
+HOURLOG_LIB=$("$folder/library.sh")
 export HOURLOG_LIB
 if [ -n "${HOURLOG_PROGRAM:-}" ]; then
     HOURLOG_PROGRAM=$(cd "$(dirname "$HOURLOG_PROGRAM")" && pwd)/$(basename "$HOURLOG_PROGRAM")
 fi
-cd "$(dirname "$0")/.."
+cd "$folder/.."
+if [ -z "${HOURLOG_PROGRAM+given}" ]; then
+    echo "== the session program"
+    rt check hourlog
+    HOURLOG_PROGRAM=$PWD/target/bin/hourlog
+fi
 
 out=target/outside
+instrumented=$PWD/target/instrumented
 mkdir -p "$out"
-warnings="-Wall -Wextra -Wpedantic -Werror"
-sanitizers="-g -O1 -fsanitize=address,undefined -fno-sanitize-recover=all"
 
-# build NAME COMPILER-AND-FLAGS.. SOURCE: one program over header and library.
+# build NAME LIBRARY-FOLDER COMPILER-AND-FLAGS.. SOURCE: one program over header
+# and library.
 build() {
     name=$1
-    shift
-    "$@" $warnings -Iinclude -L"$HOURLOG_LIB" -o "$out/$name" -lhourlog_c
+    library=$2
+    shift 2
+    "$@" -Wall -Wextra -Wpedantic -Werror -Iinclude -L"$library" -o "$out/$name" -lhourlog_c
 }
 
 # transcript PROGRAM: the example must print what it is expected to.
@@ -36,25 +53,65 @@ transcript() {
     echo "example ($1): transcript as expected"
 }
 
-echo "== second implementation"
-CARGO_TARGET_DIR=target/second cargo build --quiet --offline --release \
-    --manifest-path tests/second/Cargo.toml
-target/second/release/second self-test
-target/second/release/second
-if [ -n "${HOURLOG_PROGRAM:-}" ]; then
-    target/second/release/second program "$HOURLOG_PROGRAM"
+# build_second CARGO-FLAGS..: the comparison's program.
+build_second() {
+    cargo build --quiet --offline --release --manifest-path tests/second/Cargo.toml "$@"
+}
+
+compare() {
+    echo "== second implementation"
+    build_second --target-dir target/second
+    program=target/second/release/second
+    $program self-test
+    $program outside
+    $program
+    if [ -n "$HOURLOG_PROGRAM" ]; then
+        $program program "$HOURLOG_PROGRAM"
+    fi
+}
+
+from_c() {
+    echo "== C example and header"
+    build board "$HOURLOG_LIB" gcc -std=c99 -O2 examples/board.c
+    transcript board
+    build header "$HOURLOG_LIB" g++ -std=c++11 -O2 tests/header.cpp
+    "$out/header"
+    build stack "$HOURLOG_LIB" gcc -std=c99 -O2 tests/stack.c
+    "$out/stack"
+}
+
+# Leaks are not looked for: the library allocates nothing. A stable rustc does not
+# offer its sanitizer yet: hence RUSTC_BOOTSTRAP. A seventh of the seeds is played;
+# the shapes of the largest stores go by sixths, so all are met.
+sanitised() {
+    echo "== with AddressSanitizer"
+    export ASAN_OPTIONS=detect_leaks=0
+    tests/instrumented.sh "$instrumented"
+    build board-sanitised "$instrumented" gcc -std=c99 -g -O1 \
+        -fsanitize=address,undefined -fno-sanitize-recover=all examples/board.c
+    transcript board-sanitised
+    export HOURLOG_LIB="$instrumented" HOURLOG_SHARE=7
+    export RUSTC_BOOTSTRAP=1 RUSTFLAGS=-Zsanitizer=address
+    host=x86_64-unknown-linux-gnu
+    build_second --target-dir target/second-sanitised --target $host --features heap
+    program=target/second-sanitised/$host/release/second
+    $program outside
+    $program
+}
+
+# Side by side, for the two cores.
+(sanitised) >"$out/sanitised.txt" 2>&1 &
+sanitised=$!
+(
+    compare
+    from_c
+) &
+status=0
+wait $! || status=$?
+wait $sanitised || status=$?
+cat "$out/sanitised.txt"
+if [ $status -ne 0 ]; then
+    echo "outside tests: FAILED" >&2
+    exit $status
 fi
-
-echo "== C example and header"
-build board gcc -std=c99 -O2 examples/board.c
-transcript board
-build header g++ -std=c++11 -O2 tests/header.cpp
-"$out/header"
-
-echo "== sanitised"
-build board-sanitised gcc -std=c99 $sanitizers examples/board.c
-transcript board-sanitised
-build sanitize gcc -std=c99 $sanitizers tests/sanitize.c
-"$out/sanitize"
-
 echo "outside tests: all good"

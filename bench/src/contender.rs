@@ -4,22 +4,10 @@
 
 use rival::{image, store, Code, Fast, Straightforward};
 
-mod c {
-    extern "C" {
-        pub fn hourlog_append(store: *mut u8, len: usize, count: u32) -> i64;
-        pub fn hourlog_image_write(
-            counts: *const u32,
-            n: usize,
-            e: u32,
-            image: *mut u8,
-            image_len: usize,
-        ) -> i64;
-        pub fn hourlog_image_check(image: *const u8, len: usize) -> i64;
-        pub fn hourlog_image_count(image: *const u8, len: usize, hour: u32) -> i64;
-        pub fn hourlog_image_reading(image: *const u8, len: usize, hour: u32) -> i64;
-        pub fn hourlog_image_reach(image: *const u8, len: usize, figure: u64) -> i64;
-    }
-}
+// Not every call is measured.
+#[allow(dead_code)]
+#[path = "../../tests/exported.rs"]
+mod c;
 
 pub struct Contender {
     pub name: &'static str,

@@ -5,6 +5,10 @@
 //! implementations: `Straightforward`, as a good engineer would write it at
 //! first, and `Fast`, with everything that was seen to help. All calls give
 //! the words of the C interface.
+//!
+//! It shares no code with the second implementation in tests/second, on
+//! purpose: that one is written from document 01 alone, to be read beside it,
+//! and knows nothing of speed; a fault in one is not to hide in the other.
 
 mod code;
 mod fast;
@@ -19,6 +23,3 @@ mod writer;
 pub use code::Code;
 pub use fast::Fast;
 pub use straightforward::Straightforward;
-
-#[cfg(any(feature = "export_fast", feature = "export_straightforward"))]
-mod exports;

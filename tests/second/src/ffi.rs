@@ -3,39 +3,14 @@
 //!
 //! Every lent buffer is handed over from a mutable borrow, those of const
 //! parameters too: a stray write by the library is then something that the
-//! comparison sees.
+//! comparison sees. Between caller and library stands the lender, for what
+//! lies outside the buffers.
 
-mod c {
-    extern "C" {
-        pub fn hourlog_fresh(store: *mut u8, len: usize, pages: u32, cells: u32) -> i64;
-        pub fn hourlog_append(store: *mut u8, len: usize, count: u32) -> i64;
-        pub fn hourlog_set(store: *mut u8, len: usize, hour: u32, count: u32) -> i64;
-        pub fn hourlog_count(store: *const u8, len: usize, hour: u32) -> i64;
-        pub fn hourlog_reading(store: *const u8, len: usize, hour: u32) -> i64;
-        pub fn hourlog_reach(store: *const u8, len: usize, figure: u32) -> i64;
-        pub fn hourlog_day(store: *const u8, len: usize, day: u32) -> i64;
-        pub fn hourlog_free(store: *const u8, len: usize) -> i64;
-        pub fn hourlog_freeze(
-            store: *const u8,
-            len: usize,
-            e: u32,
-            image: *mut u8,
-            image_len: usize,
-        ) -> i64;
-        pub fn hourlog_image_length(counts: *const u32, n: usize, e: u32) -> i64;
-        pub fn hourlog_image_write(
-            counts: *const u32,
-            n: usize,
-            e: u32,
-            image: *mut u8,
-            image_len: usize,
-        ) -> i64;
-        pub fn hourlog_image_check(image: *const u8, len: usize) -> i64;
-        pub fn hourlog_image_count(image: *const u8, len: usize, hour: u32) -> i64;
-        pub fn hourlog_image_reading(image: *const u8, len: usize, hour: u32) -> i64;
-        pub fn hourlog_image_reach(image: *const u8, len: usize, figure: u64) -> i64;
-    }
-}
+use crate::fence;
+use crate::lent::Lender;
+
+#[path = "../../exported.rs"]
+mod c;
 
 #[derive(Clone, Copy, Debug, PartialEq, Eq)]
 pub enum Function {
@@ -116,13 +91,16 @@ pub struct Library {
     /// How often each function gave an answer (0) or each refusal.
     pub seen: [[u64; OUTCOMES]; Function::ALL.len()],
     pub fault: Option<Fault>,
+    pub lender: Lender,
 }
 
 /// A wrapper over a call that lends one buffer and takes numbers.
 macro_rules! over_bytes {
     ($name:ident, $function:ident, $c:ident $(, $argument:ident: $type:ty)*) => {
         pub fn $name(&mut self, bytes: &mut [u8] $(, $argument: $type)*) -> i64 {
-            let word = unsafe { c::$c(bytes.as_mut_ptr(), bytes.len() $(, $argument)*) };
+            let len = bytes.len();
+            let call = |at: [*mut u8; 2]| unsafe { c::$c(at[0], len $(, $argument)*) };
+            let word = self.lend(Function::$function, [&mut *bytes, &mut []], call);
             self.done(Function::$function, bytes, word)
         }
     };
@@ -143,34 +121,35 @@ impl Library {
     over_bytes!(image_reach, ImageReach, hourlog_image_reach, figure: u64);
 
     pub fn freeze(&mut self, store: &mut [u8], e: u32, image: &mut [u8]) -> i64 {
-        let word = unsafe {
-            c::hourlog_freeze(
-                store.as_mut_ptr(),
-                store.len(),
-                e,
-                image.as_mut_ptr(),
-                image.len(),
-            )
-        };
+        let (len, room) = (store.len(), image.len());
+        let call = |at: [*mut u8; 2]| unsafe { c::hourlog_freeze(at[0], len, e, at[1], room) };
+        let word = self.lend(Function::Freeze, [store, &mut *image], call);
         self.done(Function::Freeze, image, word)
     }
 
     pub fn image_length(&mut self, counts: &mut [u32], e: u32) -> i64 {
-        let word = unsafe { c::hourlog_image_length(counts.as_mut_ptr(), counts.len(), e) };
+        let n = counts.len();
+        let call = |at: [*mut u8; 2]| unsafe { c::hourlog_image_length(at[0].cast(), n, e) };
+        let word = self.lend(Function::ImageLength, [bytes_of(counts), &mut []], call);
         self.done(Function::ImageLength, &mut [], word)
     }
 
     pub fn image_write(&mut self, counts: &mut [u32], e: u32, image: &mut [u8]) -> i64 {
-        let word = unsafe {
-            c::hourlog_image_write(
-                counts.as_mut_ptr(),
-                counts.len(),
-                e,
-                image.as_mut_ptr(),
-                image.len(),
-            )
-        };
+        let (n, room) = (counts.len(), image.len());
+        let call =
+            |at: [*mut u8; 2]| unsafe { c::hourlog_image_write(at[0].cast(), n, e, at[1], room) };
+        let word = self.lend(Function::ImageWrite, [bytes_of(counts), &mut *image], call);
         self.done(Function::ImageWrite, image, word)
+    }
+
+    fn lend(
+        &mut self,
+        function: Function,
+        buffers: [&mut [u8]; 2],
+        call: impl Fn([*mut u8; 2]) -> i64,
+    ) -> i64 {
+        fence::calling(function);
+        self.lender.lend(buffers, call)
     }
 
     pub fn calls(&self) -> u64 {
@@ -206,4 +185,9 @@ impl Library {
             (Spoilt::Byte, None) => word,
         }
     }
+}
+
+/// The memory of some counts.
+fn bytes_of(counts: &mut [u32]) -> &mut [u8] {
+    unsafe { std::slice::from_raw_parts_mut(counts.as_mut_ptr().cast(), size_of_val(counts)) }
 }

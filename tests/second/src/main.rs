@@ -2,15 +2,20 @@
 //! the plain list of document 01.
 //!
 //! `second` runs the comparison; `second self-test` spoils the library's
-//! answers and bytes and sees that the comparison notices; `second program
-//! PATH` compares the session program. HOURLOG_ROUNDS makes the run so many
-//! times as long; HOURLOG_SEED plays one seed alone.
+//! answers and bytes and sees that the comparison notices; `second outside`
+//! lends it buffers that are too short and sees that each step outside is
+//! seen; `second program PATH` compares the session program. HOURLOG_ROUNDS
+//! makes the run so many times as long, HOURLOG_SHARE=n plays one seed in n,
+//! HOURLOG_SEED one seed alone.
 
 mod bits;
 mod draw;
+mod fence;
 mod ffi;
 mod image;
 mod image_calls;
+mod lent;
+mod outside;
 mod plain;
 mod program;
 mod random;
@@ -32,12 +37,15 @@ use std::time::Instant;
 
 fn main() -> ExitCode {
     let arguments: Vec<String> = std::env::args().skip(1).collect();
+    fence::watch();
     let good = match arguments.iter().map(String::as_str).collect::<Vec<_>>()[..] {
         [] => compare_all(),
         ["self-test"] => self_test::play(),
+        ["outside"] => outside::play(),
+        ["step", ref numbers @ ..] => outside::step(numbers),
         ["program", path] => program::play(path),
         _ => {
-            eprintln!("usage: second [self-test | program PATH]");
+            eprintln!("usage: second [self-test | outside | program PATH]");
             false
         }
     };

@@ -104,12 +104,17 @@ fn links(store: &Store) -> Vec<usize> {
 fn each_number_of_hours(run: &mut Run, bytes: &[u8], pages: usize) -> Result<(), String> {
     let most = 64 * pages as u32;
     for hours in (0..=most + 1).chain([65_536, most | 1 << 31]) {
-        let mut damaged = bytes.to_vec();
-        damaged[12..16].copy_from_slice(&hours.to_le_bytes());
-        compare_all(&mut run.library, &damaged, &[Call::Free, Call::Append(1)])
-            .map_err(|text| format!("N = {hours}: {text}"))?;
+        compare_with(run, bytes, 12, &hours.to_le_bytes())?;
     }
     Ok(())
+}
+
+/// The store with other bytes from some place on.
+fn compare_with(run: &mut Run, bytes: &[u8], at: usize, other: &[u8]) -> Result<(), String> {
+    let mut damaged = bytes.to_vec();
+    damaged[at..at + other.len()].copy_from_slice(other);
+    compare_all(&mut run.library, &damaged, &[Call::Free, Call::Append(1)])
+        .map_err(|text| format!("{other:?} from byte {at} on: {text}"))
 }
 
 /// Each N, and each link led to each cell, to none and to numbers that are no
@@ -123,10 +128,7 @@ fn each_number(run: &mut Run, seed: u64) -> Result<(), String> {
     let wild = [cells + 1, cells + 2, 255, 256, 1_800, 1_801, 65_535];
     for at in links(&store) {
         for target in (0..=cells).chain(wild) {
-            let mut damaged = bytes.clone();
-            damaged[at..at + 2].copy_from_slice(&target.to_le_bytes());
-            compare_all(&mut run.library, &damaged, &[Call::Free, Call::Append(1)])
-                .map_err(|text| format!("link at {at} to {target}: {text}"))?;
+            compare_with(run, &bytes, at, &target.to_le_bytes())?;
         }
     }
     Ok(())

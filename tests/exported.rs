@@ -1,0 +1,31 @@
+//! What include/hourlog.h declares, for the comparison and the benchmark.
+
+extern "C" {
+    pub fn hourlog_fresh(store: *mut u8, len: usize, pages: u32, cells: u32) -> i64;
+    pub fn hourlog_append(store: *mut u8, len: usize, count: u32) -> i64;
+    pub fn hourlog_set(store: *mut u8, len: usize, hour: u32, count: u32) -> i64;
+    pub fn hourlog_count(store: *const u8, len: usize, hour: u32) -> i64;
+    pub fn hourlog_reading(store: *const u8, len: usize, hour: u32) -> i64;
+    pub fn hourlog_reach(store: *const u8, len: usize, figure: u32) -> i64;
+    pub fn hourlog_day(store: *const u8, len: usize, day: u32) -> i64;
+    pub fn hourlog_free(store: *const u8, len: usize) -> i64;
+    pub fn hourlog_freeze(
+        store: *const u8,
+        len: usize,
+        e: u32,
+        image: *mut u8,
+        image_len: usize,
+    ) -> i64;
+    pub fn hourlog_image_length(counts: *const u32, n: usize, e: u32) -> i64;
+    pub fn hourlog_image_write(
+        counts: *const u32,
+        n: usize,
+        e: u32,
+        image: *mut u8,
+        image_len: usize,
+    ) -> i64;
+    pub fn hourlog_image_check(image: *const u8, len: usize) -> i64;
+    pub fn hourlog_image_count(image: *const u8, len: usize, hour: u32) -> i64;
+    pub fn hourlog_image_reading(image: *const u8, len: usize, hour: u32) -> i64;
+    pub fn hourlog_image_reach(image: *const u8, len: usize, figure: u64) -> i64;
+}

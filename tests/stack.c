@@ -1,0 +1,130 @@
+/*
+ * stack.c - how much stack each call takes, held to what the header says.
+ *
+ * A call runs on a stack of its own, painted before; what is no longer paint
+ * afterwards was used.  Stores and images are as large as they come and have
+ * coins in every hour, so that no recursion ends early.
+ */
+#include "hourlog.h"
+
+#include <stdio.h>
+#include <stdlib.h>
+#include <string.h>
+#include <ucontext.h>
+
+#define PAINT 0xC5
+#define IMAGE_E HOURLOG_PAGE_SIZE_MAX
+
+static uint8_t stack[1024 * 1024];
+static uint8_t store[HOURLOG_STORE_LENGTH(HOURLOG_PAGES_MAX, HOURLOG_CELLS_MAX)];
+static uint32_t counts[HOURLOG_IMAGE_HOURS_MAX];
+static uint8_t image[HOURLOG_IMAGE_LENGTH_MAX(HOURLOG_IMAGE_HOURS_MAX, IMAGE_E)];
+static size_t image_len;
+
+#define STORE store, sizeof store
+#define IMAGE image, image_len
+#define LIST counts, HOURLOG_IMAGE_HOURS_MAX, IMAGE_E
+#define LAST (HOURLOG_IMAGE_HOURS_MAX - 1)
+
+static int64_t nothing(void) { return 0; }
+static int64_t fresh(void) { return hourlog_fresh(STORE, HOURLOG_PAGES_MAX, HOURLOG_CELLS_MAX); }
+static int64_t append(void) { return hourlog_append(STORE, 7); }
+static int64_t set(void) { return hourlog_set(STORE, 63, HOURLOG_TOTAL_MAX / 2); }
+static int64_t count(void) { return hourlog_count(STORE, 62); }
+static int64_t reading(void) { return hourlog_reading(STORE, 62); }
+static int64_t reach(void) { return hourlog_reach(STORE, 100); }
+static int64_t day(void) { return hourlog_day(STORE, 1); }
+static int64_t free_cells(void) { return hourlog_free(STORE); }
+static int64_t freeze(void) { return hourlog_freeze(STORE, IMAGE_E, image, sizeof image); }
+static int64_t length(void) { return hourlog_image_length(LIST); }
+static int64_t write_image(void) { return hourlog_image_write(LIST, image, sizeof image); }
+static int64_t check(void) { return hourlog_image_check(IMAGE); }
+static int64_t image_count(void) { return hourlog_image_count(IMAGE, LAST); }
+static int64_t image_reading(void) { return hourlog_image_reading(IMAGE, LAST); }
+static int64_t image_reach(void) { return hourlog_image_reach(IMAGE, 5000000); }
+
+struct measured {
+    const char *name;
+    int64_t (*call)(void);
+    size_t most;
+};
+
+/* In an order in which none is refused. */
+static const struct measured all[] = {
+    {"append", append, HOURLOG_STACK},
+    {"set", set, HOURLOG_STACK},
+    {"count", count, HOURLOG_STACK},
+    {"reading", reading, HOURLOG_STACK},
+    {"reach", reach, HOURLOG_STACK},
+    {"day", day, HOURLOG_STACK},
+    {"free", free_cells, HOURLOG_STACK},
+    {"freeze", freeze, HOURLOG_FREEZE_STACK},
+    {"image length", length, HOURLOG_STACK},
+    {"image write", write_image, HOURLOG_STACK},
+    {"image check", check, HOURLOG_STACK},
+    {"image count", image_count, HOURLOG_STACK},
+    {"image reading", image_reading, HOURLOG_STACK},
+    {"image reach", image_reach, HOURLOG_STACK},
+    {"fresh", fresh, HOURLOG_STACK},
+};
+
+static int64_t (*call)(void);
+static int64_t answer;
+
+static void make_call(void)
+{
+    answer = call();
+}
+
+/* The bytes that are no longer painted after a call. */
+static size_t used_by(int64_t (*wanted)(void))
+{
+    static ucontext_t here, there;
+    memset(stack, PAINT, sizeof stack);
+    call = wanted;
+    getcontext(&there);
+    there.uc_stack.ss_sp = stack;
+    there.uc_stack.ss_size = sizeof stack;
+    there.uc_link = &here;
+    makecontext(&there, make_call, 0);
+    swapcontext(&here, &there);
+    size_t painted = 0;
+    while (painted < sizeof stack && stack[painted] == PAINT) {
+        painted++;
+    }
+    return sizeof stack - painted;
+}
+
+/* Whether a call takes no more than it may, beyond what any call takes. */
+static int holds(struct measured m)
+{
+    size_t used = used_by(m.call);
+    int good = !hourlog_is_refused(answer) && used <= m.most + used_by(nothing);
+    printf("%s%s %zu", good ? "" : " FAILED:", m.name, used);
+    return good;
+}
+
+static void fill(void)
+{
+    fresh();
+    for (uint32_t k = 0; k < 200; k++) {
+        hourlog_append(STORE, 1 + k % 9);
+    }
+    for (size_t k = 0; k <= LAST; k++) {
+        counts[k] = 1000 + (uint32_t)(k % 7);
+    }
+    image_len = (size_t)write_image();
+}
+
+int main(void)
+{
+    int good = 1;
+    fill();
+    printf("bytes of stack:");
+    for (size_t k = 0; k < sizeof all / sizeof *all; k++) {
+        printf(k == 0 ? " " : ", ");
+        good &= holds(all[k]);
+    }
+    printf("\n");
+    return good ? EXIT_SUCCESS : EXIT_FAILURE;
+}
