@@ -1,4 +1,4 @@
--- Mission demand 3: any list of calls on a fresh store. Assumes nothing.
+-- Demand 3: any list of calls on a fresh store. Assumes nothing.
 use mathlib.Core.Path.{_≡_, refl, sym, ap, _∙_}
 use mathlib.Core.Logic.{_↔_}
 use mathlib.Core.Bool.{Bool, true, false}
@@ -139,7 +139,7 @@ when-said a c L P C ys e p q h = rw (e, ← p, ← q) (step-when c L ys h)
 never-said : (a : Answer) (c : Call) (L : Plain) (P C : ℕ) → a ≡ step c L .answer → L .pages ≡ P → L .cells ≡ C → 8 * P ≤ C → a ≡ refused 12 → ⊥
 never-said a c L P C e p q h r = step-never c L (omega arith) (sym e ∙ r)
 
--- ---- mission demand 3
+-- ---- demand 3
 module _ (b : List ℕ) (P C : ℕ) (h : Fitting b P C) (cs : List Call) where
   started : freshCall b P C ≡ record { answer = answered 0; bytes = bytesOf (fresh P C) }
   unfolding freshCall pick

@@ -1,4 +1,4 @@
--- Mission demand 1: a refused call changes no byte. Assumes nothing.
+-- Demand 1: a refused call changes no byte. Assumes nothing.
 use mathlib.Core.List.{List}
 use mathlib.Core.Path.{_≡_}
 use Prim.Native.Nat.{ℕ}

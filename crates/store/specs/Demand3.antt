@@ -1,4 +1,4 @@
--- Mission demand 3: one claim about a whole list of calls on a fresh store. Assumes nothing.
+-- Demand 3: one claim about a whole list of calls on a fresh store. Assumes nothing.
 use mathlib.Core.Bool.{true}
 use mathlib.Core.List.{List, [], _∷_, _++_}
 use mathlib.Core.Logic.{_↔_}

@@ -1,13 +1,9 @@
+-- `bits::get_field` meets its contract. Assumes nothing.
 use native.Mathlib.Omega.{arith}
 use Rattle.bits.proofs.Words.{get-is}
 use borrow.Author.Needs.{needs}
 use Rattle.bits.proofs.get_field.Statement.{statement}
 use Rattle.bits.proofs.get_field.Tie as tie
-use Rattle.bits.proofs.get_field.Reads as reads
-use Rattle.bits.proofs.get_field.Lts as lts
-use Rattle.bits.proofs.word.low_bits.Reads as low-bits-reads
-use Rattle.bits.proofs.place.Reads as place-reads
-use Rattle.bits.proofs.word.load8.Reads as load8-reads
 
 place-requires : tie.Need-place-requires
 place-requires c κs = search needs

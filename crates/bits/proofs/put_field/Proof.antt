@@ -1,3 +1,4 @@
+-- `bits::put_field` meets its contract. Assumes nothing.
 use Rattle.lists.specs.Lists.{splice}
 use Prim.Native.Nat.{_*_}
 use mathlib.Core.Path.{_≡_, _∙_, ap}
@@ -10,12 +11,6 @@ use Rattle.bits.proofs.Words.{put-is}
 use borrow.Author.Needs.{needs}
 use Rattle.bits.proofs.put_field.Statement.{statement}
 use Rattle.bits.proofs.put_field.Tie as tie
-use Rattle.bits.proofs.put_field.Reads as reads
-use Rattle.bits.proofs.put_field.Lts as lts
-use Rattle.bits.proofs.place.Reads as place-reads
-use Rattle.bits.proofs.word.store8.Reads as store8-reads
-use Rattle.bits.proofs.word.with_field.Reads as with-field-reads
-use Rattle.bits.proofs.word.load8.Reads as load8-reads
 
 returns : tie.Need-returns
 returns c =

@@ -1,3 +1,4 @@
+-- `freeze::freeze` meets its contract. Assumes nothing.
 use mathlib.Core.Path.{sym, _∙_}
 use borrow.Author.Tests.{not-true}
 use Rattle.image.specs.Answers.{told}

@@ -1,3 +1,4 @@
+-- `freeze::freeze_list` meets its contract. Assumes nothing.
 use mathlib.Core.Path.{ap, _∙_}
 use Prim.Native.Nat.{ℕ}
 use lib.ListN.{length-replicate, replicate}

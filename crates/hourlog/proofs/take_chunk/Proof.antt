@@ -1,3 +1,4 @@
+-- `hourlog::take_chunk` meets its contract. Assumes nothing.
 use mathlib.Core.Path.{_≡_}
 use Prim.Native.Nat.{_-_}
 use lib.ListN.{length}

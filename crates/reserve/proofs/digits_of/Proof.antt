@@ -1,10 +1,9 @@
+-- `reserve::digits_of` meets its contract. Assumes nothing.
 use lib.Count.{leading-le}
 use Rattle.reserve.proofs.Bounds.{digits-by-zeros}
 use borrow.Author.Needs.{needs}
 use Rattle.reserve.proofs.digits_of.Statement.{statement}
 use Rattle.reserve.proofs.digits_of.Tie as tie
-use Rattle.reserve.proofs.digits_of.Reads as reads
-use Rattle.reserve.proofs.digits_of.Lts as lts
 
 sub-result : tie.Need-sub-result
 sub-result c = leading-le 64 (c .args .s)

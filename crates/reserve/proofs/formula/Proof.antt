@@ -1,11 +1,10 @@
+-- `reserve::formula` meets its contract. Assumes nothing.
 use Prim.Native.Nat.{_+_, _-_, _*_, _%_}
 use native.Mathlib.Omega.{arith}
 use lib.Pow.{shr-le}
 use borrow.Author.Needs.{needs}
 use Rattle.reserve.proofs.formula.Statement.{statement}
 use Rattle.reserve.proofs.formula.Tie as tie
-use Rattle.reserve.proofs.formula.Reads as reads
-use Rattle.reserve.proofs.formula.Lts as lts
 
 add-levels : tie.Need-add-levels
 add-levels c = search needs

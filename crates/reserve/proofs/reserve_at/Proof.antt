@@ -1,12 +1,8 @@
+-- `reserve::reserve_at` meets its contract. Assumes nothing.
 use Rattle.reserve.proofs.Bounds.{bounded, one-formula}
 use borrow.Author.Needs.{needs}
 use Rattle.reserve.proofs.reserve_at.Statement.{statement}
 use Rattle.reserve.proofs.reserve_at.Tie as tie
-use Rattle.reserve.proofs.reserve_at.Reads as reads
-use Rattle.reserve.proofs.reserve_at.Lts as lts
-use Rattle.reserve.proofs.formula.Reads as formula-reads
-use Rattle.reserve.proofs.power.Reads as power-reads
-use Rattle.reserve.proofs.smaller.Reads as smaller-reads
 
 smaller-requires : tie.Need-smaller-requires
 smaller-requires c κs = search needs

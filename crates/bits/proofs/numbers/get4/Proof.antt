@@ -1,10 +1,8 @@
+-- `bits::numbers::get4` meets its contract. Assumes nothing.
 use Rattle.bits.proofs.Little.{number4}
 use borrow.Author.Needs.{needs}
 use Rattle.bits.proofs.numbers.get4.Statement.{statement}
 use Rattle.bits.proofs.numbers.get4.Tie as tie
-use Rattle.bits.proofs.numbers.get4.Reads as reads
-use Rattle.bits.proofs.numbers.get4.Lts as lts
-use Rattle.bits.proofs.word.wide.Reads as wide-reads
 
 shared-slice-read-wide : tie.Need-shared-slice-read-wide
 shared-slice-read-wide c = search needs

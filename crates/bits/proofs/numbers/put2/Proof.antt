@@ -1,11 +1,10 @@
+-- `bits::numbers::put2` meets its contract. Assumes nothing.
 use lib.ListN.{length-set}
 use native.Mathlib.Omega.{arith}
 use Rattle.bits.proofs.Little.{put2-is}
 use borrow.Author.Needs.{needs}
 use Rattle.bits.proofs.numbers.put2.Statement.{statement}
 use Rattle.bits.proofs.numbers.put2.Tie as tie
-use Rattle.bits.proofs.numbers.put2.Reads as reads
-use Rattle.bits.proofs.numbers.put2.Lts as lts
 
 cast-out : tie.Need-cast-out
 cast-out c = search needs

@@ -1,11 +1,10 @@
+-- `bits::numbers::put4` meets its contract. Assumes nothing.
 use lib.ListN.{length-set}
 use native.Mathlib.Omega.{arith}
 use Rattle.bits.proofs.Little.{put4-is}
 use borrow.Author.Needs.{needs}
 use Rattle.bits.proofs.numbers.put4.Statement.{statement}
 use Rattle.bits.proofs.numbers.put4.Tie as tie
-use Rattle.bits.proofs.numbers.put4.Reads as reads
-use Rattle.bits.proofs.numbers.put4.Lts as lts
 
 cast-out : tie.Need-cast-out
 cast-out c = search needs

@@ -1,3 +1,4 @@
+-- `bits::word::store4` meets its contract. Assumes nothing.
 use mathlib.Core.Path.{refl}
 use lib.ListN.{length-set}
 use native.Mathlib.Omega.{arith}
@@ -5,9 +6,6 @@ use Rattle.bits.proofs.Words.{put4-is}
 use borrow.Author.Needs.{needs}
 use Rattle.bits.proofs.word.store4.Statement.{statement}
 use Rattle.bits.proofs.word.store4.Tie as tie
-use Rattle.bits.proofs.word.store4.Reads as reads
-use Rattle.bits.proofs.word.store4.Lts as lts
-use Rattle.bits.proofs.word.byte_of.Reads as byte-of-reads
 
 byte-of-requires : tie.Need-byte-of-requires
 byte-of-requires c κs = search needs

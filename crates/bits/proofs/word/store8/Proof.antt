@@ -1,13 +1,10 @@
+-- `bits::word::store8` meets its contract. Assumes nothing.
 use mathlib.Core.Path.{refl}
 use Prim.Native.Nat.{_/_, _^_}
 use Rattle.bits.proofs.Words.{put8-is}
 use borrow.Author.Needs.{needs}
 use Rattle.bits.proofs.word.store8.Statement.{statement}
 use Rattle.bits.proofs.word.store8.Tie as tie
-use Rattle.bits.proofs.word.store8.Reads as reads
-use Rattle.bits.proofs.word.store8.Lts as lts
-use Rattle.bits.proofs.word.low_bits.Reads as low-bits-reads
-use Rattle.bits.proofs.word.store4.Reads as store4-reads
 
 store4-requires : tie.Need-store4-requires
 store4-requires c κs = search needs

@@ -1,3 +1,4 @@
+-- `bits::word::with_field` meets its contract. Assumes nothing.
 use native.Mathlib.Nat.{mod-lt}
 use lib.Pow.{pow-pos}
 use Rattle.bits.proofs.Words.{high-fits, both-fit, with-is}
@@ -5,10 +6,6 @@ use native.Mathlib.Omega.{arith}
 use borrow.Author.Needs.{needs}
 use Rattle.bits.proofs.word.with_field.Statement.{statement}
 use Rattle.bits.proofs.word.with_field.Tie as tie
-use Rattle.bits.proofs.word.with_field.Reads as reads
-use Rattle.bits.proofs.word.with_field.Lts as lts
-use Rattle.bits.proofs.word.joined.Reads as joined-reads
-use Rattle.bits.proofs.word.low_bits.Reads as low-bits-reads
 
 shr-joined : tie.Need-shr-joined
 shr-joined c = search needs

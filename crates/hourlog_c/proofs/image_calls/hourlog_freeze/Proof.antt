@@ -1,11 +1,8 @@
+-- `hourlog_c::image_calls::hourlog_freeze` meets its contract. Assumes nothing.
 use Rattle.hourlog_c.proofs.WordLaws.{writes}
 use borrow.Author.Needs.{needs}
 use Rattle.hourlog_c.proofs.image_calls.hourlog_freeze.Statement.{statement}
 use Rattle.hourlog_c.proofs.image_calls.hourlog_freeze.Tie as tie
-use Rattle.hourlog_c.proofs.image_calls.hourlog_freeze.Reads as reads
-use Rattle.hourlog_c.proofs.image_calls.hourlog_freeze.Lts as lts
-use Rattle.freeze.proofs.freeze.Reads as freeze-reads
-use Rattle.hourlog_c.proofs.word.of_image.Reads as of-image-reads
 
 freeze-requires : tie.Need-freeze-requires
 freeze-requires c κs = search needs

@@ -1,12 +1,9 @@
+-- `hourlog_c::image_calls::hourlog_image_check` meets its contract. Assumes nothing.
 use mathlib.Core.Path.{ap, _∙_}
 use Rattle.hourlog_c.specs.Words.{verdictWord}
 use borrow.Author.Needs.{needs}
 use Rattle.hourlog_c.proofs.image_calls.hourlog_image_check.Statement.{statement}
 use Rattle.hourlog_c.proofs.image_calls.hourlog_image_check.Tie as tie
-use Rattle.hourlog_c.proofs.image_calls.hourlog_image_check.Reads as reads
-use Rattle.hourlog_c.proofs.image_calls.hourlog_image_check.Lts as lts
-use Rattle.hourlog_c.proofs.word.of_check.Reads as of-check-reads
-use Rattle.image.proofs.check.check.Reads as check-reads
 
 check-requires : tie.Need-check-requires
 check-requires c κs = search needs

@@ -1,12 +1,9 @@
+-- `hourlog_c::image_calls::hourlog_image_reading` meets its contract. Assumes nothing.
 use mathlib.Core.Path.{ap, _∙_}
 use Rattle.hourlog_c.specs.Words.{replyWord}
 use borrow.Author.Needs.{needs}
 use Rattle.hourlog_c.proofs.image_calls.hourlog_image_reading.Statement.{statement}
 use Rattle.hourlog_c.proofs.image_calls.hourlog_image_reading.Tie as tie
-use Rattle.hourlog_c.proofs.image_calls.hourlog_image_reading.Reads as reads
-use Rattle.hourlog_c.proofs.image_calls.hourlog_image_reading.Lts as lts
-use Rattle.hourlog_c.proofs.word.of_image.Reads as of-image-reads
-use Rattle.image.proofs.query.reading.Reads as reading-reads
 
 reading-requires : tie.Need-reading-requires
 reading-requires c κs = search needs

@@ -1,11 +1,8 @@
+-- `hourlog_c::image_calls::hourlog_image_write` meets its contract. Assumes nothing.
 use Rattle.hourlog_c.proofs.WordLaws.{writes}
 use borrow.Author.Needs.{needs}
 use Rattle.hourlog_c.proofs.image_calls.hourlog_image_write.Statement.{statement}
 use Rattle.hourlog_c.proofs.image_calls.hourlog_image_write.Tie as tie
-use Rattle.hourlog_c.proofs.image_calls.hourlog_image_write.Reads as reads
-use Rattle.hourlog_c.proofs.image_calls.hourlog_image_write.Lts as lts
-use Rattle.hourlog_c.proofs.word.of_image.Reads as of-image-reads
-use Rattle.image_write.proofs.write.Reads as write-reads
 
 write-requires : tie.Need-write-requires
 write-requires c κs = search needs

@@ -1,11 +1,8 @@
+-- `hourlog_c::store_calls::hourlog_append` meets its contract. Assumes nothing.
 use Rattle.hourlog_c.proofs.WordLaws.{calls}
 use borrow.Author.Needs.{needs}
 use Rattle.hourlog_c.proofs.store_calls.hourlog_append.Statement.{statement}
 use Rattle.hourlog_c.proofs.store_calls.hourlog_append.Tie as tie
-use Rattle.hourlog_c.proofs.store_calls.hourlog_append.Reads as reads
-use Rattle.hourlog_c.proofs.store_calls.hourlog_append.Lts as lts
-use Rattle.hourlog_c.proofs.word.of_store.Reads as of-store-reads
-use Rattle.live.proofs.append.Reads as append-reads
 
 append-requires : tie.Need-append-requires
 append-requires c κs = search needs

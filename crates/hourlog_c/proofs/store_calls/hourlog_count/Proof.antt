@@ -1,11 +1,8 @@
+-- `hourlog_c::store_calls::hourlog_count` meets its contract. Assumes nothing.
 use Rattle.hourlog_c.proofs.WordLaws.{calls}
 use borrow.Author.Needs.{needs}
 use Rattle.hourlog_c.proofs.store_calls.hourlog_count.Statement.{statement}
 use Rattle.hourlog_c.proofs.store_calls.hourlog_count.Tie as tie
-use Rattle.hourlog_c.proofs.store_calls.hourlog_count.Reads as reads
-use Rattle.hourlog_c.proofs.store_calls.hourlog_count.Lts as lts
-use Rattle.hourlog_c.proofs.word.of_store.Reads as of-store-reads
-use Rattle.live.proofs.count.Reads as count-reads
 
 count-requires : tie.Need-count-requires
 count-requires c κs = search needs

@@ -1,11 +1,8 @@
+-- `hourlog_c::store_calls::hourlog_day` meets its contract. Assumes nothing.
 use Rattle.hourlog_c.proofs.WordLaws.{calls}
 use borrow.Author.Needs.{needs}
 use Rattle.hourlog_c.proofs.store_calls.hourlog_day.Statement.{statement}
 use Rattle.hourlog_c.proofs.store_calls.hourlog_day.Tie as tie
-use Rattle.hourlog_c.proofs.store_calls.hourlog_day.Reads as reads
-use Rattle.hourlog_c.proofs.store_calls.hourlog_day.Lts as lts
-use Rattle.hourlog_c.proofs.word.of_store.Reads as of-store-reads
-use Rattle.live.proofs.day.Reads as day-reads
 
 day-requires : tie.Need-day-requires
 day-requires c κs = search needs

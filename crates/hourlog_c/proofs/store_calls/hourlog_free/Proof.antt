@@ -1,11 +1,8 @@
+-- `hourlog_c::store_calls::hourlog_free` meets its contract. Assumes nothing.
 use Rattle.hourlog_c.proofs.WordLaws.{calls}
 use borrow.Author.Needs.{needs}
 use Rattle.hourlog_c.proofs.store_calls.hourlog_free.Statement.{statement}
 use Rattle.hourlog_c.proofs.store_calls.hourlog_free.Tie as tie
-use Rattle.hourlog_c.proofs.store_calls.hourlog_free.Reads as reads
-use Rattle.hourlog_c.proofs.store_calls.hourlog_free.Lts as lts
-use Rattle.hourlog_c.proofs.word.of_store.Reads as of-store-reads
-use Rattle.live.proofs.free.Reads as free-reads
 
 free-requires : tie.Need-free-requires
 free-requires c κs = search needs

@@ -1,11 +1,8 @@
+-- `hourlog_c::store_calls::hourlog_fresh` meets its contract. Assumes nothing.
 use Rattle.hourlog_c.proofs.WordLaws.{freshes}
 use borrow.Author.Needs.{needs}
 use Rattle.hourlog_c.proofs.store_calls.hourlog_fresh.Statement.{statement}
 use Rattle.hourlog_c.proofs.store_calls.hourlog_fresh.Tie as tie
-use Rattle.hourlog_c.proofs.store_calls.hourlog_fresh.Reads as reads
-use Rattle.hourlog_c.proofs.store_calls.hourlog_fresh.Lts as lts
-use Rattle.hourlog_c.proofs.word.of_store.Reads as of-store-reads
-use Rattle.store.proofs.fresh.fresh.Reads as fresh-reads
 
 fresh-requires : tie.Need-fresh-requires
 fresh-requires c κs = search needs

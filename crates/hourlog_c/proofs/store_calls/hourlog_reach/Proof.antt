@@ -1,11 +1,8 @@
+-- `hourlog_c::store_calls::hourlog_reach` meets its contract. Assumes nothing.
 use Rattle.hourlog_c.proofs.WordLaws.{calls}
 use borrow.Author.Needs.{needs}
 use Rattle.hourlog_c.proofs.store_calls.hourlog_reach.Statement.{statement}
 use Rattle.hourlog_c.proofs.store_calls.hourlog_reach.Tie as tie
-use Rattle.hourlog_c.proofs.store_calls.hourlog_reach.Reads as reads
-use Rattle.hourlog_c.proofs.store_calls.hourlog_reach.Lts as lts
-use Rattle.hourlog_c.proofs.word.of_store.Reads as of-store-reads
-use Rattle.live.proofs.reach.Reads as reach-reads
 
 reach-requires : tie.Need-reach-requires
 reach-requires c κs = search needs

@@ -1,11 +1,8 @@
+-- `hourlog_c::store_calls::hourlog_reading` meets its contract. Assumes nothing.
 use Rattle.hourlog_c.proofs.WordLaws.{calls}
 use borrow.Author.Needs.{needs}
 use Rattle.hourlog_c.proofs.store_calls.hourlog_reading.Statement.{statement}
 use Rattle.hourlog_c.proofs.store_calls.hourlog_reading.Tie as tie
-use Rattle.hourlog_c.proofs.store_calls.hourlog_reading.Reads as reads
-use Rattle.hourlog_c.proofs.store_calls.hourlog_reading.Lts as lts
-use Rattle.hourlog_c.proofs.word.of_store.Reads as of-store-reads
-use Rattle.live.proofs.reading.Reads as reading-reads
 
 reading-requires : tie.Need-reading-requires
 reading-requires c κs = search needs

@@ -1,11 +1,8 @@
+-- `hourlog_c::store_calls::hourlog_set` meets its contract. Assumes nothing.
 use Rattle.hourlog_c.proofs.WordLaws.{calls}
 use borrow.Author.Needs.{needs}
 use Rattle.hourlog_c.proofs.store_calls.hourlog_set.Statement.{statement}
 use Rattle.hourlog_c.proofs.store_calls.hourlog_set.Tie as tie
-use Rattle.hourlog_c.proofs.store_calls.hourlog_set.Reads as reads
-use Rattle.hourlog_c.proofs.store_calls.hourlog_set.Lts as lts
-use Rattle.hourlog_c.proofs.word.of_store.Reads as of-store-reads
-use Rattle.live.proofs.set.Reads as set-reads
 
 set-requires : tie.Need-set-requires
 set-requires c κs = search needs

@@ -1,13 +1,10 @@
+-- `hourlog_c::word::of_check` meets its contract. Assumes nothing.
 use mathlib.Core.Path.{sym, ap, _∙_}
 use Rattle.image.specs.Checking.{ruled}
 use Rattle.hourlog_c.specs.Words.{verdictWord}
 use borrow.Author.Needs.{needs}
 use Rattle.hourlog_c.proofs.word.of_check.Statement.{statement}
 use Rattle.hourlog_c.proofs.word.of_check.Tie as tie
-use Rattle.hourlog_c.proofs.word.of_check.Reads as reads
-use Rattle.hourlog_c.proofs.word.of_check.Lts as lts
-use Rattle.hourlog_c.proofs.word.minus.Reads as minus-reads
-use Rattle.hourlog_c.proofs.word.pair.Reads as pair-reads
 
 enum-known-v : tie.Need-enum-known-v
 enum-known-v c = search needs

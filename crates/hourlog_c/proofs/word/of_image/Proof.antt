@@ -1,12 +1,10 @@
+-- `hourlog_c::word::of_image` meets its contract. Assumes nothing.
 use mathlib.Core.Path.{sym, ap, _∙_}
 use Rattle.image.specs.Answers.{told}
 use Rattle.hourlog_c.specs.Words.{replyWord}
 use borrow.Author.Needs.{needs}
 use Rattle.hourlog_c.proofs.word.of_image.Statement.{statement}
 use Rattle.hourlog_c.proofs.word.of_image.Tie as tie
-use Rattle.hourlog_c.proofs.word.of_image.Reads as reads
-use Rattle.hourlog_c.proofs.word.of_image.Lts as lts
-use Rattle.hourlog_c.proofs.word.minus.Reads as minus-reads
 
 enum-known-a : tie.Need-enum-known-a
 enum-known-a c = search needs

@@ -1,13 +1,10 @@
+-- `hourlog_c::word::of_store` meets its contract. Assumes nothing.
 use mathlib.Core.Path.{sym, ap, _∙_}
 use Rattle.store.specs.Answers.{told}
 use Rattle.hourlog_c.specs.Words.{wordOf}
 use borrow.Author.Needs.{needs}
 use Rattle.hourlog_c.proofs.word.of_store.Statement.{statement}
 use Rattle.hourlog_c.proofs.word.of_store.Tie as tie
-use Rattle.hourlog_c.proofs.word.of_store.Reads as reads
-use Rattle.hourlog_c.proofs.word.of_store.Lts as lts
-use Rattle.hourlog_c.proofs.word.minus.Reads as minus-reads
-use Rattle.hourlog_c.proofs.word.pair.Reads as pair-reads
 
 enum-known-a : tie.Need-enum-known-a
 enum-known-a c = search needs

@@ -1,10 +1,8 @@
+-- `hourlog_c::word::pair` meets its contract. Assumes nothing.
 use Rattle.hourlog_c.proofs.WordLaws.{pair-is}
 use borrow.Author.Needs.{needs}
 use Rattle.hourlog_c.proofs.word.pair.Statement.{statement}
 use Rattle.hourlog_c.proofs.word.pair.Tie as tie
-use Rattle.hourlog_c.proofs.word.pair.Reads as reads
-use Rattle.hourlog_c.proofs.word.pair.Lts as lts
-use Rattle.std.proofs.num.wrapping_add_u64.Reads as wrapping-add-u64-reads
 
 shl-wrapping-add-u64 : tie.Need-shl-wrapping-add-u64
 shl-wrapping-add-u64 c = search needs

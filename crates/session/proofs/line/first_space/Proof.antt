@@ -1,3 +1,4 @@
+-- `session::line::first_space` meets its contract. Assumes nothing.
 use Prim.Native.Nat.{_-_, _≤_}
 use lib.ListN.{length}
 use borrow.Author.Count.{below-more}

@@ -1,3 +1,4 @@
+-- `session::line::single` meets its contract. Assumes nothing.
 use mathlib.Core.Path.{sym}
 use denote.Ref.{now}
 use Rattle.session.specs.Number.{number}

@@ -1,3 +1,4 @@
+-- `session::line::with_two` meets its contract. Assumes nothing.
 use mathlib.Core.Path.{sym}
 use Rattle.lists.specs.Lists.{pick}
 use Rattle.session.specs.Line.{none, one, two, byLetter}

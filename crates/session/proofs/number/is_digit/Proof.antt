@@ -1,3 +1,4 @@
+-- `session::number::is_digit` meets its contract. Assumes nothing.
 use borrow.Author.Tests.{le-leb, lt-leb}
 use Rattle.session.specs.Number.{isDigit}
 use Rattle.session.proofs.number.is_digit.Statement.{statement}

@@ -1,3 +1,4 @@
+-- `session::output::print` meets its contract. Assumes nothing.
 use mathlib.Core.Path.{ap}
 use Rattle.session.specs.Printed.{printed}
 use Rattle.session.proofs.PrintLaws.{prints, refused-put}

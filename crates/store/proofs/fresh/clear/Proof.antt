@@ -1,3 +1,4 @@
+-- `store::fresh::clear` meets its contract. Assumes nothing.
 use Rattle.store.proofs.Zeros.{cleared}
 use mathlib.Core.Path.{_≡_, refl, ap, _∙_}
 use mathlib.Core.List.{List, _++_}

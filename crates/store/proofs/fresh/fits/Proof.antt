@@ -1,3 +1,4 @@
+-- `store::fresh::fits` meets its contract. Assumes nothing.
 use Rattle.store.proofs.FreshBytes.{few-pages, many-pages, few-cells, many-cells, just-length}
 use borrow.Author.Needs.{needs}
 use Rattle.store.proofs.fresh.fits.Statement.{statement}

@@ -1,3 +1,4 @@
+-- `store::header::put_header` meets its contract. Assumes nothing.
 use Rattle.store.proofs.FreshBytes.{headed-is}
 use borrow.Author.Needs.{needs}
 use Rattle.store.proofs.header.put_header.Statement.{statement}

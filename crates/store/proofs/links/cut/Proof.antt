@@ -1,3 +1,4 @@
+-- `store::links::cut` meets its contract. Assumes nothing.
 use Rattle.store.specs.Links.{cut}
 use borrow.Author.Needs.{needs}
 use Rattle.store.proofs.links.cut.Statement.{statement}

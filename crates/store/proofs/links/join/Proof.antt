@@ -1,3 +1,4 @@
+-- `store::links::join` meets its contract. Assumes nothing.
 use Rattle.store.specs.Links.{joined}
 use borrow.Author.Needs.{needs}
 use Rattle.store.proofs.links.join.Statement.{statement}

@@ -1,3 +1,4 @@
+-- `store::links::link_after` meets its contract. Assumes nothing.
 use Prim.Native.Nat.{_≤_}
 use mathlib.Core.Path.{_≡_, refl, sym, _∙_}
 use native.Mathlib.Omega.{arith}
@@ -13,18 +14,15 @@ Inv-loop s pages a k at₀ left₀ at left = (left ≤ k) × (Steps s pages at l
 abbrev μ-loop : tie.MeasureT-loop
 μ-loop s pages a k at₀ left₀ at left = left
 
--- src/links.rt:32:5
 loop-holds : tie.Need-loop-holds Inv-loop μ-loop
 loop-holds c = (omega arith, c .before .pre .1, refl)
 
--- src/links.rt:33:29
 link-requires : tie.Need-link-requires Inv-loop μ-loop
 link-requires c κs =
     let a = c .before .before .before .args in
     let l = c .before .loop in
     step-of (a .s .now) (a .pages) (l .at) (l .left) (c .loop-test .taken) (l .inv .1) .fits
 
--- src/links.rt:33:9
 cell-at-requires : tie.Need-cell-at-requires Inv-loop μ-loop
 cell-at-requires c κs =
     let a = c .before .before .before .before .args in
@@ -32,15 +30,12 @@ cell-at-requires c κs =
     let w = step-of (a .s .now) (a .pages) (l .at) (l .left) (c .before .loop-test .taken) (l .inv .1) in
     omega (arith, w .cell, c .link .ensures .is, c .link .ensures .small)
 
--- src/links.rt:34:16
 sub-left : tie.Need-sub-left Inv-loop μ-loop
 sub-left c = search needs
 
--- src/links.rt:32:5
 loop-less : tie.Need-loop-less Inv-loop μ-loop
 loop-less c = search needs
 
--- src/links.rt:32:5
 loop-again : tie.Need-loop-again Inv-loop μ-loop
 loop-again c =
     let a = c .before .before .before .before .before .args in
@@ -50,7 +45,6 @@ loop-again c =
     let i = c .before .link .ensures .is in
     (omega arith, rw (e, i) (w .more), rw (e, i) (l .inv .2 ∙ w .same))
 
--- src/links.rt:26:1
 returns : tie.Need-returns Inv-loop μ-loop
 returns c =
     let a = c .before .before .before .args in

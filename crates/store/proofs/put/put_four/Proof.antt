@@ -1,3 +1,4 @@
+-- `store::put::put_four` meets its contract. Assumes nothing.
 use Rattle.store.proofs.Writes.{put-splice}
 use mathlib.Core.Path.{_∙_}
 use borrow.Author.Needs.{needs}

@@ -1,3 +1,4 @@
+-- `store::rewrite::rewrite` meets its contract. Assumes nothing.
 use native.Mathlib.Omega.{arith}
 use Rattle.store.proofs.LinkSteps.{rewritten-is}
 use borrow.Author.Needs.{needs}

@@ -1,3 +1,4 @@
+-- `tree::check::low_levels` meets its contract. Assumes nothing.
 use mathlib.Core.Path.{_≡_, ap, _∙_}
 use Prim.Native.Nat.{ℕ}
 use native.Mathlib.Omega.{arith}
@@ -6,10 +7,6 @@ use Rattle.tree.proofs.Lowest.{own-lt, own-pair, own-four}
 use borrow.Author.Needs.{needs}
 use Rattle.tree.proofs.check.low_levels.Statement.{statement}
 use Rattle.tree.proofs.check.low_levels.Tie as tie
-use Rattle.tree.proofs.check.low_levels.Reads as reads
-use Rattle.tree.proofs.check.low_levels.Lts as lts
-use Rattle.bits.proofs.get_field.Reads as get-field-reads
-use Rattle.tree.proofs.check.quad.Reads as quad-reads
 
 cast-get-field : tie.Need-cast-get-field
 cast-get-field c = search needs

