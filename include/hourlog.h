@@ -28,11 +28,11 @@
  * so much sends its store's bytes as they are, and the laptop freezes them.
  * Time: a store call reads the whole store to check it, so its time grows with
  * the store: by about 4,000 instructions for a page that has coins in it.  A
- * change of an hour costs some 30,000 more.  That is 40,000 for an append to a
- * store of 4 pages, and 4 million, a third of a millisecond on a desktop, to
- * one of 1,024.  An image is written and checked in time that grows with its
- * hours; its count and reading take the same few hundred instructions whatever
- * its length, reach about twice as many.
+ * change of an hour costs some 11,000 more.  That is 25,000 for a change in a
+ * store of 4 pages of which 3 have coins, and by that rule some 4 million, a
+ * third of a millisecond on a desktop, in one of 1,024.  An image is written
+ * and checked in time that grows with its hours; its count and reading take the
+ * same few hundred instructions whatever its length, reach about twice as many.
  * Threads and interrupts: any number of calls may run at once, unless one of
  * them changes a buffer that another is lent.
  * Power: a call is not atomic.  Cut off within fresh, append or set, it may

@@ -25,11 +25,6 @@ printed =
     0x01 ∷ 0x02 ∷ 0x00 ∷ 0x00 ∷ 0x05 ∷ 0x00 ∷ 0x00 ∷ 0x00 ∷ 0x08 ∷ 0x00 ∷ 0x00 ∷ 0x00 ∷ 0x14 ∷ 0x00 ∷ 0x00 ∷ 0x00
     ∷ 0x00 ∷ 0x00 ∷ 0x00 ∷ 0x00 ∷ 0x09 ∷ 0x00 ∷ 0x00 ∷ 0x00 ∷ 0x37 ∷ 0x45 ∷ 0xA0 ∷ []
 
--- 'Counts 1,0,2,0 code as 01110'
-pub coded : tree 2 (1 ∷ 0 ∷ 2 ∷ 0 ∷ []) ≡ 0 ∷ 1 ∷ 1 ∷ 1 ∷ 0 ∷ []
-unfolding tree fill field sum digits reserve dense sparse
-coded = refl
-
 pub written : (image 2 (1 ∷ 0 ∷ 2 ∷ 0 ∷ 5 ∷ []) ≡ printed) × (lengthCall 2 (1 ∷ 0 ∷ 2 ∷ 0 ∷ 5 ∷ []) ≡ given 27)
 unfolding lengthCall image header table packed code start pageCode root page pages window tabulate concat little pack bytesFor valueFrom tree fill
     field sum digits reserve dense sparse pick

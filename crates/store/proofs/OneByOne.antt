@@ -7,7 +7,7 @@ use native.Mathlib.Nat.{not-suc-le-zero}
 use native.Mathlib.Omega.{arith}
 use native.Mathlib.Decide.{decLe}
 use lib.ListN.{length, getD, take, drop, length-set, length-drop, drop-of-length-le}
-use lib.Seq.{append-snoc, drop-append-add, drop-append-le, drop-cons, getD-set-same, length-take-le, set-getD, set-set}
+use lib.Seq.{append-snoc, drop-append-add, drop-append-le, getD-set-same, length-take-le, set-getD, set-set}
 use lib.Seq.{take-all, take-append-add, take-append-le, take-suc, take-take}
 use Rattle.lists.specs.Lists.{first, sum}
 use Rattle.store.specs.Plain.{Call, Outcome, changed, need, page, refused, step}
@@ -23,23 +23,6 @@ use Rattle.store.proofs.Keep.{need-off, spare-is}
 use Rattle.store.proofs.ReadBack.{read-is}
 use Rattle.store.proofs.SoundFacts.{facts}
 use Rattle.store.proofs.StepLaws.{End, after-good, made, not-done, said, step-end}
-
--- ---- the line between a page's chain and the free chain, in the two of them joined
--- a page's chain and the free chain
-pub record Pair : Type 0 where
-  pub own : List ℕ
-  pub spare : List ℕ
-
-abbrev pub line : ℕ → List ℕ → Pair
-line n J = record { own = take n J; spare = drop n J }
-
--- the first free cell goes onto the end of the page's chain
-abbrev pub takes : Pair → ℕ → Pair → Type 0
-takes a c b = (a .spare ≡ c ∷ b .spare) × (b .own ≡ a .own ++ c ∷ [])
-
--- from n cells to one more a cell is taken; the other way round the last cell is given to the front of the free chain
-pub one-more : (n : ℕ) (J : List ℕ) → n < length J → takes (line n J) (getD J n 0) (line (suc n) J)
-one-more n J l = (drop-cons J n 0 l, take-suc J n 0 l)
 
 -- ---- `resize`, at once
 grows : (m : Model) (ys : List ℕ) (p d : ℕ)
