@@ -1,16 +1,16 @@
 -- Laws of fields, values and bits. Assumes nothing.
-use mathlib.Core.Path.{_≡_, refl, sym, ap, ap₂, _∙_, subst}
+use mathlib.Core.Path.{_≡_, refl, sym, ap, _∙_}
 use mathlib.Core.List.{List, [], _∷_, _++_, append-assoc, append-nil}
-use Prim.Native.Nat.{ℕ, zero, suc, _+_, _-_, _*_, _/_, _%_, _^_, _≤_, _<_}
-use native.Mathlib.Nat.{mod-lt, mod-eq-of-lt, add-zero, mul-one, add-suc, pow-suc, div-add-mod', mul-assoc, add-mul, add-assoc}
+use Prim.Native.Nat.{ℕ, zero, suc, _+_, _-_, _*_, _/_, _%_, _^_, _<_}
+use native.Mathlib.Nat.{mod-lt, add-zero, mul-one, add-suc, pow-suc, mul-assoc}
 use native.Mathlib.Numerals.{add-one}
 use native.Mathlib.Omega.{arith}
-use lib.ListN.{length, take, drop, set, getD, length-append, length-take, length-drop, take-append-drop}
-use lib.Seq.{split-at, set-split, take-at, drop-at, length-take-le, take-add, drop-drop}
+use lib.ListN.{length, take, drop, set, getD, length-append}
+use lib.Seq.{split-at, set-split}
 use lib.Arith.{lt-one, digits-lt}
-use lib.Pow.{pow-pos, pow-add, split, shr-shr, shr-lt}
+use lib.Pow.{pow-pos, pow-add, split, shr-shr}
 use lib.Bits.{block-half, block-odd}
-use Rattle.bits.specs.Bits.{field, valueFrom, value, bits}
+use Rattle.bits.specs.Bits.{field, valueFrom, bits}
 
 -- ---- fields
 

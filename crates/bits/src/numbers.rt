@@ -1,7 +1,7 @@
 // Numbers of two and of four bytes, low byte first.
 use crate::word::wide;
 ghost use mathlib.Core.Path.{_≡_};
-ghost use Prim.Native.Nat.{_+_, _≤_, _<_};
+ghost use Prim.Native.Nat.{_+_, _≤_};
 ghost use lib.ListN.{length};
 ghost use Rattle.lists.specs.Lists.{splice};
 ghost use Rattle.bits.specs.Numbers.{Number, little};

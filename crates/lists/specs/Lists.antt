@@ -1,8 +1,8 @@
 -- Lists of numbers, as the definitions of every crate above use them. Assumes nothing.
 use mathlib.Core.Bool.{Bool, true, false, _&&_}
 use mathlib.Core.List.{List, [], _∷_, _++_}
-use Prim.Native.Nat.{ℕ, zero, suc, _+_, _-_, _*_}
-use lib.ListN.{length, take, drop, replicate}
+use Prim.Native.Nat.{ℕ, zero, suc, _+_, _-_}
+use lib.ListN.{length, getD, take, drop, replicate}
 use lib.Dec.{leb, eqb}
 
 -- f 0, f 1, .. f (n - 1)
@@ -75,3 +75,7 @@ reading xs i = sum (take i xs)
 -- document 01's reach: 'the smallest i with reading at i ≥ p'
 unfoldable pub reached : ℕ → List ℕ → ℕ
 reached p xs = least (length xs) (λ i. leb p (reading xs i))
+
+-- the n numbers from index i on, 0 from the list's end on
+unfoldable pub window : List ℕ → ℕ → ℕ → List ℕ
+window xs i n = tabulate n (λ j. getD xs (i + j) 0)

@@ -1,17 +1,16 @@
 -- What the functions' proofs use, on plain numbers: the binary digits by the leading zeros, both cases of the reserve as one formula, and
 -- the bounds of that formula's parts.
 -- Assumes nothing.
-use mathlib.Core.Path.{_≡_, refl, sym, ap, _∙_}
+use mathlib.Core.Path.{_≡_, sym, ap, _∙_}
 use Prim.Native.Nat.{ℕ, zero, suc, _+_, _-_, _*_, _/_, _%_, _^_, _≤_, _<_, min}
-use mathlib.Core.Bool.{Bool, true, false}
-use native.Mathlib.Nat.{one-mul, mul-le-mul, mul-le-mul-left, mul-le-mul-right, div-le-self}
-use native.Mathlib.Nat.{div-mul-le-self, lt-div-mul-add, div-eq-of-lt-le, pow-succ', mod-eq-of-lt}
+use native.Mathlib.Nat.{one-mul, mul-le-mul, mul-le-mul-left, mul-le-mul-right}
+use native.Mathlib.Nat.{div-mul-le-self, lt-div-mul-add, div-eq-of-lt-le, pow-succ'}
 use native.Mathlib.Decide.{decLe}
 use native.Mathlib.Omega.{arith}
 use lib.Count.{leadingZeros, leading-length}
 use lib.Pow.{pow-mono, pow-pos, shl-exact}
 use borrow.Author.Tests.{le-leb, lt-leb}
-use Rattle.reserve.specs.Reserve.{digits, pick, ceil, dense, sparse, reserve}
+use Rattle.reserve.specs.Reserve.{digits, ceil, dense, sparse, reserve}
 use Rattle.reserve.specs.Formula.{oneFormula, Bounded}
 use Rattle.reserve.proofs.Line.{lt-two-pow}
 use Rattle.reserve.proofs.Exact.{digits-unique, digits-le, digits-ge, round-le, suc-sub-one}

@@ -1,10 +1,10 @@
 -- The reserve of s is what the line of s's own number of digits says, rounded down.
 -- Assumes nothing.
-use mathlib.Core.Path.{_≡_, refl, sym, ap, ap₂, _∙_}
+use mathlib.Core.Path.{_≡_, refl, ap, ap₂}
 use mathlib.Core.Bool.{Bool, true, false}
 use Prim.Native.Nat.{ℕ, zero, suc, _+_, _-_, _*_, _/_, _^_, _≤_, _<_, max}
-use native.Mathlib.Nat.{pow-succ', mul-le-mul-left, mul-le-mul-right, le-trans, le-of-lt}
-use native.Mathlib.Nat.{le-refl, sub-add-cancel, div-mul-le-self, lt-div-mul-add, add-sub-cancel-left}
+use native.Mathlib.Nat.{pow-succ', mul-le-mul-left, mul-le-mul-right}
+use native.Mathlib.Nat.{le-refl, div-mul-le-self, lt-div-mul-add}
 use native.Mathlib.Decide.{decLe}
 use native.Mathlib.Omega.{arith}
 use lib.Arith.{half-le}
@@ -12,7 +12,7 @@ use lib.Dec.{leb}
 use lib.Pow.{pow-mono, pow-pos}
 use borrow.Author.Tests.{leb-true, leb-false}
 use Rattle.reserve.specs.Reserve.{digitsIn, digits, pick, ceil, dense, sparse, reserve}
-use Rattle.reserve.proofs.Line.{A, B, line, Under, A-zero, A-dense, B-dense, A-sparse, B-sparse, lt-two-pow}
+use Rattle.reserve.proofs.Line.{line, Under, A-zero, A-dense, B-dense, A-sparse, B-sparse, lt-two-pow}
 
 pub suc-sub-one : (k : ℕ) → suc k - 1 ≡ k
 suc-sub-one k = omega arith

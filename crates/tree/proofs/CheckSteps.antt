@@ -1,15 +1,15 @@
 -- One step of the check of a tree, as the code takes it. Assumes nothing.
-use mathlib.Core.Path.{_≡_, refl, sym, ap, ap₂, _∙_}
+use mathlib.Core.Path.{_≡_, sym, ap, ap₂, _∙_}
 use mathlib.Core.Bool.{Bool, true, false, _&&_, and-false, and-true}
 use mathlib.Core.List.{List}
-use Prim.Native.Nat.{ℕ, zero, suc, _+_, _-_, _≤_}
+use Prim.Native.Nat.{ℕ, suc, _+_, _-_, _≤_}
 use native.Mathlib.Omega.{arith}
 use borrow.Author.Tests.{le-leb}
 use Rattle.lists.specs.Lists.{every}
-use Rattle.reserve.specs.Reserve.{digits, reserve}
+use Rattle.reserve.specs.Reserve.{reserve}
 use Rattle.tree.specs.Read.{leftOf, leftAt, rightAt}
 use Rattle.tree.specs.Exact.{clear, spareAt, spareLen, exact}
-use Rattle.tree.specs.Code.{Node}
+use Rattle.tree.specs.Code.{Rooted}
 use Rattle.tree.specs.declared.node.Split.{Split}
 use Rattle.tree.proofs.Exacts.{exact-zero}
 use Rattle.tree.proofs.Rooting.{Inner}
@@ -31,7 +31,7 @@ module _ (h s : ℕ) (b : List ℕ) (a : ℕ) where
   pub exact-none : s ≡ 0 → true ≡ exact h s b a
   exact-none e = sym (ap (λ (z : ℕ). exact h z b a) e ∙ exact-zero h b a)
 
-  pub exact-bad : (h ≡ 0 → ⊥) → {r : Split} → Node b a (h - 1) s r → r .ok ≡ false → false ≡ exact h s b a
+  pub exact-bad : (h ≡ 0 → ⊥) → {r : Split} → Rooted b a (h - 1) s r → r .ok ≡ false → false ≡ exact h s b a
   unfolding exact every
   exact-bad p n e = sym (rw (sym (n .ok-is) ∙ e)) ∙ ap (λ (k : ℕ). exact k s b a) (up h p)
 

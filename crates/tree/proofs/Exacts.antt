@@ -1,19 +1,18 @@
 -- A tree that passes the code's test is the code of the counts that it says. Assumes nothing.
 use mathlib.Core.Path.{_≡_, refl, sym, ap, ap₂, _∙_}
-use mathlib.Core.Bool.{Bool, true, false, _&&_}
-use mathlib.Core.List.{List, [], _∷_, _++_, append-assoc, append-nil}
-use Prim.Native.Nat.{ℕ, zero, suc, _+_, _-_, _*_, _/_, _%_, _^_, _≤_, _<_}
-use native.Mathlib.Nat.{add-zero}
+use mathlib.Core.Bool.{true}
+use mathlib.Core.List.{List, [], _∷_, _++_, append-nil}
+use Prim.Native.Nat.{ℕ, zero, suc, _+_, _-_, _^_, _≤_}
 use native.Mathlib.Omega.{arith}
-use lib.ListN.{length, take, drop, replicate, length-append, length-take, length-drop, length-replicate, take-append-drop}
-use lib.Seq.{take-at, drop-at, drop-drop, take-add, length-take-le}
-use lib.Dec.{leb, ltb, eqb}
+use lib.ListN.{length, take, drop, replicate, length-append, length-replicate}
+use lib.Seq.{take-at, drop-at}
+use lib.Dec.{leb}
 use borrow.Author.Tests.{le-leb, leb-true}
 use Rattle.bits.specs.Bits.{field, value}
 use Rattle.bits.proofs.Laws.{length-field}
 use Rattle.reserve.specs.Reserve.{digits, reserve}
-use Rattle.reserve.proofs.Fit.{fit-all, one-cell}
-use Rattle.lists.specs.Lists.{sum, every, same, part, fill}
+use Rattle.reserve.proofs.Fit.{fit-all, one-count}
+use Rattle.lists.specs.Lists.{sum, same, part, fill}
 use Rattle.tree.specs.Tree.{tree}
 use Rattle.tree.specs.Read.{leftOf, leftAt, rightAt, counts}
 use Rattle.tree.specs.Exact.{Coded, clear, spareAt, spareLen, exact}
@@ -78,7 +77,7 @@ node-coded h s l b a X Y bb fits el le nX sX sY cX cY cZ =
 
 pub exact-coded : (h s : ℕ) (b : List ℕ) (a : ℕ) → Bits b → a + reserve h s ≤ length b → exact h s b a ≡ true → Coded h s b a
 unfolding exact counts tree sum clear leftOf
-exact-coded zero s b a bb fits e = record { total = omega arith; code = ap (part b a) (one-cell s) }
+exact-coded zero s b a bb fits e = record { total = omega arith; code = ap (part b a) (one-count s) }
 exact-coded (suc h) s b a bb fits e =
     let l : ℕ = leftOf s b a in
     let w = each (leb l s ∷ exact h l b (leftAt s a) ∷ exact h (s - l) b (rightAt h s l a) ∷ clear b (spareAt h s l a) (spareLen h s l) ∷ []) e in

@@ -1,13 +1,12 @@
 -- The lowest two levels, written: four counts are three fields, and these are one number. Assumes nothing.
-use mathlib.Core.Path.{_≡_, refl, sym, ap, ap₂, _∙_}
+use mathlib.Core.Path.{_≡_, sym, ap, ap₂, _∙_}
 use mathlib.Core.List.{List, [], _++_, append-nil}
 use Prim.Native.Nat.{ℕ, _+_, _-_, _*_, _^_, _≤_, _<_}
 use native.Mathlib.Nat.{lt-of-lt-of-le}
 use native.Mathlib.Omega.{arith}
 use lib.ListN.{length, getD, take, drop, replicate, length-append}
 use lib.Pow.{pow-mono, shl-lt}
-use Rattle.lists.specs.Lists.{part, splice, sum, fill}
-use Rattle.lists.proofs.Parts.{splice-then}
+use Rattle.lists.specs.Lists.{part, splice, sum, fill, window}
 use Rattle.bits.specs.Bits.{bits, field, value}
 use Rattle.bits.proofs.Laws.{length-field, length-bits, joined-lt}
 use Rattle.bits.proofs.Words.{parts}
@@ -15,7 +14,7 @@ use Rattle.reserve.specs.Reserve.{digits, reserve}
 use Rattle.reserve.proofs.Exact.{digits-is, digits-le}
 use Rattle.reserve.proofs.Fit.{fit-all}
 use Rattle.tree.specs.Tree.{tree}
-use Rattle.tree.specs.Code.{Blank, Lies, window}
+use Rattle.tree.specs.Code.{Blank, Lies}
 use Rattle.tree.proofs.Windows.{half-left, half-right, half-sums, one-count, two-counts}
 use Rattle.tree.proofs.Blank.{blank-value}
 use Rattle.tree.proofs.Lowest.{reserve-pair}

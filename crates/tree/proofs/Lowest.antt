@@ -5,7 +5,7 @@ use mathlib.Core.List.{List, [], _∷_}
 use Prim.Native.Nat.{ℕ, zero, suc, _+_, _-_, _*_, _/_, _%_, _^_, _≤_, _<_}
 use native.Mathlib.Nat.{pow-succ', lt-of-mul-lt-mul-left, mod-lt, mod-eq-of-lt}
 use native.Mathlib.Omega.{arith}
-use lib.ListN.{length, take, drop, replicate}
+use lib.ListN.{length, take, drop}
 use lib.Seq.{take-all}
 use lib.Dec.{leb, eqb}
 use lib.Pow.{pow-pos, shr-lt}
@@ -14,12 +14,12 @@ use Rattle.lists.specs.Lists.{every, same, part}
 use Rattle.lists.proofs.Parts.{length-part}
 use Rattle.bits.specs.Bits.{field, value, bits}
 use Rattle.bits.proofs.Laws.{length-field, length-bits}
-use Rattle.bits.proofs.Packing.{Bits, bits-bytes, bits-field, bits-take, bits-drop, value-field, value-lt}
+use Rattle.bits.proofs.Packing.{bits-bytes, bits-field, bits-take, bits-drop, value-field, value-lt}
 use Rattle.bits.proofs.Words.{field-get}
 use Rattle.reserve.specs.Reserve.{digits, reserve}
 use Rattle.reserve.proofs.Line.{A, B}
 use Rattle.reserve.proofs.Exact.{digits-is, digits-le}
-use Rattle.reserve.proofs.Fit.{bound, fit-all, one-cell}
+use Rattle.reserve.proofs.Fit.{bound, fit-all, one-count}
 use Rattle.tree.specs.Read.{leftOf, leftAt, rightAt}
 use Rattle.tree.specs.Exact.{clear, spareAt, spareLen, exact}
 use Rattle.tree.proofs.Clearing.{clear-value}
@@ -53,7 +53,7 @@ pub exact-pair : (s : ℕ) (b : List ℕ) (a : ℕ) → exact 1 s b a ≡ leb (l
 unfolding exact every
 exact-pair s b a =
     let l : ℕ = leftOf s b a in
-    let none : spareLen 0 s l ≡ 0 = omega (arith, reserve-pair s, one-cell l, one-cell (s - l)) in
+    let none : spareLen 0 s l ≡ 0 = omega (arith, reserve-pair s, one-count l, one-count (s - l)) in
     rw (clear-nothing b (spareAt 0 s l a) (spareLen 0 s l) none, and-true (leb l s))
 
 -- ---- a piece of a field, as a number

@@ -1,7 +1,7 @@
 -- The ranges of the nodes of a tree: inside each other or apart, and each holds its subtree's code. Assumes nothing.
-use mathlib.Core.Path.{_≡_, refl, sym, ap, ap₂, _∙_}
+use mathlib.Core.Path.{_≡_, refl}
 use mathlib.Core.List.{List, [], _∷_, _++_}
-use Prim.Native.Nat.{ℕ, zero, suc, _+_, _-_, _*_, _^_, _≤_, _<_}
+use Prim.Native.Nat.{ℕ, zero, suc, _+_, _-_, _^_, _≤_, _<_}
 use native.Mathlib.Omega.{arith}
 use native.Mathlib.Nat.{not-suc-le-zero}
 use lib.ListN.{length, take, drop}
@@ -9,7 +9,7 @@ use Rattle.reserve.specs.Reserve.{digits, reserve}
 use Rattle.reserve.proofs.Fit.{fit-all}
 use Rattle.lists.specs.Lists.{sum, part}
 use Rattle.tree.specs.Tree.{tree}
-use Rattle.tree.specs.Ranges.{Node, end, fieldEnd, Side, left, right, leftNode, rightNode, child, node, Inside, Parts}
+use Rattle.tree.specs.Ranges.{Node, end, Side, left, right, child, node, Inside, Parts}
 use Rattle.lists.proofs.Sums.{sum-halves}
 use Rattle.tree.proofs.Shape.{left-region, right-region}
 

@@ -15,7 +15,7 @@ use Rattle.reserve.proofs.Exact.{digits-le}
 use Rattle.reserve.proofs.Fit.{fit-all}
 use Rattle.tree.specs.Read.{leftOf, leftAt, rightAt}
 use Rattle.tree.specs.Exact.{spareAt}
-use Rattle.tree.specs.Code.{Lies, Node}
+use Rattle.tree.specs.Code.{Lies, Rooted}
 use Rattle.tree.specs.declared.node.Split.{Split}
 
 -- a node of height h + 1 and left sum l
@@ -55,7 +55,7 @@ top {b} {a} {h} {s} p y = rw (same-height h p) y
 -- a node above the counts whose root was read as r and is no damage
 pub record Inner (b : List ℕ) (a h s : ℕ) (r : Split) : Type 0 where
   pub high : h ≡ 0 → ⊥
-  pub root : Node b a (h - 1) s r
+  pub root : Rooted b a (h - 1) s r
   pub sound : r .ok ≡ true
 
 module _ {b : List ℕ} {a h s : ℕ} {r : Split} (y : Lies b a h s) (i : Inner (bits b) a h s r) where

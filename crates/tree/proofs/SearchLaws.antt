@@ -1,27 +1,17 @@
 -- The search by prefix sum in a tree's code finds the least index. Assumes nothing.
-use mathlib.Core.Path.{_≡_, refl, sym, ap, ap₂, _∙_}
-use mathlib.Core.Bool.{Bool, true, false, _&&_}
-use mathlib.Core.List.{List, [], _∷_, _++_, append-assoc, append-nil}
-use Prim.Native.Nat.{ℕ, zero, suc, _+_, _-_, _*_, _/_, _%_, _^_, _≤_, _<_}
-use native.Mathlib.Nat.{pow-succ', add-zero}
+use mathlib.Core.Path.{_≡_, refl, sym, ap, _∙_}
+use mathlib.Core.List.{List, [], _∷_, _++_}
+use Prim.Native.Nat.{ℕ, zero, suc, _+_, _-_, _^_, _≤_, _<_}
 use native.Mathlib.Omega.{arith}
-use native.Mathlib.Decide.{decLe, ℕ-discrete}
-use lib.ListN.{length, getD, take, drop, replicate, length-append, length-take, length-drop, length-replicate, take-append-drop}
-use lib.Seq.{take-at, drop-at, getD-take, getD-drop, take-take, drop-drop, length-take-le, take-add}
-use lib.Dec.{leb, ltb, eqb}
-use borrow.Author.Tests.{le-leb, lt-leb, lt-ltb, le-ltb, eq-eqb, ne-eqb}
-use Rattle.bits.specs.Bits.{field, value}
-use Rattle.bits.proofs.Laws.{length-field}
-use Rattle.reserve.specs.Reserve.{digits, reserve}
-use Rattle.reserve.proofs.Exact.{digits-is}
-use Rattle.reserve.proofs.Fit.{fit-all, one-cell}
-use Rattle.lists.specs.Lists.{sum, pick, part, fill, reached}
+use native.Mathlib.Decide.{decLe}
+use lib.ListN.{length, take, drop, take-append-drop}
+use borrow.Author.Tests.{le-leb, lt-leb}
+use Rattle.reserve.specs.Reserve.{reserve}
+use Rattle.lists.specs.Lists.{sum, pick, part, reached}
 use Rattle.tree.specs.Tree.{tree}
-use Rattle.tree.specs.Read.{leftOf, leftAt, rightAt, counts, Found, damaged, found, later, walk, Place, nowhere, place, shifted, seek}
-use Rattle.lists.proofs.Parts.{part-sub, part-in, mid, piece}
-use Rattle.lists.proofs.Sums.{sum-append, sum-halves, sum-take-le}
+use Rattle.tree.specs.Read.{leftOf, leftAt, rightAt, place, shifted, seek}
+use Rattle.lists.proofs.Sums.{sum-halves, sum-take-le}
 use Rattle.lists.proofs.Reach.{reached-suc, reached-nil, reached-left, reached-right}
-use Rattle.bits.proofs.Packing.{Bits, bits-join, bits-field, bits-fill, length-fill, value-field}
 use Rattle.tree.proofs.Shape.{left-read, left-region, right-region, rest-is, left-long, right-long}
 
 moved : (n i : ℕ) → shifted n (place i) ≡ place (n + i)

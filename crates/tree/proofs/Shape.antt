@@ -1,26 +1,20 @@
 -- A tree's code: its length, its parts' places, and the counts that are read of it. Assumes nothing.
 use mathlib.Core.Path.{_≡_, refl, sym, ap, ap₂, _∙_}
-use mathlib.Core.Bool.{Bool, true, false, _&&_}
-use mathlib.Core.List.{List, [], _∷_, _++_, append-assoc, append-nil}
-use Prim.Native.Nat.{ℕ, zero, suc, _+_, _-_, _*_, _/_, _%_, _^_, _≤_, _<_}
+use mathlib.Core.List.{List, [], _∷_, _++_, append-assoc}
+use Prim.Native.Nat.{ℕ, zero, suc, _+_, _-_, _^_, _≤_}
 use native.Mathlib.Nat.{pow-succ', add-zero}
 use native.Mathlib.Omega.{arith}
-use native.Mathlib.Decide.{decLe, ℕ-discrete}
-use lib.ListN.{length, getD, take, drop, replicate, length-append, length-take, length-drop, length-replicate, take-append-drop}
-use lib.Seq.{take-at, drop-at, getD-take, getD-drop, take-take, drop-drop, length-take-le, take-add}
-use lib.Dec.{leb, ltb, eqb}
-use borrow.Author.Tests.{le-leb, lt-leb, lt-ltb, le-ltb, eq-eqb, ne-eqb}
+use lib.ListN.{length, take, drop, replicate, length-append, length-take, length-drop, take-append-drop}
 use Rattle.bits.specs.Bits.{field, value}
 use Rattle.bits.proofs.Laws.{length-field}
 use Rattle.reserve.specs.Reserve.{digits, reserve}
 use Rattle.reserve.proofs.Exact.{digits-is}
-use Rattle.reserve.proofs.Fit.{fit-all, one-cell}
-use Rattle.lists.specs.Lists.{sum, pick, part, fill, reached}
+use Rattle.reserve.proofs.Fit.{fit-all, one-count}
+use Rattle.lists.specs.Lists.{sum, part, fill}
 use Rattle.tree.specs.Tree.{tree}
-use Rattle.tree.specs.Read.{leftOf, leftAt, rightAt, counts, Found, damaged, found, later, walk, Place, nowhere, place, shifted, seek}
-use Rattle.lists.proofs.Parts.{part-sub, part-in, mid, piece}
-use Rattle.lists.proofs.Sums.{sum-append, sum-halves, sum-take-le}
-use Rattle.lists.proofs.Reach.{reached-suc, reached-nil, reached-left, reached-right}
+use Rattle.tree.specs.Read.{leftOf, leftAt, rightAt, counts}
+use Rattle.lists.proofs.Parts.{piece}
+use Rattle.lists.proofs.Sums.{sum-halves}
 use Rattle.bits.proofs.Packing.{Bits, bits-join, bits-field, bits-fill, length-fill, value-field}
 
 -- the three parts of an inner node's code
@@ -40,7 +34,7 @@ length-inner h xs a b =
 -- a tree's code is exactly as long as its reserve
 pub length-tree : (h : ℕ) (xs : List ℕ) → length (tree h xs) ≡ reserve h (sum xs)
 unfolding tree
-length-tree zero xs = sym (one-cell (sum xs))
+length-tree zero xs = sym (one-count (sum xs))
 length-tree (suc h) xs =
     let i = length-inner h xs (length-tree h (take (2 ^ h) xs)) (length-tree h (drop (2 ^ h) xs)) in
     length-fill (reserve (suc h) (sum xs)) (inner h xs) (omega

@@ -7,11 +7,12 @@ use native.Mathlib.Nat.{mul-le-mul-right}
 use native.Mathlib.Omega.{arith}
 use lib.Dec.{leb, ltb}
 use Rattle.lists.specs.Lists.{pick}
-use Rattle.bits.specs.Bits.{valueFrom}
-use Rattle.reserve.specs.Reserve.{digits}
+use Rattle.bits.specs.Bits.{bits, valueFrom}
+use Rattle.reserve.specs.Reserve.{digits, reserve}
 use Rattle.tree.specs.Read.{leftOf, leftAt, rightAt, Found, damaged, found, later, walk}
-use Rattle.tree.specs.Code.{Node, told}
+use Rattle.tree.specs.Code.{Lies, Rooted, walkAnswer, Ended, Onward}
 use Rattle.tree.specs.declared.node.Split.{Split}
+use Rattle.tree.specs.declared.walk.Spot.{Spot}
 use Rattle.tree.proofs.WalkLaws.{walk-left, walk-right}
 use Rattle.tree.proofs.Rooting.{Inner}
 
@@ -20,10 +21,10 @@ pub kept : (k l : ℕ) → k ≤ 1 → k * l ≤ l
 kept k l h = omega (arith, mul-le-mul-right l h)
 
 -- what stands before can be counted in acc or in the walk
-told-later : (acc k l : ℕ) (f : Found) → told (acc + k * l) k f ≡ told acc k (later l f)
-unfolding told later
-told-later acc k l damaged = refl
-told-later acc k l (found x c) = omega arith
+answer-later : (acc k l : ℕ) (f : Found) → walkAnswer (acc + k * l) k f ≡ walkAnswer acc k (later l f)
+unfolding walkAnswer later
+answer-later acc k l damaged = refl
+answer-later acc k l (found x c) = omega arith
 
 walk-damaged : (h s : ℕ) (b : List ℕ) (a j : ℕ) → leb (leftOf s b a) s ≡ false → walk (suc h) s b a j ≡ damaged
 unfolding walk pick
@@ -42,20 +43,42 @@ walk-zero zero b a j = refl
 walk-zero (suc h) b a j = either (ltb j (2 ^ h)) _ _ (walk-zero h b (leftAt 0 a) j) (walk-zero h b (rightAt h 0 0 a) (j - 2 ^ h))
 
 module _ (h s : ℕ) (b : List ℕ) (a j acc k : ℕ) where
-  pub walk-none : s ≡ 0 → acc ≡ told acc k (walk h s b a j)
-  unfolding told
+  pub walk-none : s ≡ 0 → acc ≡ walkAnswer acc k (walk h s b a j)
+  unfolding walkAnswer
   walk-none e = rw (e, walk-zero h b a j) (omega arith)
 
-  pub walk-leaf : h ≡ 0 → acc + s ≡ told acc k (walk h s b a j)
-  unfolding walk told
+  pub walk-leaf : h ≡ 0 → acc + s ≡ walkAnswer acc k (walk h s b a j)
+  unfolding walk walkAnswer
   walk-leaf e = rw e (omega arith)
 
-  up : (h ≡ 0 → ⊥) → told acc k (walk h s b a j) ≡ told acc k (walk (suc (h - 1)) s b a j)
-  up p = ap (λ (i : ℕ). told acc k (walk i s b a j)) {x = h} {y = suc (h - 1)} (omega (arith, p))
+  up : (h ≡ 0 → ⊥) → walkAnswer acc k (walk h s b a j) ≡ walkAnswer acc k (walk (suc (h - 1)) s b a j)
+  up p = ap (λ (i : ℕ). walkAnswer acc k (walk i s b a j)) {x = h} {y = suc (h - 1)} (omega (arith, p))
 
-  pub walk-bad : (h ≡ 0 → ⊥) → {r : Split} → Node b a (h - 1) s r → r .ok ≡ false → 2 ^ 63 ≡ told acc k (walk h s b a j)
-  unfolding told
+  pub walk-bad : (h ≡ 0 → ⊥) → {r : Split} → Rooted b a (h - 1) s r → r .ok ≡ false → 2 ^ 63 ≡ walkAnswer acc k (walk h s b a j)
+  unfolding walkAnswer
   walk-bad p n e = rw (up p, walk-damaged (h - 1) s b a j (sym (n .ok-is) ∙ e))
+
+-- where a tree lies, so does the tree of one count of 0 at bit 0
+none-lies : {b : List ℕ} {a h s : ℕ} → Lies b a h s → Lies b 0 0 0
+unfolding reserve
+none-lies y = record { height = omega arith; total = omega arith; long = y .long; inside = omega arith; small = omega arith }
+
+-- a walk that ended, with the answer that is due
+pub at-end : {b : List ℕ} {a h s : ℕ} → Lies b a h s → {acc k n H x : ℕ} {r : Spot} → Ended acc r → acc ≤ 9223372036854775808 → acc ≡ x
+    → Onward b k n H x r
+unfolding walkAnswer walk
+at-end y e i u =
+    record {
+      lies = rw (e .at-is, e .h-is, e .s-is) (none-lies y);
+      fits = omega (arith, e .acc-is, e .s-is);
+      lower = omega (arith, e .h-is);
+      same = rw (e .h-is, e .s-is, e .acc-is) (omega (arith, u));
+    }
+
+-- one step more
+pub further : {b : List ℕ} {k n h x : ℕ} {p r : Spot} → Onward b k n h x p
+    → Onward b k 1 (p .h) (walkAnswer (p .acc) k (walk (p .h) (p .s) (bits b) (p .at) (p .j))) r → Onward b k (n + 1) h x r
+further o q = record { lies = q .lies; fits = q .fits; lower = omega (arith, o .lower, q .lower); same = q .same ∙ o .same }
 
 module _ {h s : ℕ} {b : List ℕ} {a : ℕ} {r : Split} (i : Inner b a h s r) where
   said : leftOf s b a ≡ r .left
@@ -65,12 +88,12 @@ module _ {h s : ℕ} {b : List ℕ} {a : ℕ} {r : Split} (i : Inner b a h s r) 
   small = i .root .left-le (i .sound)
 
   module _ (j acc k : ℕ) {m : ℕ} (half : m ≡ 2 ^ (h - 1)) where
-    pub walk-low : j < m → told acc k (walk (h - 1) (r .left) b (r .first) j) ≡ told acc k (walk h s b a j)
+    pub walk-low : j < m → walkAnswer acc k (walk (h - 1) (r .left) b (r .first) j) ≡ walkAnswer acc k (walk h s b a j)
     walk-low o =
         rw (up h s b a j acc k (i .high), walk-left (h - 1) s (r .left) b a j said small (omega arith), i .root .first-is (i .sound))
 
     pub walk-high : m ≤ j
-        → told (acc + k * r .left) k (walk (h - 1) (s - r .left) b (r .second) (j - m)) ≡ told acc k (walk h s b a j)
+        → walkAnswer (acc + k * r .left) k (walk (h - 1) (s - r .left) b (r .second) (j - m)) ≡ walkAnswer acc k (walk h s b a j)
     walk-high o =
         rw (up h s b a j acc k (i .high), walk-right (h - 1) s (r .left) b a j said small (omega arith), i .root .second-is (i .sound), half)
-        (told-later acc k (r .left) _)
+        (answer-later acc k (r .left) _)

@@ -7,10 +7,9 @@ use native.Mathlib.Omega.{arith}
 use native.Mathlib.Decide.{decLe}
 use lib.ListN.{length, getD, take, drop, List·getD-eq-default}
 use lib.Seq.{take-at, drop-at}
-use Rattle.lists.specs.Lists.{tabulate, sum}
+use Rattle.lists.specs.Lists.{tabulate, sum, window}
 use Rattle.lists.proofs.Tables.{tabulate-ext, length-tabulate}
 use Rattle.lists.proofs.Sums.{sum-append}
-use Rattle.tree.specs.Code.{window}
 
 -- a table of m + n values
 tabulate-add : {A : Type 0} (m n : ℕ) (f : ℕ → A) → tabulate (m + n) f ≡ tabulate m f ++ tabulate n (λ j. f (m + j))

@@ -1,12 +1,12 @@
 -- A tree written into zero bits: its field, its left subtree, its right subtree. Assumes nothing.
 use mathlib.Core.Path.{_≡_, refl, sym, ap, ap₂, _∙_}
 use mathlib.Core.List.{List, _++_, append-assoc}
-use Prim.Native.Nat.{ℕ, zero, suc, _+_, _-_, _*_, _^_, _≤_, _<_}
+use Prim.Native.Nat.{ℕ, zero, suc, _+_, _-_, _^_, _≤_, _<_}
 use native.Mathlib.Nat.{pow-succ'}
 use native.Mathlib.Numerals.{add-one}
 use native.Mathlib.Omega.{arith}
 use lib.ListN.{length, take, drop, length-append}
-use Rattle.lists.specs.Lists.{part, splice, sum, fill}
+use Rattle.lists.specs.Lists.{part, splice, sum, fill, window}
 use Rattle.lists.proofs.Parts.{splice-nil, splice-then}
 use Rattle.lists.proofs.Sums.{sum-halves}
 use Rattle.bits.specs.Bits.{bits, field, value}
@@ -15,7 +15,7 @@ use Rattle.reserve.specs.Reserve.{digits, reserve}
 use Rattle.reserve.proofs.Exact.{digits-is}
 use Rattle.reserve.proofs.Fit.{fit-all}
 use Rattle.tree.specs.Tree.{tree}
-use Rattle.tree.specs.Code.{Blank, Lies, window}
+use Rattle.tree.specs.Code.{Blank, Lies}
 use Rattle.tree.proofs.Shape.{length-tree, tree-none}
 use Rattle.tree.proofs.Blank.{blank-value, blank-next, blank-fill}
 use Rattle.tree.proofs.Windows.{half-left, half-right, half-sums}

@@ -1,6 +1,6 @@
 -- Bits that are a tree's code, as a test of each node. That this is 'the code of some list' is `exact-coded` and `tree-exact`.
 -- Assumes nothing.
-use mathlib.Core.Bool.{Bool, true, false}
+use mathlib.Core.Bool.{Bool, true}
 use mathlib.Core.List.{List, [], _∷_}
 use mathlib.Core.Path.{_≡_}
 use Prim.Native.Nat.{ℕ, zero, suc, _+_, _-_}

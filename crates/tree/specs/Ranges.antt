@@ -1,8 +1,8 @@
 -- Demand 2's ranges: those of the nodes of a tree, as numbers. Assumes nothing.
-use mathlib.Core.List.{List, [], _∷_, _++_}
+use mathlib.Core.List.{List, [], _∷_}
 use mathlib.Core.Path.{_≡_}
-use Prim.Native.Nat.{ℕ, zero, suc, _+_, _-_, _*_, _^_, _≤_, _<_}
-use lib.ListN.{length, take, drop}
+use Prim.Native.Nat.{ℕ, zero, suc, _+_, _-_, _^_, _≤_}
+use lib.ListN.{take, drop}
 use Rattle.reserve.specs.Reserve.{digits, reserve}
 use Rattle.lists.specs.Lists.{sum}
 
@@ -15,10 +15,6 @@ pub record Node : Type 0 where
 -- its range is [first, end)
 abbrev pub end : Node → ℕ
 end n = n .first + reserve (n .height) (sum (n .counts))
-
--- its field, [first, fieldEnd)
-abbrev pub fieldEnd : Node → ℕ
-fieldEnd n = n .first + digits (sum (n .counts))
 
 pub data Side : Type 0 where
   left : Side
@@ -41,7 +37,7 @@ node [] h xs a = record { height = h; counts = xs; first = a }
 node (d ∷ ds) zero xs a = record { height = 0; counts = xs; first = a }
 node (d ∷ ds) (suc h) xs a = node ds h (child d h xs a .counts) (child d h xs a .first)
 
--- one range lies in another; two ranges have no bit in common
+-- one range lies in another
 abbrev pub Inside : Node → Node → Type 0
 Inside m n = (n .first ≤ m .first) × (end m ≤ end n)
 

@@ -1,5 +1,4 @@
 -- What bits say when they are read as a tree of 2^h counts with sum s from bit a on, whatever they are. Assumes nothing.
-use mathlib.Core.Bool.{Bool, true, false}
 use mathlib.Core.List.{List, [], _∷_, _++_}
 use Prim.Native.Nat.{ℕ, zero, suc, _+_, _-_, _^_}
 use lib.Dec.{leb, ltb}

@@ -93,12 +93,12 @@ pub fn nodes(b: &[u8], at: usize, h: u32, s: u64, r: usize) -> bool
     if !n.ok {
         return false;
     }
-    if !nodes(b, n.first, down, n.left, n.second - n.first) {
+    if !nodes(&*b, n.first, down, n.left, n.second - n.first) {
         return false;
     }
     let right = s - n.left;
     let rest = reserve_of(down, right);
-    if !nodes(b, n.second, down, right, rest) {
+    if !nodes(&*b, n.second, down, right, rest) {
         return false;
     }
     let spare = n.second + rest;

@@ -22,6 +22,6 @@ pub fn decode(b: &[u8], at: usize, h: u32, s: u64, out: &mut [u32], from: usize)
     let down = h - 1;
     let r = root(b, at, down, s);
     let half = reserve::power(down) as usize;
-    decode(b, r.first, down, r.left, out, from);
-    decode(b, r.second, down, s - r.left, out, from + half);
+    decode(&*b, r.first, down, r.left, out, from);
+    decode(&*b, r.second, down, s - r.left, out, from + half);
 }

@@ -2,8 +2,7 @@
 ghost use mathlib.Core.Path.{_≡_};
 ghost use Prim.Native.Nat.{_+_, _≤_, _<_, _^_};
 ghost use lib.ListN.{getD};
-ghost use Rattle.lists.specs.Lists.{sum};
-ghost use Rattle.tree.specs.Code.{window};
+ghost use Rattle.lists.specs.Lists.{sum, window};
 
 // The count at index i, 0 beyond the end.
 pub fn count_at(counts: &[u32], i: usize) -> u64

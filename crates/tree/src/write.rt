@@ -10,11 +10,11 @@ use reserve::digits_of;
 use reserve::reserve_of;
 ghost use mathlib.Core.Path.{_≡_};
 ghost use Prim.Native.Nat.{_+_, _≤_, _^_};
-ghost use Rattle.lists.specs.Lists.{splice, sum};
+ghost use Rattle.lists.specs.Lists.{splice, sum, window};
 ghost use Rattle.bits.specs.Bits.{bits};
 ghost use Rattle.reserve.specs.Reserve.{reserve as reserved};
 ghost use Rattle.tree.specs.Tree.{tree};
-ghost use Rattle.tree.specs.Code.{Blank, Lies, window};
+ghost use Rattle.tree.specs.Code.{Blank, Lies};
 
 // The lowest two levels: the tree of the four counts from index from on, whose sum s is not 0, into zero bits from bit at on. Its three
 // fields have three times the digits of s at most, and are one where 57 bits hold them.

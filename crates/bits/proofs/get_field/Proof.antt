@@ -1,5 +1,4 @@
 -- `bits::get_field` meets its contract. Assumes nothing.
-use native.Mathlib.Omega.{arith}
 use Rattle.bits.proofs.Words.{get-is}
 use borrow.Author.Needs.{needs}
 use Rattle.bits.proofs.get_field.Statement.{statement}

@@ -2,7 +2,6 @@
 use Rattle.lists.specs.Lists.{splice}
 use Prim.Native.Nat.{_*_}
 use mathlib.Core.Path.{_≡_, _∙_, ap}
-use mathlib.Core.List.{List}
 use Prim.Native.Nat.{ℕ}
 use Rattle.bits.specs.Bits.{bits, field}
 use Rattle.bits.proofs.Words.{empty-put}

@@ -1,7 +1,6 @@
 -- `reserve::digits_of` meets its contract. Assumes nothing.
 use lib.Count.{leading-le}
 use Rattle.reserve.proofs.Bounds.{digits-by-zeros}
-use borrow.Author.Needs.{needs}
 use Rattle.reserve.proofs.digits_of.Statement.{statement}
 use Rattle.reserve.proofs.digits_of.Tie as tie
 

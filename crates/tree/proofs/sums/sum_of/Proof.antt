@@ -3,8 +3,7 @@
 use mathlib.Core.Path.{_≡_, _∙_}
 use Prim.Native.Nat.{_-_, _*_, _≤_, max}
 use native.Mathlib.Omega.{arith}
-use Rattle.lists.specs.Lists.{sum}
-use Rattle.tree.specs.Code.{window}
+use Rattle.lists.specs.Lists.{sum, window}
 use Rattle.tree.proofs.Windows.{window-none, window-more, window-whole}
 use Rattle.tree.proofs.sums.sum_of.Statement.{statement}
 use Rattle.tree.proofs.sums.sum_of.Tie as tie

@@ -4,10 +4,9 @@ use mathlib.Core.Path.{sym, ap, _∙_}
 use Prim.Native.Nat.{ℕ, _-_, _^_, _<_}
 use native.Mathlib.Omega.{arith}
 use lib.Pow.{pow-mono}
-use Rattle.lists.specs.Lists.{splice, sum}
+use Rattle.lists.specs.Lists.{splice, sum, window}
 use Rattle.bits.specs.Bits.{bits}
 use Rattle.tree.specs.Tree.{tree}
-use Rattle.tree.specs.Code.{window}
 use Rattle.tree.proofs.Writing.{Plan, plan, some-digits, leaf-written, none-written, field-blank, left-blank, right-blank, written}
 use borrow.Author.Needs.{needs}
 use borrow.Fn.Kinds.{In}

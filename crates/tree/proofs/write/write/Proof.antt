@@ -3,13 +3,12 @@ use mathlib.Core.Path.{_≡_, sym, ap, _∙_}
 use Prim.Native.Nat.{ℕ, _+_, _^_, _≤_}
 use native.Mathlib.Omega.{arith}
 use lib.ListN.{length, replicate, length-replicate}
-use Rattle.lists.specs.Lists.{splice}
+use Rattle.lists.specs.Lists.{splice, window}
 use Rattle.lists.proofs.Parts.{splice-over}
 use Rattle.bits.specs.Bits.{bits}
 use Rattle.bits.proofs.Laws.{length-bits}
 use Rattle.reserve.specs.Reserve.{reserve}
 use Rattle.tree.specs.Tree.{tree}
-use Rattle.tree.specs.Code.{Blank, window}
 use Rattle.tree.proofs.Shape.{length-tree}
 use Rattle.tree.proofs.Blank.{blank-cleared}
 use borrow.Author.Needs.{needs}
