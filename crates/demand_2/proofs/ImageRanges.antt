@@ -9,32 +9,15 @@ use lib.ListN.{length, take, drop}
 use Rattle.lists.specs.Lists.{first, part, sum}
 use Rattle.bits.specs.Bits.{bits}
 use Rattle.reserve.specs.Reserve.{digits, reserve}
-use Rattle.tree.specs.Ranges.{Inside, Node, Side, child, end, left, node, right}
+use Rattle.tree.specs.Ranges.{Side, child, end, left, node, right}
 use Rattle.tree.specs.Read.{counts}
 use Rattle.tree.specs.Tree.{tree}
 use Rattle.tree.proofs.RangeLaws.{apart, holds-code, inside}
 use Rattle.image.specs.Image.{Limits, code, image, page, pages, start}
 use Rattle.image.specs.Read.{codeAt, startOf, treeAt, widthOf}
+use Rattle.demand_2.specs.Demand2.{Related, around, before, behind, nodeIn, pageStart, treeStart, within}
 use Rattle.image.proofs.Back.{code-is, start-is, tree-is, width-is}
 use Rattle.image.proofs.PageLaws.{start-next, start-within}
-
--- the bit where page p starts in the image, and where its tree does
-abbrev pub pageStart : ℕ → List ℕ → ℕ → ℕ
-pageStart e xs p = 8 * (16 + 4 * pages e (length xs)) + start e xs p
-
-abbrev pub treeStart : ℕ → List ℕ → ℕ → ℕ
-treeStart e xs p = pageStart e xs p + digits (sum xs)
-
--- the node that a path leads to in page p of a list's image
-abbrev pub nodeIn : ℕ → List ℕ → ℕ → List Side → Node
-nodeIn e xs p ds = node ds e (page e xs p) (treeStart e xs p)
-
--- two ranges: one in the other, or no bit in common
-pub data Related (m n : Node) : Type 0 where
-  within : Inside m n → Related m n
-  around : Inside n m → Related m n
-  before : end m ≤ n .first → Related m n
-  behind : end n ≤ m .first → Related m n
 
 -- ---- in one tree
 pub related : (ds es : List Side) (h : ℕ) (xs : List ℕ) (a : ℕ) → Related (node ds h xs a) (node es h xs a)

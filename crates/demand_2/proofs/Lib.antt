@@ -3,4 +3,5 @@ pub mod ListBack
 pub mod Theorems
 pub mod Written
 pub mod ImageRanges
+pub mod Demand2
 pub mod Samples

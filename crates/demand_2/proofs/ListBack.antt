@@ -6,12 +6,11 @@ use Prim.Native.Nat.{ℕ, _*_, _^_, _≤_, _<_}
 use lib.ListN.{length, take}
 use lib.Dec.{leb}
 use borrow.Author.Tests.{le-leb}
-use Rattle.lists.specs.Lists.{concat, same, sum, tabulate}
+use Rattle.lists.specs.Lists.{concat, same, sum, tabulate, window}
 use Rattle.lists.proofs.Pages.{pages-back}
 use Rattle.lists.proofs.Tables.{tabulate-ext}
 use Rattle.lists.proofs.Tests.{both, same-refl}
 use Rattle.bits.specs.Bits.{bits}
-use Rattle.tree.specs.Code.{window}
 use Rattle.tree.specs.Read.{counts}
 use Rattle.tree.proofs.Shape.{counts-tree}
 use Rattle.image.specs.Check.{accepted}

@@ -3,12 +3,11 @@ use mathlib.Core.Path.{_≡_, refl}
 use mathlib.Core.List.{List, [], _∷_}
 use Prim.Native.Nat.{ℕ}
 use lib.ListN.{set}
-use Rattle.lists.specs.Lists.{concat, every, fill, least, pick, reached, same, sum, tabulate}
+use Rattle.lists.specs.Lists.{concat, every, fill, least, pick, reached, same, sum, tabulate, window}
 use Rattle.bits.specs.Bits.{bits, field, valueFrom}
 use Rattle.bits.specs.Numbers.{little, number}
 use Rattle.bits.specs.Pack.{pack}
 use Rattle.reserve.specs.Reserve.{dense, digits, reserve, sparse}
-use Rattle.tree.specs.Code.{window}
 use Rattle.tree.specs.Read.{counts, later, leftOf, walk}
 use Rattle.tree.specs.Tree.{tree}
 use Rattle.image.specs.Calls.{lengthCall}

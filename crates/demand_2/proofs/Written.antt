@@ -6,9 +6,10 @@ use Prim.Native.Nat.{ℕ, _≤_}
 use native.Mathlib.Omega.{arith}
 use lib.ListN.{length, take, drop, length-append, length-drop}
 use lib.Seq.{take-at, drop-at}
-use Rattle.image.specs.Calls.{Wrote, lengthCall, writeCall}
+use Rattle.image.specs.Calls.{Wrote, lengthCall}
 use Rattle.image.specs.Image.{Limits, code, image, size}
 use Rattle.image.specs.Reply.{given}
+use Rattle.demand_2.specs.Demand2.{Written}
 use Rattle.image.proofs.Back.{length-image}
 use Rattle.image.proofs.Made.{length-within, write-put}
 
@@ -16,14 +17,7 @@ use Rattle.image.proofs.Made.{length-within, write-put}
 pub length-is : (e : ℕ) (xs : List ℕ) → Limits e xs → lengthCall e xs ≡ given (size e (length xs) (length (code e xs)))
 length-is e xs m = length-within e xs m ∙ ap given (length-image e xs)
 
--- ---- write
--- into a buffer that is long enough: the answer is the image's length, the image stands first, the bytes beyond it are as they were
-pub record Written (e : ℕ) (xs out : List ℕ) : Type 0 where
-  pub reply-is : writeCall e xs out .reply ≡ given (length (image e xs))
-  pub image-first : take (length (image e xs)) (writeCall e xs out .bytes) ≡ image e xs
-  pub rest-same : drop (length (image e xs)) (writeCall e xs out .bytes) ≡ drop (length (image e xs)) out
-  pub as-long : length (writeCall e xs out .bytes) ≡ length out
-
+-- into a buffer that is long enough
 pub write-is : (e : ℕ) (xs out : List ℕ) → Limits e xs → length (image e xs) ≤ length out → Written e xs out
 write-is e xs out m l =
     let I : List ℕ = image e xs in

@@ -1,0 +1,2 @@
+-- What demand 2 claims of images.
+pub mod Demand2
