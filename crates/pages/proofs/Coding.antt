@@ -6,7 +6,7 @@ use Prim.Native.Nat.{ℕ, _+_, _-_, _*_, _≤_, _<_}
 use native.Mathlib.Omega.{arith}
 use lib.ListN.{length, getD, take, replicate}
 use lib.Seq.{ext-getD, take-at}
-use Rattle.lists.specs.Lists.{fill, part, splice, sum, tabulate}
+use Rattle.lists.specs.Lists.{fill, part, splice, sum, tabulate, window}
 use Rattle.lists.proofs.Tables.{getD-tabulate, length-tabulate}
 use Rattle.lists.proofs.Zeros.{fill-more, splice-zeros, zeros-same}
 use Rattle.bits.specs.Bits.{bits}
@@ -15,7 +15,7 @@ use Rattle.bits.proofs.Laws.{bits-append, length-bits}
 use Rattle.bits.proofs.Packing.{length-fill, pack-append, pack-bits, pack-zeros, zeros-bits}
 use Rattle.reserve.specs.Reserve.{reserve}
 use Rattle.tree.specs.Tree.{tree}
-use Rattle.tree.specs.Code.{Lies, window}
+use Rattle.tree.specs.Code.{Lies}
 use Rattle.tree.specs.Read.{counts}
 use Rattle.tree.specs.Exact.{exact}
 use Rattle.tree.proofs.Shape.{counts-tree, length-tree}

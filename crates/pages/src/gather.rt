@@ -1,18 +1,14 @@
 // A page's code, gathered from its cells.
-use crate::entry::entry_of;
 use store::fill::put_block;
 use store::header::Header;
 use store::header::cell_at;
 use store::header::entry_at;
 use store::links::link;
-ghost use mathlib.Core.Bool.{true};
 ghost use mathlib.Core.Path.{_≡_};
 ghost use Prim.Native.Nat.{_*_, _≤_, _<_};
 ghost use lib.ListN.{length};
 ghost use Rattle.lists.specs.Lists.{splice};
-ghost use Rattle.bits.specs.Numbers.{numberAt};
 ghost use Rattle.store.specs.Reading.{sumIn};
-ghost use Rattle.store.specs.Sound.{sound};
 ghost use Rattle.store.specs.Links.{Steps};
 ghost use Rattle.store.specs.Hours.{OfPage};
 ghost use Rattle.pages.specs.Gathered.{Gathered, codeFrom};
@@ -39,13 +35,4 @@ pub fn gather_at(s: &[u8], pages: usize, p: usize, k: usize) -> [u8; 240]
     let mut code = [0u8; 240];
     copy_chain(s, pages, entry_at(p) + 4, k, &mut code);
     code
-}
-
-// The same, where nothing of the page is known yet.
-pub fn gather(s: &[u8], p: usize) -> [u8; 240]
-    requires { ⌜ (sound (now s) ≡ true) × (p < numberAt (now s) 2 2) ⌝ }
-    ensures { λ r. ⌜ Gathered (now (s .entry)) p r ⌝ }
-{
-    let e = entry_of(s, p);
-    gather_at(s, e.pages, p, e.cells)
 }

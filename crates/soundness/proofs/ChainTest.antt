@@ -18,9 +18,7 @@ use Rattle.store.specs.Layout.{cellAt, entryAt}
 use Rattle.store.specs.PageCode.{cells, pageCounts}
 use Rattle.store.specs.Reading.{chainFrom, chainIn, codeIn, pageIn, sumIn}
 use Rattle.store.specs.declared.header.Header.{Header}
-use Rattle.store.proofs.CheckChain.{and-then, go-on, walkMarks}
-use Rattle.store.proofs.CheckPages.{checkPages, pageTests}
-use Rattle.store.proofs.Verdict.{ends-well}
+use Rattle.store.specs.Checked.{and-then, checkPages, ends-well, go-on, pageTests, walkMarks}
 use Rattle.soundness.specs.Page.{pageFits}
 use Rattle.soundness.specs.Chains.{chainsFit, freeFits}
 use Rattle.soundness.proofs.CellTest.{cellTest}

@@ -9,9 +9,8 @@ use Rattle.lists.specs.Lists.{every, same}
 use Rattle.bits.specs.Numbers.{numberAt}
 use Rattle.store.specs.Reading.{chainFrom, codeIn}
 use Rattle.store.specs.Sound.{sound}
-use Rattle.store.proofs.CheckChain.{Walk, and-then, broken, walkMarks, whole}
-use Rattle.store.proofs.CheckPages.{checkPages}
-use Rattle.store.proofs.Verdict.{chainsWalk, checked, endTests, ends-well, headTests, verdict}
+use Rattle.store.specs.Checked.{Walk, and-then, broken, checkPages, ends-well, headTests, walkMarks, whole}
+use Rattle.store.proofs.Verdict.{chainsWalk, checked, endTests, verdict}
 use Rattle.soundness.specs.Chains.{allMarked, chainsFit, freeFits, freeFrom}
 use Rattle.soundness.proofs.Counting.{number-all}
 use Rattle.soundness.proofs.HeadTest.{headed}

@@ -18,8 +18,8 @@ use Rattle.bits.specs.Numbers.{numberAt}
 use Rattle.store.specs.Layout.{cellAt}
 use Rattle.store.specs.PageCode.{cells}
 use Rattle.store.specs.Reading.{sumIn}
-use Rattle.store.proofs.CheckChain.{Walk, go-on, goes-on, goes-then, walkMarks, whole, whole-is}
-use Rattle.store.proofs.CheckPages.{checkPages, pageTests}
+use Rattle.store.specs.Checked.{Walk, checkPages, go-on, pageTests, walkMarks, whole}
+use Rattle.store.proofs.CheckChain.{goes-on, goes-then, whole-is}
 use Rattle.soundness.specs.Chains.{allMarked}
 use Rattle.soundness.proofs.CellTest.{cellTest}
 

@@ -12,8 +12,7 @@ use Rattle.lists.proofs.Tests.{same-join}
 use Rattle.bits.specs.Numbers.{Number, numberAt}
 use Rattle.store.specs.Layout.{cellAt}
 use Rattle.store.specs.Reading.{chainFrom, codeIn}
-use Rattle.store.proofs.CheckChain.{go-on, walkMarks}
-use Rattle.store.proofs.Verdict.{ends-well}
+use Rattle.store.specs.Checked.{ends-well, go-on, walkMarks}
 use Rattle.soundness.specs.Chains.{allMarked, freeFits, freeFrom}
 use Rattle.soundness.proofs.CellTest.{cellTest}
 

@@ -14,7 +14,7 @@ use Rattle.bits.specs.Numbers.{number, numberAt}
 use Rattle.store.specs.Heads.{Heads}
 use Rattle.store.specs.Reading.{sumIn}
 use Rattle.store.specs.declared.header.Header.{Header}
-use Rattle.store.proofs.Verdict.{headTests}
+use Rattle.store.specs.Checked.{headTests}
 
 -- test k of the header fails
 pub head-fails : (s : List ℕ) (k : ℕ) → getD (headTests s) k true ≡ false → false ≡ every (headTests s)

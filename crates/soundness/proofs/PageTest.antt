@@ -23,15 +23,15 @@ use Rattle.reserve.proofs.Fit.{most}
 use Rattle.tree.specs.Exact.{clear, exact}
 use Rattle.tree.specs.Read.{counts, walk}
 use Rattle.tree.specs.Tree.{tree}
-use Rattle.tree.specs.Code.{Lies, told}
+use Rattle.tree.specs.Code.{Lies, walkAnswer}
 use Rattle.tree.proofs.Clearing.{clear-none}
 use Rattle.tree.specs.Exact.{Coded}
 use Rattle.tree.proofs.Exacts.{exact-coded, exact-zero, tree-exact}
 use Rattle.tree.proofs.Shape.{counts-tree, length-counts, length-tree}
 use Rattle.tree.proofs.WalkLaws.{walk-tree}
 use Rattle.store.specs.PageCode.{cells, pageBytes, pageCounts}
+use Rattle.store.specs.Checked.{quiet}
 use Rattle.store.proofs.PageCodeLaws.{cells-hold, cells-most, cells-none, page-bits}
-use Rattle.store.proofs.PageLaws.{quiet}
 use Rattle.soundness.specs.Page.{Handed, pageFits}
 use Rattle.soundness.proofs.Quiet.{quiet-all, quiet-none, quiet-some, quiet-sum}
 
@@ -65,12 +65,12 @@ module _ {code : List ℕ} {s p N : ℕ} (g : Handed code s p N) where
     found = exact-coded 6 s (bits code) 0 (bits-bytes code) (omega (arith, page-lies .inside, length-bits code)) i
 
     -- the walk to hour j of the page tells the prefix sum to it
-    walk-told : (j r : ℕ) → j < 64 → r ≡ told 0 1 (walk 6 s (bits code) 0 j) → r ≡ sum (take j xs) + getD xs j 0
-    unfolding told
+    walk-told : (j r : ℕ) → j < 64 → r ≡ walkAnswer 0 1 (walk 6 s (bits code) 0 j) → r ≡ sum (take j xs) + getD xs j 0
+    unfolding walkAnswer
     walk-told j r l e =
         let t : s ≡ sum xs = sym (found .total) in
         let w : part B 0 (reserve 6 (sum xs)) ≡ tree 6 xs = ap (λ (n : ℕ). part B 0 (reserve 6 n)) (sym t) ∙ found .code in
-        e ∙ ap (told 0 1) (ap (λ (n : ℕ). walk 6 n B 0 j) t ∙ walk-tree 6 xs B 0 j xs-long (omega arith) w) ∙ omega arith
+        e ∙ ap (walkAnswer 0 1) (ap (λ (n : ℕ). walk 6 n B 0 j) t ∙ walk-tree 6 xs B 0 j xs-long (omega arith) w) ∙ omega arith
 
     pub hours-all : 64 * p + 64 ≤ N → true ≡ same xs (quiet N p xs)
     hours-all l = quiet-all xs N p xs-long l
@@ -78,7 +78,7 @@ module _ {code : List ℕ} {s p N : ℕ} (g : Handed code s p N) where
     pub hours-none : N ≤ 64 * p → eqb s 0 ≡ same xs (quiet N p xs)
     hours-none l = quiet-none xs N p xs-long l s (found .total)
 
-    pub hours-some : 64 * p < N → N < 64 * p + 64 → (r : ℕ) → r ≡ told 0 1 (walk 6 s (bits code) 0 (N - 64 * p - 1))
+    pub hours-some : 64 * p < N → N < 64 * p + 64 → (r : ℕ) → r ≡ walkAnswer 0 1 (walk 6 s (bits code) 0 (N - 64 * p - 1))
         → eqb r s ≡ same xs (quiet N p xs)
     hours-some l u r e = quiet-some xs N p xs-long l u r s (found .total) (walk-told (N - 64 * p - 1) r (omega arith) e)
 

@@ -14,7 +14,7 @@ use Rattle.lists.specs.Lists.{pick, same, sum, tabulate}
 use Rattle.lists.proofs.Sums.{sum-append, sum-halves, sum-none, zero-at}
 use Rattle.lists.proofs.Tables.{getD-tabulate, tabulate-ext, tabulate-getD}
 use Rattle.lists.proofs.Tests.{agree, same-eq, same-is}
-use Rattle.store.proofs.PageLaws.{quiet}
+use Rattle.store.specs.Checked.{quiet}
 
 -- ---- the hours of page p, n of which are logged
 module _ (xs : List ℕ) (N p : ℕ) (long : length xs ≡ 64) where

@@ -6,9 +6,7 @@ use lib.ListN.{getD, replicate}
 use Rattle.lists.specs.Lists.{same, tabulate}
 use Rattle.bits.specs.Numbers.{numberAt}
 use Rattle.store.specs.Reading.{chainFrom, codeIn}
-use Rattle.store.proofs.CheckChain.{walkMarks}
-use Rattle.store.proofs.CheckPages.{checkPages}
-use Rattle.store.proofs.Verdict.{ends-well}
+use Rattle.store.specs.Checked.{checkPages, ends-well, walkMarks}
 
 -- every cell, 1 to C, has its mark
 unfoldable pub allMarked : ℕ → List ℕ → Bool

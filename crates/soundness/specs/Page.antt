@@ -7,7 +7,7 @@ use lib.ListN.{length}
 use lib.Dec.{eqb}
 use Rattle.lists.specs.Lists.{every, same, sum}
 use Rattle.store.specs.PageCode.{pageBytes, pageCounts}
-use Rattle.store.proofs.PageLaws.{quiet}
+use Rattle.store.specs.Checked.{quiet}
 
 -- what is handed to the functions on a page: the code of its cells, at the front of the bytes of eight cells, its sum and number, and N
 pub record Handed (code : List ℕ) (s p N : ℕ) : Type 0 where

@@ -12,7 +12,7 @@ ghost use mathlib.Core.Bool.{true, _&&_};
 ghost use mathlib.Core.Path.{_≡_};
 ghost use lib.Dec.{leb};
 ghost use Rattle.lists.specs.Lists.{every};
-ghost use Rattle.store.proofs.Verdict.{headTests};
+ghost use Rattle.store.specs.Checked.{headTests};
 ghost use Rattle.soundness.specs.Chains.{chainsFit};
 
 // Whether c is the number of a cell.

@@ -4,7 +4,7 @@ use store::header::Header;
 use store::total::page_sums;
 ghost use mathlib.Core.Path.{_≡_};
 ghost use Rattle.lists.specs.Lists.{every};
-ghost use Rattle.store.proofs.Verdict.{headTests};
+ghost use Rattle.store.specs.Checked.{headTests};
 
 // Whether the header, the length and the total are those of a store, tested in document 01's order. The edition and the zero byte
 // behind it are one number, 1.

@@ -1,4 +1,4 @@
-// A page's code, gathered from its cells.
+// The tests of a page's code, which was gathered from its cells.
 use store::header::Header;
 ghost use mathlib.Core.Bool.{true};
 ghost use mathlib.Core.Path.{_≡_};
@@ -9,7 +9,7 @@ ghost use Rattle.bits.specs.Bits.{bits};
 ghost use Rattle.tree.specs.Read.{counts};
 ghost use Rattle.tree.specs.Exact.{exact};
 ghost use Rattle.store.specs.PageCode.{cells};
-ghost use Rattle.store.proofs.PageLaws.{quiet};
+ghost use Rattle.store.specs.Checked.{quiet};
 ghost use Rattle.soundness.specs.Page.{Handed, pageFits};
 
 // Whether the hours from the number of hours logged on are zero in page p of sum s: those before them have the whole sum.

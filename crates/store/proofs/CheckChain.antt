@@ -16,33 +16,15 @@ use Rattle.store.specs.Layout.{cellAt}
 use Rattle.store.specs.Reading.{chainFrom}
 use Rattle.lists.proofs.Occurrences.{occurrences-append, one-equal, one-other, one-same}
 use Rattle.lists.proofs.Tests.{left, right, both}
+use Rattle.store.specs.Checked.{Walk, and-then, broken, go-on, walkMarks, whole}
 use Rattle.store.proofs.Joining.{chain-head, chain-new, chain-tail}
 use Rattle.store.proofs.Numbers.{number-two}
 use Rattle.store.proofs.Writes.{Chain, Linked}
-
-pub data Walk : Type 0 where
-  whole : List ℕ → Walk
-  broken : Walk
-
-unfoldable pub go-on : Bool → Walk → Walk
-go-on true w = w
-go-on false w = broken
-
-unfoldable pub and-then : Walk → (List ℕ → Walk) → Walk
-and-then (whole m) f = f m
-and-then broken f = broken
 
 pub goes-then : (w : Walk) (f : List ℕ → Walk) (m : List ℕ) → and-then w f ≡ whole m → (m₁ : List ℕ) × (w ≡ whole m₁) × (f m₁ ≡ whole m)
 unfolding and-then
 goes-then (whole m₁) f m e = (m₁, refl, e)
 goes-then broken f m e = absurd (let z : _≡_ {A = ℕ} 0 1 = cc in omega arith)
-
--- what the code does: k cells from the link at a on, each of them a cell without a mark; then the chain ends
-unfoldable pub walkMarks : List ℕ → ℕ → ℕ → ℕ → List ℕ → ℕ → Walk
-walkMarks s P C zero m a = go-on (eqb (numberAt s a 2) 0) (whole m)
-walkMarks s P C (suc k) m a =
-    go-on (leb 1 (numberAt s a 2) && (leb (numberAt s a 2) C && eqb (getD m (numberAt s a 2) 0) 0))
-    (walkMarks s P C k (set m (numberAt s a 2) 1) (cellAt P (numberAt s a 2)))
 
 unfoldable pub markAll : List ℕ → List ℕ → List ℕ
 markAll m [] = m

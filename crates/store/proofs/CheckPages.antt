@@ -1,21 +1,21 @@
 -- What the check computes, and that it says `sound`. Assumes nothing.
 use mathlib.Core.Path.{_≡_, refl, sym, ap, ap₂, _∙_}
 use mathlib.Core.Bool.{Bool, true}
-use mathlib.Core.List.{List, [], _∷_, _++_, append-assoc, append-nil}
+use mathlib.Core.List.{List, _++_, append-assoc, append-nil}
 use Prim.Native.Nat.{ℕ, zero, suc, _+_, _-_, _*_, _≤_, _<_}
 use native.Mathlib.Nat.{not-suc-le-zero, le-of-suc-le-suc}
 use native.Mathlib.Omega.{arith}
 use lib.ListN.{length, getD}
-use lib.Dec.{ltb, eqb}
-use Rattle.lists.specs.Lists.{concat, every, occurrences, pick, same, sum, tabulate}
+use Rattle.lists.specs.Lists.{concat, every, occurrences, tabulate}
 use Rattle.store.specs.Layout.{size}
-use Rattle.store.specs.PageCode.{cells, pageBytes}
-use Rattle.store.specs.Reading.{chainIn, codeIn, pageIn, sumIn}
+use Rattle.store.specs.PageCode.{cells}
+use Rattle.store.specs.Reading.{chainIn, sumIn}
 use Rattle.lists.proofs.Occurrences.{occurrences-append}
 use Rattle.lists.proofs.Tables.{tabulate-ext}
 use Rattle.lists.proofs.Tests.{Each, each, every-of}
-use Rattle.store.proofs.CheckChain.{Marked, Unmarked, Walk, and-then, go-on, goes-on, goes-then}
-use Rattle.store.proofs.CheckChain.{mark-length, markAll, marks, walk-through, walkMarks, walked, whole, whole-is}
+use Rattle.store.specs.Checked.{Walk, and-then, checkPages, go-on, pageTests, walkMarks, whole}
+use Rattle.store.proofs.CheckChain.{Marked, Unmarked, goes-on, goes-then}
+use Rattle.store.proofs.CheckChain.{mark-length, markAll, marks, walk-through, walked, whole-is}
 use Rattle.store.proofs.Writes.{Chain, Linked}
 
 pub none-of : (d : ℕ) (L cs r : List ℕ) → occurrences d (L ++ cs ++ r) ≤ 1 → 1 ≤ occurrences d cs → occurrences d L ≡ 0
@@ -28,21 +28,6 @@ then-whole m f = refl
 on-true : (w : Walk) → go-on true w ≡ w
 unfolding go-on
 on-true w = refl
-
--- a page's counts: 64 of them, of the page's sum, coded as the cells say, and zero from hour N on
-unfoldable pub pageTests : List ℕ → ℕ → ℕ → ℕ → List Bool
-pageTests s P N p =
-    eqb (length (pageIn s P p)) 64
-    ∷ eqb (sum (pageIn s P p)) (sumIn s p)
-    ∷ same (codeIn s P (chainIn s P p)) (pageBytes (pageIn s P p))
-    ∷ same (pageIn s P p) (tabulate 64 (λ j. pick (ltb (64 * p + j) N) (getD (pageIn s P p) j 0) 0))
-    ∷ []
-
--- n pages from p on
-unfoldable pub checkPages : List ℕ → ℕ → ℕ → ℕ → ℕ → ℕ → List ℕ → Walk
-checkPages s P C N zero p m = whole m
-checkPages s P C N (suc n) p m =
-    and-then (walkMarks s P C (cells (sumIn s p)) m (16 + 6 * p + 4)) (λ m′. go-on (every (pageTests s P N p)) (checkPages s P C N n (suc p) m′))
 
 -- pages walked and good: their chains, and the marks
 abbrev pub pagesOf : List ℕ → ℕ → ℕ → ℕ → List (List ℕ)

@@ -25,17 +25,17 @@ use Rattle.store.specs.Layout.{Model, cellAt, header}
 use Rattle.store.specs.Reading.{Runs, chainFrom, chainIn, codeIn, firstIn, pageIn, read, readFor, spareIn, sumIn}
 use Rattle.store.specs.Sound.{Good, onChains, sound}
 use Rattle.store.specs.Items.{Items, pagesOf, cellsOf, hoursOf, onAll}
+use Rattle.store.specs.Checked.{headTests, pageTests, quiet}
 use Rattle.store.proofs.ChainLaws.{Says, says}
-use Rattle.store.proofs.CheckPages.{PageGood, pageTests}
+use Rattle.store.proofs.CheckPages.{PageGood}
 use Rattle.store.proofs.FreshLaws.{cell-in}
 use Rattle.store.proofs.Holds.{Holds}
 use Rattle.store.proofs.Joining.{chain-all, chain-head, chain-part, chain-tail}
-use Rattle.store.proofs.PageLaws.{quiet}
 use Rattle.store.proofs.ReadBack.{code-in, page-is, spare-in}
 use Rattle.store.proofs.SoundFacts.{Facts, facts}
 use Rattle.store.proofs.Spread.{spread-of}
 use Rattle.store.proofs.TotalLaws.{total-all}
-use Rattle.store.proofs.Verdict.{Found, head-each, headTests, says-sound}
+use Rattle.store.proofs.Verdict.{Found, head-each, says-sound}
 use Rattle.store.proofs.Writes.{Chain, Linked}
 
 chain-long : (s : List ℕ) (P k c : ℕ) → length (chainFrom s P k c) ≡ k

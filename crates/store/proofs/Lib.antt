@@ -26,6 +26,7 @@ pub mod HourLaws
 pub mod ChangeLaws
 pub mod TotalLaws
 pub mod CallLaws
+pub mod Refusals
 pub mod Unchanged
 pub mod Sizes
 pub mod CheckChain

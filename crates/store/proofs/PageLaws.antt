@@ -16,14 +16,12 @@ use Rattle.lists.proofs.Occurrences.{occurrences-append}
 use Rattle.lists.proofs.Pages.{concat-get as rows-get}
 use Rattle.lists.proofs.Sums.{sum-concat}
 use Rattle.lists.proofs.Tables.{concat-each, getD-tabulate, length-tabulate, tabulate-ext}
+use Rattle.store.specs.Checked.{quiet}
 use Rattle.store.proofs.Filling.{Filled}
 use Rattle.store.proofs.Holds.{page-length}
 use Rattle.store.proofs.Joining.{chain-head, chain-tail}
 use Rattle.store.proofs.ReadBack.{concat-get, sum-table-le}
 use Rattle.store.proofs.Writes.{Chain}
-
-abbrev pub quiet : ℕ → ℕ → List ℕ → List ℕ
-quiet N p xs = tabulate 64 (λ j. pick (ltb (64 * p + j) N) (getD xs j 0) 0)
 
 module _ (P N : ℕ) (f : ℕ → List ℕ) (h : (q : ℕ) → q < P → length (f q) ≡ 64) (lN : N ≤ 64 * P) where
   pub list-length : length (take N (concat (tabulate P f))) ≡ N

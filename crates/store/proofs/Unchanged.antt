@@ -1,4 +1,4 @@
--- Demand 1: a refused call changes no byte, nor does a question. Assumes nothing.
+-- Demand 1, whole: a refused call changes no byte, nor does a question. Assumes nothing.
 use mathlib.Core.Path.{_≡_, refl, sym, ap, _∙_}
 use mathlib.Core.Bool.{Bool, true, false}
 use mathlib.Core.List.{List, [], _∷_}
@@ -13,6 +13,7 @@ use Rattle.store.specs.Sound.{sound}
 use Rattle.store.specs.Call.{Result, after, apply, call, freshCall, freshFits, hour, storeAnswers, storeEnd}
 use Rattle.store.specs.Demand1.{Demand1}
 use Rattle.store.proofs.CallLaws.{call-10, sound-call}
+use Rattle.store.proofs.Refusals.{fresh-numbered, numbered}
 use Rattle.store.proofs.SoundFacts.{facts}
 
 -- an answer that leaves any model as it is
@@ -59,7 +60,14 @@ fresh-refused-keeps b P C k = go (freshFits b P C)
     go false q = refl
 
 pub demand-1 : Demand1
-demand-1 = record { refused-keeps = refused-keeps; fresh-refused-keeps = fresh-refused-keeps; answered-keeps = answered-keeps }
+demand-1 =
+    record {
+      numbered = numbered;
+      fresh-numbered = fresh-numbered;
+      refused-keeps = refused-keeps;
+      fresh-refused-keeps = fresh-refused-keeps;
+      answered-keeps = answered-keeps;
+    }
 
 -- ---- in a list of calls: call n, if it is refused, leaves the bytes as the n calls before it left them
 pub kept-at : (cs : List Call) (s : List ℕ) (n k : ℕ) → getD (storeAnswers cs s) n (answered 0) ≡ refused k

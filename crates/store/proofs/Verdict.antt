@@ -1,12 +1,12 @@
 -- The check says `sound`. Assumes nothing.
 use mathlib.Core.Path.{_≡_, refl, sym, ap, ap₂, subst, _∙_}
-use mathlib.Core.Bool.{Bool, true, false, _&&_}
+use mathlib.Core.Bool.{Bool, true, _&&_}
 use mathlib.Core.List.{List, [], _∷_, _++_}
 use Prim.Native.Nat.{ℕ, suc, _+_, _-_, _*_, _≤_, _<_}
 use native.Mathlib.Omega.{arith}
 use native.Mathlib.Decide.{decLe}
 use lib.ListN.{length, getD, take, replicate, length-replicate, length-append}
-use lib.Dec.{leb, eqb}
+use lib.Dec.{eqb}
 use borrow.Author.Tests.{le-leb, leb-true, eq-eqb, eqb-true}
 use Rattle.lists.specs.Lists.{concat, every, occurrences, part, same, sum, tabulate}
 use Rattle.bits.specs.Numbers.{little, numberAt}
@@ -22,22 +22,19 @@ use Rattle.lists.proofs.Sums.{sum-concat, sum-take-le}
 use Rattle.lists.proofs.Tables.{getD-tabulate, length-tabulate, tabulate-ext}
 use Rattle.lists.proofs.Tests.{left, right, Each, agree, both, each, every-of, same-eq, same-is}
 use Rattle.lists.proofs.Zeros.{zeros-at}
-use Rattle.store.proofs.CheckChain.{Marked, Unmarked, Walk, and-then, broken, goes-then}
-use Rattle.store.proofs.CheckChain.{markAll, marks, walk-through, walkMarks, walked, whole}
-use Rattle.store.proofs.CheckPages.{PageGood, checkPages, pageTests, pages-good, pages-through, pagesOf, then-whole}
+use Rattle.store.specs.Checked.{Walk, and-then, broken, checkPages, ends-well, headTests, pageTests, quiet, walkMarks, whole}
+use Rattle.store.proofs.CheckChain.{Marked, Unmarked, goes-then}
+use Rattle.store.proofs.CheckChain.{markAll, marks, walk-through, walked}
+use Rattle.store.proofs.CheckPages.{PageGood, pages-good, pages-through, pagesOf, then-whole}
 use Rattle.store.proofs.FreshLaws.{cell-in, cell-le}
 use Rattle.store.proofs.Holds.{Holds, holds-bytes, holds-only, page-length}
 use Rattle.store.proofs.Joining.{chain-all, chain-part}
 use Rattle.store.proofs.Keep.{spare-is}
-use Rattle.store.proofs.PageLaws.{code-filled, concat-range, list-length, page-back, quiet, quiet-page, sum-pages-le}
+use Rattle.store.proofs.PageLaws.{code-filled, concat-range, list-length, page-back, quiet-page, sum-pages-le}
 use Rattle.store.proofs.ReadBack.{code-in, hours-is, page-is, spare-count, spare-in, sum-is}
 use Rattle.store.proofs.SoundLaws.{once-of, ones-same, same-ones, sound-bytes, sound-good}
 use Rattle.store.proofs.Spread.{Spread, part-two, spread-holds, spread-of}
 use Rattle.store.proofs.Writes.{Chain, Linked}
-
-unfoldable pub ends-well : Walk → (List ℕ → Bool) → Bool
-ends-well (whole m) f = f m
-ends-well broken f = false
 
 ends-whole : (w : Walk) (f : List ℕ → Bool) → ends-well w f ≡ true → (m : List ℕ) × (w ≡ whole m) × (f m ≡ true)
 unfolding ends-well
@@ -51,20 +48,6 @@ well m f = refl
 zeros-marked : (C : ℕ) → Marked C (replicate 1801 0) []
 unfolding occurrences
 zeros-marked C d l = zeros-at 1801 d
-
-unfoldable pub headTests : List ℕ → List Bool
-headTests s =
-    leb 16 (length s)
-    ∷ same (part s 0 2) (1 ∷ 0 ∷ [])
-    ∷ same (part s 10 2) (0 ∷ 0 ∷ [])
-    ∷ leb 1 (numberAt s 2 2)
-    ∷ leb (numberAt s 2 2) 1024
-    ∷ leb 1 (numberAt s 4 2)
-    ∷ leb (numberAt s 4 2) 1800
-    ∷ eqb (length s) (16 + 6 * numberAt s 2 2 + 32 * numberAt s 4 2)
-    ∷ leb (numberAt s 12 4) (64 * numberAt s 2 2)
-    ∷ leb (sum (tabulate (numberAt s 2 2) (sumIn s))) 4294967295
-    ∷ []
 
 -- they hold
 pub record Headed (s : List ℕ) : Type 0 where

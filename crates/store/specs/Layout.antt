@@ -1,5 +1,4 @@
 -- Document 01, 'The live store': the bytes of a store, part by part, and how chains change. Assumes nothing.
-use mathlib.Core.Bool.{Bool, true, false}
 use mathlib.Core.List.{List, [], _∷_, _++_}
 use Prim.Native.Nat.{ℕ, suc, _+_, _-_, _*_}
 use lib.ListN.{length, getD, take, drop, set, replicate}

@@ -5,6 +5,7 @@ pub mod Layout
 pub mod OneCell
 pub mod Reading
 pub mod Sound
+pub mod Checked
 pub mod Call
 pub mod Demand1
 pub mod Demand3

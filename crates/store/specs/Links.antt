@@ -1,5 +1,5 @@
 -- What the functions of src/ do to links: numbers of two bytes that say a chain's first cell or a cell's next one. Assumes nothing.
-use mathlib.Core.List.{List, [], _∷_, _++_}
+use mathlib.Core.List.{List}
 use Prim.Native.Nat.{ℕ, zero, suc, _+_, _-_, _*_, _≤_, _<_, max}
 use lib.ListN.{length, take, drop}
 use lib.Seq.{sets}

@@ -1,5 +1,4 @@
 -- Document 01, 'The plain list': its state, its calls, its refusals in order. It knows nothing of the store's bytes. Assumes nothing.
-use mathlib.Core.Bool.{Bool, true, false}
 use mathlib.Core.List.{List, [], _∷_, _++_}
 use Prim.Native.Nat.{ℕ, _+_, _-_, _*_}
 use lib.ListN.{length, getD, set}

@@ -1,12 +1,11 @@
 -- What bytes say when they are read as a store, sound or not: nothing is tested. Assumes nothing.
 use mathlib.Core.List.{List, [], _∷_, _++_}
 use mathlib.Core.Path.{_≡_}
-use Prim.Native.Nat.{ℕ, zero, suc, _+_, _*_, _≤_}
+use Prim.Native.Nat.{ℕ, zero, suc, _+_, _≤_}
 use lib.ListN.{take}
 use Rattle.lists.specs.Lists.{tabulate, concat, part}
 use Rattle.bits.specs.Numbers.{numberAt}
 use Rattle.store.specs.PageCode.{cells, pageCounts}
-use Rattle.store.specs.Plain.{Plain}
 use Rattle.store.specs.Layout.{Model, entryAt, cellAt}
 
 -- k cells along a chain, from cell c on

@@ -1,5 +1,5 @@
 -- When a store is sound: as a test that is computed, and as facts. Assumes nothing.
-use mathlib.Core.Bool.{Bool, true, false, _&&_}
+use mathlib.Core.Bool.{Bool, true, _&&_}
 use mathlib.Core.List.{List, [], _∷_, _++_}
 use mathlib.Core.Path.{_≡_}
 use Prim.Native.Nat.{ℕ, suc, _+_, _*_, _≤_, _<_}
@@ -7,7 +7,7 @@ use lib.ListN.{length, getD, replicate}
 use lib.Dec.{leb, eqb}
 use Rattle.lists.specs.Lists.{tabulate, concat, sum, every, same, one, occurrences}
 use Rattle.store.specs.PageCode.{cells}
-use Rattle.store.specs.Plain.{Plain, page}
+use Rattle.store.specs.Plain.{page}
 use Rattle.store.specs.Layout.{Model, bytesOf}
 use Rattle.store.specs.Reading.{read}
 

@@ -7,8 +7,7 @@ use crate::links::link;
 use crate::put::put_four;
 use crate::put::put_two;
 ghost use mathlib.Core.Path.{_≡_};
-ghost use Prim.Native.Nat.{_+_, _≤_, _<_};
-ghost use lib.ListN.{length};
+ghost use Prim.Native.Nat.{_+_};
 ghost use Rattle.store.specs.Links.{rewritten, Ready};
 
 // Gives page p, which had old cells, new cells, the code, the sum, and the store the number of hours. The free chain is joined behind the

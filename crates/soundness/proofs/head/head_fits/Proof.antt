@@ -8,7 +8,7 @@ use borrow.Author.Tests.{lt-leb, ne-eqb}
 use Rattle.lists.specs.Lists.{sum, tabulate}
 use Rattle.bits.specs.Numbers.{numberAt}
 use Rattle.store.specs.Reading.{sumIn}
-use Rattle.store.proofs.Verdict.{headTests}
+use Rattle.store.specs.Checked.{headTests}
 use Rattle.soundness.proofs.HeadTest.{head-fails, head-last, pair-test}
 use borrow.Author.Needs.{needs}
 use Rattle.soundness.proofs.head.head_fits.Statement.{statement}

@@ -1,0 +1,72 @@
+-- What the soundness check computes on its way along the bytes: the chains walked with marks, the tests of a page, the tests of the header.
+-- That together they say `sound` is the law `verdict`. Assumes nothing.
+use mathlib.Core.Bool.{Bool, true, false, _&&_}
+use mathlib.Core.List.{List, [], _∷_}
+use Prim.Native.Nat.{ℕ, zero, suc, _+_, _*_}
+use lib.ListN.{length, getD, set}
+use lib.Dec.{leb, ltb, eqb}
+use Rattle.lists.specs.Lists.{every, part, pick, same, sum, tabulate}
+use Rattle.bits.specs.Numbers.{numberAt}
+use Rattle.store.specs.Layout.{cellAt}
+use Rattle.store.specs.PageCode.{cells, pageBytes}
+use Rattle.store.specs.Reading.{chainIn, codeIn, pageIn, sumIn}
+
+-- a walk along chains: the marks that it leaves, or that it broke off at a fault
+pub data Walk : Type 0 where
+  whole : List ℕ → Walk
+  broken : Walk
+
+-- it goes on where a test holds, and where the walk before it did not break off
+unfoldable pub go-on : Bool → Walk → Walk
+go-on true w = w
+go-on false w = broken
+
+unfoldable pub and-then : Walk → (List ℕ → Walk) → Walk
+and-then (whole m) f = f m
+and-then broken f = broken
+
+-- 'marks each cell once and ends at the first broken chain': k cells from the link at a on, each of them a cell without a mark; then the chain ends
+unfoldable pub walkMarks : List ℕ → ℕ → ℕ → ℕ → List ℕ → ℕ → Walk
+walkMarks s P C zero m a = go-on (eqb (numberAt s a 2) 0) (whole m)
+walkMarks s P C (suc k) m a =
+    go-on (leb 1 (numberAt s a 2) && (leb (numberAt s a 2) C && eqb (getD m (numberAt s a 2) 0) 0))
+    (walkMarks s P C k (set m (numberAt s a 2) 1) (cellAt P (numberAt s a 2)))
+
+-- the counts of page p, zero from hour N on
+abbrev pub quiet : ℕ → ℕ → List ℕ → List ℕ
+quiet N p xs = tabulate 64 (λ j. pick (ltb (64 * p + j) N) (getD xs j 0) 0)
+
+-- a page's counts: 64 of them, of the page's sum, coded as the cells say, and zero from hour N on
+unfoldable pub pageTests : List ℕ → ℕ → ℕ → ℕ → List Bool
+pageTests s P N p =
+    eqb (length (pageIn s P p)) 64
+    ∷ eqb (sum (pageIn s P p)) (sumIn s p)
+    ∷ same (codeIn s P (chainIn s P p)) (pageBytes (pageIn s P p))
+    ∷ same (pageIn s P p) (tabulate 64 (λ j. pick (ltb (64 * p + j) N) (getD (pageIn s P p) j 0) 0))
+    ∷ []
+
+-- n pages from p on
+unfoldable pub checkPages : List ℕ → ℕ → ℕ → ℕ → ℕ → ℕ → List ℕ → Walk
+checkPages s P C N zero p m = whole m
+checkPages s P C N (suc n) p m =
+    and-then (walkMarks s P C (cells (sumIn s p)) m (16 + 6 * p + 4)) (λ m′. go-on (every (pageTests s P N p)) (checkPages s P C N n (suc p) m′))
+
+-- what a walk's marks say; a walk that broke off says no
+unfoldable pub ends-well : Walk → (List ℕ → Bool) → Bool
+ends-well (whole m) f = f m
+ends-well broken f = false
+
+-- the header's fields, the length and the total
+unfoldable pub headTests : List ℕ → List Bool
+headTests s =
+    leb 16 (length s)
+    ∷ same (part s 0 2) (1 ∷ 0 ∷ [])
+    ∷ same (part s 10 2) (0 ∷ 0 ∷ [])
+    ∷ leb 1 (numberAt s 2 2)
+    ∷ leb (numberAt s 2 2) 1024
+    ∷ leb 1 (numberAt s 4 2)
+    ∷ leb (numberAt s 4 2) 1800
+    ∷ eqb (length s) (16 + 6 * numberAt s 2 2 + 32 * numberAt s 4 2)
+    ∷ leb (numberAt s 12 4) (64 * numberAt s 2 2)
+    ∷ leb (sum (tabulate (numberAt s 2 2) (sumIn s))) 4294967295
+    ∷ []
