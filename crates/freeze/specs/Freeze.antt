@@ -1,5 +1,4 @@
 -- Document 01: 'freeze, which writes the image of a store's list'. Assumes nothing.
-use mathlib.Core.Bool.{Bool, true, false}
 use mathlib.Core.List.{List}
 use Prim.Native.Nat.{ℕ}
 use Rattle.lists.specs.Lists.{pick}

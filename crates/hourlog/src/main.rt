@@ -68,6 +68,7 @@ fn run(store: &mut [u8])
     let mut line = [0u8; 41];
     let mut place = Place { used: 0, len: 0 };
     let mut chunk = io::buffer();
+    // more turns than any input has: they bound the loop, so that it is known to end
     let mut turns = u64::MAX;
     let mut more = true;
     while more && turns > 0 {

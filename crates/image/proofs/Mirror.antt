@@ -8,7 +8,7 @@ use native.Mathlib.Omega.{arith}
 use lib.ListN.{length, getD, take, drop, replicate, length-drop, length-replicate, take-append-drop}
 use lib.Seq.{drop-at, drop-drop, take-add, take-all, getD-drop, take-length}
 use borrow.Author.Tests.{le-leb, leb-true, eq-eqb, eqb-true}
-use Rattle.lists.specs.Lists.{concat, fill, part, same, sum, tabulate}
+use Rattle.lists.specs.Lists.{concat, fill, part, same, sum, tabulate, window}
 use Rattle.lists.proofs.Pages.{concat-get}
 use Rattle.lists.proofs.Parts.{length-part, part-in, part-more}
 use Rattle.lists.proofs.Sums.{zero-at}
@@ -20,7 +20,6 @@ use Rattle.bits.specs.Pack.{pack}
 use Rattle.bits.proofs.Little.{bytes-part, number-small, stored}
 use Rattle.bits.proofs.Packing.{bits-bytes, pack-bits}
 use Rattle.reserve.specs.Reserve.{digits, reserve}
-use Rattle.tree.specs.Code.{window}
 use Rattle.tree.specs.Exact.{clear, exact}
 use Rattle.tree.specs.Read.{place}
 use Rattle.tree.specs.Tree.{tree}

@@ -6,7 +6,7 @@ use native.Mathlib.Nat.{mul-le-mul-left, mul-le-mul-right, mul-suc, div-mul-le-s
 use native.Mathlib.Omega.{arith}
 use lib.ListN.{length, getD, take, length-append}
 use lib.Pow.{pow-pos, pow-mono}
-use Rattle.lists.specs.Lists.{concat, sum, tabulate}
+use Rattle.lists.specs.Lists.{concat, sum, tabulate, window}
 use Rattle.lists.proofs.Pages.{paged-length, reading-behind, reading-within}
 use Rattle.lists.proofs.Sums.{sum-take-le}
 use Rattle.lists.proofs.Tables.{concat-le, concat-most, concat-suc, getD-tabulate}
@@ -16,7 +16,6 @@ use Rattle.reserve.specs.Reserve.{digits, reserve}
 use Rattle.reserve.proofs.Exact.{digits-le}
 use Rattle.reserve.proofs.Fit.{bound}
 use Rattle.reserve.proofs.Line.{A, B}
-use Rattle.tree.specs.Code.{window}
 use Rattle.tree.specs.Tree.{tree}
 use Rattle.tree.proofs.Shape.{length-tree}
 use Rattle.image.specs.Image.{Limits, code, page, pageCode, pages, root, start}

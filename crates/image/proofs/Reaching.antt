@@ -7,11 +7,10 @@ use native.Mathlib.Omega.{arith}
 use lib.ListN.{length, take}
 use lib.Dec.{leb, ltb}
 use borrow.Author.Tests.{le-leb, leb-true, le-ltb}
-use Rattle.lists.specs.Lists.{pick, reached, sum}
+use Rattle.lists.specs.Lists.{pick, reached, sum, window}
 use Rattle.lists.proofs.Pages.{reached-within}
 use Rattle.lists.proofs.Reach.{reached-le, reached-zero}
 use Rattle.bits.specs.Bits.{bits}
-use Rattle.tree.specs.Code.{window}
 use Rattle.tree.specs.Read.{Place, nowhere, place, seek}
 use Rattle.tree.proofs.SearchLaws.{seek-tree}
 use Rattle.image.specs.Check.{accepted, headed}

@@ -2,7 +2,7 @@
 use mathlib.Core.Bool.{true, false}
 use mathlib.Core.List.{List}
 use mathlib.Core.Path.{_≡_}
-use Prim.Native.Nat.{ℕ, suc, _≤_, _<_}
+use Prim.Native.Nat.{ℕ, suc, _≤_}
 use Rattle.image.specs.Read.{lOf}
 use Rattle.image.specs.Test.{pagesFrom}
 use Rattle.image.specs.Check.{Verdict, holds, fails}

@@ -1,15 +1,14 @@
 -- Document 01, 'The frozen image': the writer's bytes of a list. Assumes nothing.
 use mathlib.Core.Path.{_≡_}
-use mathlib.Core.List.{List, [], _∷_, _++_}
+use mathlib.Core.List.{List, _∷_, _++_}
 use Prim.Native.Nat.{ℕ, suc, _+_, _-_, _*_, _/_, _^_, _≤_}
 use lib.ListN.{length}
-use Rattle.lists.specs.Lists.{tabulate, concat, sum, fill, reading}
+use Rattle.lists.specs.Lists.{tabulate, concat, sum, fill, reading, window}
 use Rattle.bits.specs.Bits.{field}
 use Rattle.bits.specs.Pack.{pack}
 use Rattle.bits.specs.Numbers.{little}
 use Rattle.reserve.specs.Reserve.{digits}
 use Rattle.tree.specs.Tree.{tree}
-use Rattle.tree.specs.Code.{window}
 
 -- 'Page size 2^e': how many pages n counts have
 unfoldable pub pages : ℕ → ℕ → ℕ

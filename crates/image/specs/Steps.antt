@@ -1,5 +1,4 @@
 -- How the code of reach answers once it has found a page. What it means is `Reach`: proofs/Reaching.antt. Assumes nothing.
-use mathlib.Core.Bool.{Bool, true, false}
 use mathlib.Core.List.{List}
 use Prim.Native.Nat.{ℕ, _+_, _-_, _*_, _^_}
 use lib.Dec.{leb}

@@ -8,7 +8,7 @@ use tree::walk::DAMAGED;
 use tree::walk::walk;
 ghost use mathlib.Core.Path.{_≡_};
 ghost use Prim.Native.Nat.{_≤_, _<_};
-ghost use Rattle.tree.specs.Code.{told as walked};
+ghost use Rattle.tree.specs.Code.{walkAnswer as walked};
 ghost use Rattle.image.specs.Query.{look as looked, count as counted, reading as read};
 ghost use Rattle.image.specs.Code.{Opened, answered};
 ghost use Rattle.image.specs.Answers.{told};

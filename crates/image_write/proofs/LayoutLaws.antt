@@ -9,11 +9,10 @@ use lib.ListN.{length, getD, take}
 use lib.Seq.{take-all}
 use lib.Pow.{pow-mono}
 use borrow.Author.Tests.{le-leb, lt-leb}
-use Rattle.lists.specs.Lists.{concat, pick, sum, tabulate}
+use Rattle.lists.specs.Lists.{concat, pick, sum, tabulate, window}
 use Rattle.lists.proofs.Sums.{sum-most}
 use Rattle.reserve.specs.Reserve.{digits, reserve}
 use Rattle.reserve.proofs.Exact.{digits-le}
-use Rattle.tree.specs.Code.{window}
 use Rattle.image.specs.Calls.{lengthCall}
 use Rattle.image.specs.Image.{code, page, pages, root, start}
 use Rattle.image.specs.Reply.{refused}

@@ -5,7 +5,7 @@ use Prim.Native.Nat.{ℕ, suc, _+_, _*_, _^_, _≤_, _<_}
 use native.Mathlib.Numerals.{add-one}
 use native.Mathlib.Omega.{arith}
 use lib.ListN.{length, take}
-use Rattle.lists.specs.Lists.{splice, sum}
+use Rattle.lists.specs.Lists.{splice, sum, window}
 use Rattle.lists.proofs.Parts.{length-splice, splice-then}
 use Rattle.bits.specs.Bits.{bits, field}
 use Rattle.bits.specs.Numbers.{little}
@@ -13,11 +13,10 @@ use Rattle.bits.proofs.Laws.{length-bits, length-field}
 use Rattle.bits.proofs.Little.{length-little}
 use Rattle.reserve.specs.Reserve.{digits, reserve}
 use Rattle.reserve.proofs.Exact.{digits-is}
-use Rattle.tree.specs.Code.{window}
 use Rattle.tree.specs.Tree.{tree}
 use Rattle.tree.proofs.Shape.{length-tree}
 use Rattle.image.specs.Image.{Limits, bytesFor, code, image, page, pageCode, pages, root, size, start}
-use Rattle.image_write.specs.Writer.{PlaceOf, codeFrom}
+use Rattle.image_write.specs.Writer.{PlaceOf, codeStart}
 use Rattle.image.proofs.Back.{length-image}
 use Rattle.image_write.proofs.LayoutLaws.{page-from}
 use Rattle.image.proofs.PageLaws.{code-most, page-sum, pages-few, root-le, start-next, start-within, width-most}
@@ -39,7 +38,7 @@ pub record Step (e : ℕ) (xs : List ℕ) (i n m w s a x : ℕ) : Type 0 where
   pub root-fits : x + s < 2 ^ w
   pub end-most : a + w + reserve e s ≤ 4294967295
   pub entry-in : 16 + 4 * i + 4 ≤ n
-  pub end-in : codeFrom e xs + (a + w + reserve e s) ≤ 8 * n
+  pub end-in : codeStart e xs + (a + w + reserve e s) ≤ 8 * n
 
 pub step : (e : ℕ) (xs : List ℕ) (i n m t w s a x : ℕ) → Limits e xs → length (image e xs) ≤ n → i < pages e (length xs) → m ≡ 2 ^ e → t ≡ sum xs
     → w ≡ digits t → s ≡ sum (window xs (m * i) m) → a ≡ start e xs i → x ≡ sum (take (2 ^ e * i) xs) → Step e xs i n m w s a x
@@ -71,10 +70,10 @@ step e xs i n m t w s a x g room l em et ew es ea ex =
     }
 
 -- its start bit, its root and its tree
-pub page-put : {e : ℕ} {xs : List ℕ} {i n m w s a x : ℕ} → Step e xs i n m w s a x → (k : ℕ) (o o₁ o₂ o₃ : List ℕ) → k ≡ codeFrom e xs
+pub page-put : {e : ℕ} {xs : List ℕ} {i n m w s a x : ℕ} → Step e xs i n m w s a x → (k : ℕ) (o o₁ o₂ o₃ : List ℕ) → k ≡ codeStart e xs
     → length o ≡ n → o₁ ≡ splice o (16 + 4 * i) (little 4 a) → bits o₂ ≡ splice (bits o₁) (k + a) (field w (x + s))
     → bits o₃ ≡ splice (bits o₂) (k + (a + w)) (tree e (window xs (m * i) (2 ^ e)))
-    → bits o₃ ≡ splice (splice (bits o) (8 * (16 + 4 * i)) (bits (little 4 (start e xs i)))) (codeFrom e xs + start e xs i) (pageCode e xs i)
+    → bits o₃ ≡ splice (splice (bits o) (8 * (16 + 4 * i)) (bits (little 4 (start e xs i)))) (codeStart e xs + start e xs i) (pageCode e xs i)
 unfolding pageCode
 page-put {e} {xs} {i} {n} {m} {w} {s} {a} {x} p k o o₁ o₂ o₃ ek lo e₁ e₂ e₃ =
     let F : List ℕ = field w (x + s) in
@@ -86,9 +85,9 @@ page-put {e} {xs} {i} {n} {m} {w} {s} {a} {x} p k o o₁ o₂ o₃ ek lo e₁ e�
     splice-then (bits o₁) (bits o₂) (bits o₃) F T (k + a) (k + (a + w)) e₂ e₃ (omega arith)
     (omega (arith, p .end-in, length-bits o₁)) in
     let y : F ++ T ≡ pageCode e xs i = ap₂ _++_ (ap₂ field (p .width-is) (p .root-is)) (ap (tree e) (p .counts-are)) in
-    let c : k + a ≡ codeFrom e xs + start e xs i = omega (arith, p .start-is) in
+    let c : k + a ≡ codeStart e xs + start e xs i = omega (arith, p .start-is) in
     b ∙ ap₂ (splice (bits o₁)) c y
-    ∙ ap (λ (z : List ℕ). splice z (codeFrom e xs + start e xs i) (pageCode e xs i))
+    ∙ ap (λ (z : List ℕ). splice z (codeStart e xs + start e xs i) (pageCode e xs i))
     (ap bits e₁ ∙ bits-splice o (16 + 4 * i) (little 4 a) ∙ ap (λ (z : ℕ). splice (bits o) (8 * (16 + 4 * i)) (bits (little 4 z))) (p .start-is))
 
 -- the next page's place

@@ -10,7 +10,7 @@ use Rattle.lists.specs.Lists.{concat, splice, sum, tabulate}
 use Rattle.bits.specs.Bits.{bits}
 use Rattle.bits.proofs.Laws.{length-bits}
 use Rattle.image.specs.Image.{bytesFor, code, pages, size, start}
-use Rattle.image_write.specs.Writer.{PagePut, PlaceOf, Room, codeFrom, tableAndCode}
+use Rattle.image_write.specs.Writer.{PagePut, PlaceOf, Room, codeStart, tableAndCode}
 use Rattle.image_write.specs.declared.layout.Layout.{Layout}
 use Rattle.image_write.specs.declared.put.Place.{Place}
 use Rattle.image.proofs.Back.{length-image}
@@ -24,7 +24,7 @@ pub room-same : {xs : List ℕ} {r : Layout} {out : List ℕ} (now : List ℕ) �
 room-same now l g = record { limits = g .limits; layout = g .layout; enough = omega (arith, g .enough) }
 
 -- the image's bits of code lie in the buffer
-pub code-in : {xs : List ℕ} {r : Layout} {out : List ℕ} → Room xs r out → codeFrom (r .e) xs + length (code (r .e) xs) ≤ length (bits out)
+pub code-in : {xs : List ℕ} {r : Layout} {out : List ℕ} → Room xs r out → codeStart (r .e) xs + length (code (r .e) xs) ≤ length (bits out)
 unfolding size bytesFor
 code-in {xs} {r} {out} g = omega (arith, g .enough, length-image (r .e) xs, length-bits out)
 

@@ -13,8 +13,8 @@ use Rattle.bits.specs.Numbers.{little}
 use Rattle.bits.proofs.Laws.{bits-append, length-bits}
 use Rattle.bits.proofs.Little.{Bytes, bytes-little, length-little}
 use Rattle.bits.proofs.Packing.{bits-fill}
-use Rattle.image.specs.Image.{bytesFor, code, firstPages, header, image, packed, page, pageCode, pages, size, start, table}
-use Rattle.image_write.specs.Writer.{codeFrom, tableAndCode}
+use Rattle.image.specs.Image.{bytesFor, code, firstPages, header, image, packed, pageCode, pages, size, start, table}
+use Rattle.image_write.specs.Writer.{codeStart, tableAndCode}
 use Rattle.image.proofs.Back.{bits-code, length-image}
 use Rattle.image.proofs.Packed.{bits-one, bits-packed, tail}
 use Rattle.image_write.proofs.Splices.{bits-splice, bytes-concat, bytes-join, bytes-pack, byte-in, splice-apart}
@@ -46,11 +46,11 @@ starts e xs k = concat (tabulate k (λ p. little 4 (start e xs p)))
 
 -- the bits b after the first k pages were put: start bits behind the header, code behind the whole table
 unfoldable pub laid : List ℕ → ℕ → List ℕ → ℕ → List ℕ
-laid b e xs k = splice (splice b 128 (bits (starts e xs k))) (codeFrom e xs) (firstPages e xs k)
+laid b e xs k = splice (splice b 128 (bits (starts e xs k))) (codeStart e xs) (firstPages e xs k)
 
 pub laid-none : (b : List ℕ) (e : ℕ) (xs : List ℕ) → b ≡ laid b e xs 0
 unfolding laid tabulate concat bits
-laid-none b e xs = sym (splice-nil (splice b 128 []) (codeFrom e xs) ∙ splice-nil b 128)
+laid-none b e xs = sym (splice-nil (splice b 128 []) (codeStart e xs) ∙ splice-nil b 128)
 
 length-starts : (e : ℕ) (xs : List ℕ) (k : ℕ) → length (bits (starts e xs k)) ≡ 32 * k
 length-starts e xs k =
@@ -58,12 +58,12 @@ length-starts e xs k =
     ∙ omega arith
 
 -- page k put into them: its start bit, then its code
-pub laid-more : (b c : List ℕ) (e : ℕ) (xs : List ℕ) (k : ℕ) → k < pages e (length xs) → codeFrom e xs + length (code e xs) ≤ length b
-    → c ≡ splice (splice (laid b e xs k) (8 * (16 + 4 * k)) (bits (little 4 (start e xs k)))) (codeFrom e xs + start e xs k) (pageCode e xs k)
+pub laid-more : (b c : List ℕ) (e : ℕ) (xs : List ℕ) (k : ℕ) → k < pages e (length xs) → codeStart e xs + length (code e xs) ≤ length b
+    → c ≡ splice (splice (laid b e xs k) (8 * (16 + 4 * k)) (bits (little 4 (start e xs k)))) (codeStart e xs + start e xs k) (pageCode e xs k)
     → c ≡ laid b e xs (suc k)
 unfolding laid start code
 laid-more b c e xs k l h ec =
-    let C : ℕ = codeFrom e xs in
+    let C : ℕ = codeStart e xs in
     let T : List ℕ = bits (starts e xs k) in
     let Y : List ℕ = bits (little 4 (start e xs k)) in
     let F : List ℕ = firstPages e xs k in
@@ -88,13 +88,13 @@ unfolding table
 length-table-bits e xs = length-starts e xs (pages e (length xs))
 
 -- all pages
-pub laid-all : (b : List ℕ) (e : ℕ) (xs : List ℕ) (k : ℕ) → k ≡ pages e (length xs) → codeFrom e xs + length (code e xs) ≤ length b
+pub laid-all : (b : List ℕ) (e : ℕ) (xs : List ℕ) (k : ℕ) → k ≡ pages e (length xs) → codeStart e xs + length (code e xs) ≤ length b
     → laid b e xs k ≡ splice b 128 (tableAndCode e xs)
 unfolding laid code table
 laid-all b e xs k ek h =
     let T : List ℕ = bits (table e xs) in
     let lT : length T ≡ 32 * pages e (length xs) = length-table-bits e xs in
-    ap (laid b e xs) ek ∙ ap (λ (z : ℕ). splice (splice b 128 T) z (code e xs)) {x = codeFrom e xs} {y = 128 + length T} (omega arith)
+    ap (laid b e xs) ek ∙ ap (λ (z : ℕ). splice (splice b 128 T) z (code e xs)) {x = codeStart e xs} {y = 128 + length T} (omega arith)
     ∙ splice-more b 128 T (code e xs) (omega arith)
 
 -- ---- the whole image
@@ -134,7 +134,7 @@ byte-front s m h k i = rw (splice-front s m) (byte-in m (drop (length m) s) h (�
 pub image-put : (e : ℕ) (xs o o₁ o₂ o₃ : List ℕ) (z : ℕ) → e ≤ 8 → length (image e xs) ≤ length o → ((i : ℕ) → getD o i 0 < 256)
     → ((i : ℕ) → getD o₃ i 0 < 256) → o₁ ≡ splice o 0 (header e (length xs) (sum xs) (length (code e xs)))
     → bits o₂ ≡ splice (bits o₁) 128 (tableAndCode e xs) → z ≡ 8 * bytesFor (length (code e xs)) - length (code e xs)
-    → bits o₃ ≡ splice (bits o₂) (codeFrom e xs + length (code e xs)) (replicate z 0) → o₃ ≡ splice o 0 (image e xs)
+    → bits o₃ ≡ splice (bits o₂) (codeStart e xs + length (code e xs)) (replicate z 0) → o₃ ≡ splice o 0 (image e xs)
 unfolding image tail bytesFor size
 image-put e xs o o₁ o₂ o₃ z l room ho h₃ e₁ e₂ ez e₃ =
     let C : List ℕ = code e xs in
@@ -152,7 +152,7 @@ image-put e xs o o₁ o₂ o₃ z l room ho h₃ e₁ e₂ ez e₃ =
     let i₁ : bits o₁ ≡ splice (bits o) 0 H = ap bits e₁ ∙ bits-splice o 0 (header e (length xs) (sum xs) (length C)) in
     let l₁ : length (bits o₁) ≡ length (bits o) = ap length i₁ ∙ length-splice (bits o) 0 H (omega arith) in
     let i₂ : bits o₃ ≡ splice (bits o₁) 128 ((T ++ C) ++ Z) =
-    splice-then (bits o₁) (bits o₂) (bits o₃) (T ++ C) Z 128 (codeFrom e xs + length C) e₂ e₃ (omega arith) (omega arith) in
+    splice-then (bits o₁) (bits o₂) (bits o₃) (T ++ C) Z 128 (codeStart e xs + length C) e₂ e₃ (omega arith) (omega arith) in
     let i₃ : bits o₃ ≡ splice (bits o) 0 (H ++ ((T ++ C) ++ Z)) =
     splice-then (bits o) (bits o₁) (bits o₃) H ((T ++ C) ++ Z) 0 128 i₁ i₂ (omega arith) (omega arith) in
     let j : H ++ ((T ++ C) ++ Z) ≡ bits I =

@@ -17,8 +17,8 @@ use Rattle.image.specs.declared.answer.Answer.{Answer}
 use Rattle.image_write.specs.declared.put.Place.{Place}
 
 -- where the code starts among the bits of an image, behind the header and the table
-abbrev pub codeFrom : ℕ → List ℕ → ℕ
-codeFrom e xs = 8 * (16 + 4 * pages e (length xs))
+abbrev pub codeStart : ℕ → List ℕ → ℕ
+codeStart e xs = 8 * (16 + 4 * pages e (length xs))
 
 -- the bits of an image behind its header, but for the zeros that fill its last byte
 abbrev pub tableAndCode : ℕ → List ℕ → List ℕ
@@ -29,7 +29,7 @@ pub record LayoutOf (e : ℕ) (xs : List ℕ) (r : Layout) : Type 0 where
   pub e-is : r .e ≡ e
   pub pages-are : r .pages ≡ pages e (length xs)
   pub total-is : r .total ≡ sum xs
-  pub code-is : r .code ≡ codeFrom e xs
+  pub code-is : r .code ≡ codeStart e xs
   pub bits-are : r .bits ≡ length (code e xs)
 
 -- a layout where xs has an image, else the refusal of length
@@ -51,7 +51,7 @@ pub record PlaceOf (e : ℕ) (xs : List ℕ) (i : ℕ) (r : Place) : Type 0 wher
 -- page i was put into the bytes b, which are c now, and next is the next page's place
 pub record PagePut (e : ℕ) (xs : List ℕ) (i : ℕ) (b c : List ℕ) (next : Place) : Type 0 where
   pub bits-are : bits c ≡ splice (splice (bits b) (8 * (16 + 4 * i)) (bits (little 4 (start e xs i))))
-      (codeFrom e xs + start e xs i) (pageCode e xs i)
+      (codeStart e xs + start e xs i) (pageCode e xs i)
   pub next-is : PlaceOf e xs (i + 1) next
 
 -- a call's answer and its buffer afterwards

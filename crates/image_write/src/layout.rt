@@ -1,7 +1,6 @@
 // What the image of a list will be, known before a byte is written.
 use image::head::pages_of;
 use tree::sums::sum_of;
-ghost use mathlib.Core.Path.{_≡_};
 ghost use Prim.Native.Nat.{_≤_};
 ghost use lib.ListN.{length};
 ghost use Rattle.image_write.specs.Writer.{LayoutOf, Planned};

@@ -9,6 +9,7 @@ pub enum Numeral {
     Wrong,
 }
 
+// The digits 0 to 9 are the bytes 48 to 57.
 fn is_digit(b: u8) -> bool
     ensures { λ r. ⌜ r ≡ isDigit b ⌝ }
 {

@@ -6,7 +6,7 @@ use native.Mathlib.Omega.{arith}
 use borrow.Author.Needs.{needs}
 use lib.ListN.{length}
 use Rattle.image.specs.Image.{pages}
-use Rattle.image_write.specs.Writer.{codeFrom}
+use Rattle.image_write.specs.Writer.{codeStart}
 use Rattle.image_write.proofs.LayoutLaws.{page-from}
 use Rattle.image_write.proofs.PageSteps.{Step, next-place, page-put, step}
 use Rattle.image_write.proofs.put.put_page.Statement.{statement}
@@ -87,7 +87,7 @@ from-end c = from-write (c .before .before .before)
 abbrev own : tie.After-struct-known5 → tie.After-reserve-of
 own c = reserved (c .before .before .before .before .before)
 
-layout : (c : tie.After-sum-of) → call c .args .r .code ≡ codeFrom (call c .args .r .e) (call c .args .counts .now)
+layout : (c : tie.After-sum-of) → call c .args .r .code ≡ codeStart (call c .args .r .e) (call c .args .counts .now)
 layout c = call c .pre .0 .layout .code-is
 
 add-put-field : tie.Need-add-put-field
