@@ -1,5 +1,5 @@
 -- `hourlog_c::image_calls::hourlog_image_length` meets its contract. Assumes nothing.
-use mathlib.Core.Path.{ap, _∙_}
+use mathlib.Core.Path.{refl, ap, _∙_}
 use Rattle.hourlog_c.specs.Words.{replyWord}
 use borrow.Author.Needs.{needs}
 use Rattle.hourlog_c.proofs.image_calls.hourlog_image_length.Statement.{statement}
@@ -12,7 +12,7 @@ of-image-requires : tie.Need-of-image-requires
 of-image-requires c κs = search needs
 
 returns : tie.Need-returns
-returns c = c .of-image .ensures ∙ ap replyWord (c .before .length .ensures)
+returns c = (c .of-image .ensures ∙ ap replyWord (c .before .length .ensures), refl)
 
 pub hourlog-image-length-spec : {M : Type 1} → statement M
 hourlog-image-length-spec = tie.close (tie.spec length-requires of-image-requires returns)
