@@ -23,13 +23,22 @@
 /* Pages of 2^5 counts in the image: a trade between its length and its speed. */
 #define IMAGE_E 5
 
-static uint8_t store[HOURLOG_STORE_LENGTH(PAGES, CELLS)];
+/* In memory that survives power loss: two copies of the store, and the byte that
+ * says by its lowest bit which of them is the log.  A call that is cut off can
+ * leave the bytes it was changing in any state; so every change is made in the
+ * other copy, and that one byte, written behind it, makes it the log. */
+#define STORE_LENGTH HOURLOG_STORE_LENGTH(PAGES, CELLS)
+static uint8_t copy_0[STORE_LENGTH], copy_1[STORE_LENGTH];
+static volatile uint8_t in_use;
+
+static uint8_t *const copies[2] = {copy_0, copy_1};
+static uint8_t *store; /* the log: the copy in use, found at power-up */
 static uint8_t image[HOURLOG_FREEZE_LENGTH_MAX(PAGES, CELLS, IMAGE_E)];
 
 /* What to tell staff; the index is the refusal's number. */
 static const char *const meaning[] = {
     "",
-    "page size must be 2 to 8",
+    "e must be 2 to 8",
     "more than 65,536 counts",
     "total would pass 4,294,967,295",
     "buffer too short for the image",
@@ -78,16 +87,37 @@ static int64_t must(int64_t answer)
 
 /* ---- the board ----------------------------------------------------------- */
 
+/* The copy to change: it starts as what the log is now. */
+static uint8_t *copy_of_store(void)
+{
+    uint8_t *copy = copies[(in_use & 1) ^ 1];
+    memcpy(copy, store, STORE_LENGTH);
+    return copy;
+}
+
+/* Takes what a change of that copy answered, and hands it on.  If it was not
+ * refused, the changed copy is the log from now on. */
+static int64_t changed(int64_t answer)
+{
+    if (!hourlog_is_refused(answer)) {
+        in_use ^= 1;
+        store = copies[in_use & 1];
+    }
+    return answer;
+}
+
 /* At power-up the old store is kept if it is sound, and else made anew.  (A
  * board in the field would first copy away what it found: it may be a damaged
- * log and not the blank memory of a first power-up.) */
+ * log and not the blank memory of a first power-up, and the other copy may then
+ * hold all but the last change.) */
 static void power_up(void)
 {
-    int64_t cells = hourlog_free(store, sizeof store);
+    store = copies[in_use & 1];
+    int64_t cells = hourlog_free(store, STORE_LENGTH);
     report("power-up", cells);
     if (hourlog_refusal(cells) == HOURLOG_REFUSED_UNSOUND) {
-        must(hourlog_fresh(store, sizeof store, PAGES, CELLS));
-        report("fresh store, free cells", must(hourlog_free(store, sizeof store)));
+        must(changed(hourlog_fresh(copy_of_store(), STORE_LENGTH, PAGES, CELLS)));
+        report("fresh store, free cells", must(hourlog_free(store, STORE_LENGTH)));
     }
 }
 
@@ -102,7 +132,7 @@ static uint32_t coins_in_hour(uint32_t hour)
  * append has changed nothing, so the hour can be logged once its cause is gone. */
 static int log_hour(uint32_t coins)
 {
-    int64_t answer = hourlog_append(store, sizeof store, coins);
+    int64_t answer = changed(hourlog_append(copy_of_store(), STORE_LENGTH, coins));
     if (!hourlog_is_refused(answer)) {
         return 1;
     }
@@ -122,9 +152,10 @@ static int log_hour(uint32_t coins)
     return 0;
 }
 
+/* Goes on where the log stopped, which after a power-up can be any hour. */
 static void log_days(uint32_t days)
 {
-    for (uint32_t hour = 0; hour < 24 * days; hour++) {
+    for (uint32_t hour = hourlog_hours(store); hour < 24 * days; hour++) {
         if (!log_hour(coins_in_hour(hour))) {
             return;
         }
@@ -134,21 +165,23 @@ static void log_days(uint32_t days)
 
 static void show_takings(void)
 {
-    report("takings of day 0", hourlog_day(store, sizeof store, 0));
-    report("takings of day 1", hourlog_day(store, sizeof store, 1));
-    report("takings of day 4, not yet over", hourlog_day(store, sizeof store, 4));
-    report("count of hour 20", hourlog_count(store, sizeof store, 20));
-    report("meter after 72 hours", hourlog_reading(store, sizeof store, 72));
-    report("meter passed 500 at hour", hourlog_reach(store, sizeof store, 500));
-    report("free cells", hourlog_free(store, sizeof store));
+    report("takings of day 0", hourlog_day(store, STORE_LENGTH, 0));
+    report("takings of day 1", hourlog_day(store, STORE_LENGTH, 1));
+    report("takings of day 4, not yet over", hourlog_day(store, STORE_LENGTH, 4));
+    report("count of hour 20", hourlog_count(store, STORE_LENGTH, 20));
+    report("meter after 72 hours", hourlog_reading(store, STORE_LENGTH, 72));
+    report("meter passed 500 at hour", hourlog_reach(store, STORE_LENGTH, 500));
+    report("free cells", hourlog_free(store, STORE_LENGTH));
 }
 
 /* A test coin was counted as 1,000: staff put it right. */
 static void correct_an_hour(void)
 {
-    report_cells("hour 20 set to 1000", hourlog_set(store, sizeof store, 20, 1000));
-    report_cells("hour 20 set to 33", hourlog_set(store, sizeof store, 20, 33));
-    report("count of hour 20", hourlog_count(store, sizeof store, 20));
+    report_cells("hour 20 set to 1000",
+                 changed(hourlog_set(copy_of_store(), STORE_LENGTH, 20, 1000)));
+    report_cells("hour 20 set to 33",
+                 changed(hourlog_set(copy_of_store(), STORE_LENGTH, 20, 33)));
+    report("count of hour 20", hourlog_count(store, STORE_LENGTH, 20));
 }
 
 /* The image goes to a file, as it would to a memory stick.  A board without
@@ -156,7 +189,7 @@ static void correct_an_hour(void)
  * laptop freezes it. */
 static void freeze_to(const char *path)
 {
-    int64_t length = must(hourlog_freeze(store, sizeof store, IMAGE_E, image, sizeof image));
+    int64_t length = must(hourlog_freeze(store, STORE_LENGTH, IMAGE_E, image, sizeof image));
     FILE *file = fopen(path, "wb");
     if (file == NULL || fwrite(image, 1, (size_t)length, file) != (size_t)length ||
         fclose(file) != 0) {
@@ -172,9 +205,10 @@ static void freeze_to(const char *path)
 static void start_over(const char *path, uint32_t refused_coins)
 {
     freeze_to(path);
-    must(hourlog_fresh(store, sizeof store, PAGES, CELLS));
+    uint8_t *copy = copy_of_store();
+    must(hourlog_fresh(copy, STORE_LENGTH, PAGES, CELLS));
     report_cells("refused hour, in a fresh store",
-                 must(hourlog_append(store, sizeof store, refused_coins)));
+                 must(changed(hourlog_append(copy, STORE_LENGTH, refused_coins))));
 }
 
 /* ---- the laptop ---------------------------------------------------------- */
@@ -224,14 +258,15 @@ static void image_of_a_list(void)
 
 static void refusals_of_the_store(const char *path)
 {
-    report("fresh with no pages", hourlog_fresh(store, sizeof store, 0, CELLS));
+    report("fresh with no pages",
+           changed(hourlog_fresh(copy_of_store(), STORE_LENGTH, 0, CELLS)));
     log_hour(HOURLOG_TOTAL_MAX);
-    report("count of hour 96", hourlog_count(store, sizeof store, 96));
-    report("reach of 4,000,000,000", hourlog_reach(store, sizeof store, 4000000000u));
-    report("freeze with e = 9", hourlog_freeze(store, sizeof store, 9, image, sizeof image));
-    report("freeze into 20 bytes", hourlog_freeze(store, sizeof store, IMAGE_E, image, 20));
+    report("count of hour 96", hourlog_count(store, STORE_LENGTH, 96));
+    report("reach of 4,000,000,000", hourlog_reach(store, STORE_LENGTH, 4000000000u));
+    report("freeze with e = 9", hourlog_freeze(store, STORE_LENGTH, 9, image, sizeof image));
+    report("freeze into 20 bytes", hourlog_freeze(store, STORE_LENGTH, IMAGE_E, image, 20));
     report_cells("hour 0 set to 1,000,000,000",
-                 hourlog_set(store, sizeof store, 0, 1000000000u));
+                 changed(hourlog_set(copy_of_store(), STORE_LENGTH, 0, 1000000000u)));
     log_hour(1000000000u);
     start_over(path, 1000000000u);
     while (log_hour(0)) {

@@ -11,12 +11,16 @@
  *
  * Every call returns one int64_t.  Zero or above is the answer; below zero it
  * is minus the number of a refusal.  Refusals are tried in the order that is
- * given with each call.  A refused call changes no byte, and the calls that
- * take const pointers change no byte ever.
+ * given with each call.  A refused call changes no byte, and no call ever
+ * changes one that it is lent by a const pointer.
  *
  * A pointer must be good for the length given with it; with length 0 it is not
  * followed and may be NULL.  Bytes may lie at any address, counts at one that
  * is good for a uint32_t.  The two buffers of one call must not overlap.
+ *
+ * A 64-bit value handed to a uint32_t parameter is cut to its low 32 bits by C,
+ * before the library sees it: test it first (hourlog_image_reach alone takes a
+ * uint64_t).
  *
  * WHAT A BOARD HAS TO GIVE
  *
@@ -38,7 +42,7 @@
  * Power: a call is not atomic.  Cut off within fresh, append or set, it may
  * leave bytes that are not sound, or that are sound and hold another count.
  * Where power can fail, change a copy, and say in a byte of your own beside the
- * two which of them is whole.
+ * two which of them is whole, as examples/board.c does.
  */
 #ifndef HOURLOG_H
 #define HOURLOG_H
@@ -57,8 +61,8 @@ extern "C" {
 #define HOURLOG_HOURS_A_PAGE 64u       /* so a store logs at most 64*P hours  */
 #define HOURLOG_TOTAL_MAX 4294967295u  /* the sum of all counts, store, image */
 #define HOURLOG_IMAGE_HOURS_MAX 65536u /* counts in an image                  */
-#define HOURLOG_PAGE_SIZE_MIN 2u       /* an image's pages hold 2^e counts,   */
-#define HOURLOG_PAGE_SIZE_MAX 8u       /* e from 2 to 8                       */
+#define HOURLOG_E_MIN 2u               /* an image's pages hold 2^e counts,   */
+#define HOURLOG_E_MAX 8u               /* e from 2 to 8                       */
 
 /* Bytes of a store with P pages and C cells; a constant if P and C are. */
 #define HOURLOG_STORE_LENGTH(P, C) \
@@ -86,7 +90,8 @@ extern "C" {
 
 /* Bytes that suffice for freezing any store of P pages and C cells, for e up
  * to 6; a constant if all three are.  With e = 6 it is about the length of the
- * store. */
+ * store.  For e of 7 or 8 it can be too short, since a page of the image then
+ * spans pages of the store: take HOURLOG_IMAGE_LENGTH_MAX(64 * P, e). */
 #define HOURLOG_FREEZE_LENGTH_MAX(P, C, e)                              \
     ((size_t)16 + (size_t)30 * (size_t)(C) +                            \
      8 * HOURLOG_IMAGE_PAGES((size_t)(P) * HOURLOG_HOURS_A_PAGE, (e)))
@@ -101,7 +106,8 @@ extern "C" {
 /*
  * What to do at one:
  *   1, 2, 4, 7, 8, 9  The arguments do not fit: a matter for the program.  At 4
- *       the macros above, or hourlog_image_length, say what does.
+ *       the macros above say what length suffices, for freeze and for write;
+ *       for write hourlog_image_length says the exact one.
  *   3   Nobody pays that much: look at the coin counter.
  *   5, 6  A laptop takes the image from the board again.  At 6, count and
  *       reading still answer for the hours whose path is whole.
@@ -175,7 +181,8 @@ int64_t hourlog_reach(const uint8_t *store, size_t len, uint32_t figure);
  * Refuses: 10, 7 (24*day + 24 > N). */
 int64_t hourlog_day(const uint8_t *store, size_t len, uint32_t day);
 
-/* The number of free cells.  Refuses: 10. */
+/* How many cells are free.  It is a question like those above, not the end of
+ * the store: it releases nothing and changes no byte.  Refuses: 10. */
 int64_t hourlog_free(const uint8_t *store, size_t len);
 
 /* Writes the image of all logged counts, pages of 2^e counts, and answers its
@@ -194,6 +201,15 @@ static inline uint32_t hourlog_taken(int64_t answer)
 static inline uint32_t hourlog_returned(int64_t answer)
 {
     return (uint32_t)(((uint64_t)answer >> 16) & 0xFFFFu);
+}
+
+/* N, the hours that a sound store has logged: the next append logs hour N.  It
+ * reads bytes 12 to 15 and tests nothing.  After power-up it is good once fresh
+ * was not refused, or some other call on the store was not refused with 10. */
+static inline uint32_t hourlog_hours(const uint8_t *store)
+{
+    return (uint32_t)store[12] | ((uint32_t)store[13] << 8) |
+           ((uint32_t)store[14] << 16) | ((uint32_t)store[15] << 24);
 }
 
 /* ---- the frozen image -------------------------------------------------- */

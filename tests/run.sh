@@ -4,7 +4,9 @@
 # once more in a build with AddressSanitizer.
 #
 # usage: tests/run.sh
-#   HOURLOG_LIB     the folder that holds libhourlog_c.a (else it is built)
+#   HOURLOG_LIB     the folder that holds libhourlog_c.a (else it is built); the
+#                   build with AddressSanitizer takes the proved libraries from
+#                   target/rlib all the same: without them, rt check hourlog_c first
 #   HOURLOG_PROGRAM the session program (else it is built; empty: left out)
 #   HOURLOG_ROUNDS  makes the comparison so many times as long (1)
 #   HOURLOG_SEED    plays one seed of the comparison alone

@@ -13,7 +13,7 @@
 #include <ucontext.h>
 
 #define PAINT 0xC5
-#define IMAGE_E HOURLOG_PAGE_SIZE_MAX
+#define IMAGE_E HOURLOG_E_MAX
 
 static uint8_t stack[1024 * 1024];
 static uint8_t store[HOURLOG_STORE_LENGTH(HOURLOG_PAGES_MAX, HOURLOG_CELLS_MAX)];
