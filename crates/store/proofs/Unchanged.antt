@@ -1,4 +1,4 @@
--- Demand 1, whole: a refused call changes no byte, nor does a question. Assumes nothing.
+-- Demand 1 of the live calls and of fresh: a refused call changes no byte, nor does a question. Assumes nothing.
 use mathlib.Core.Path.{_≡_, refl, sym, ap, _∙_}
 use mathlib.Core.Bool.{Bool, true, false}
 use mathlib.Core.List.{List, [], _∷_}

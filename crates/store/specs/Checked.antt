@@ -25,7 +25,8 @@ unfoldable pub and-then : Walk → (List ℕ → Walk) → Walk
 and-then (whole m) f = f m
 and-then broken f = broken
 
--- 'marks each cell once and ends at the first broken chain': k cells from the link at a on, each of them a cell without a mark; then the chain ends
+-- 'marks each cell once and ends at the first broken chain': k cells from the link at a on, each of them a cell without a mark; then the
+-- chain ends
 unfoldable pub walkMarks : List ℕ → ℕ → ℕ → ℕ → List ℕ → ℕ → Walk
 walkMarks s P C zero m a = go-on (eqb (numberAt s a 2) 0) (whole m)
 walkMarks s P C (suc k) m a =
@@ -42,7 +43,7 @@ pageTests s P N p =
     eqb (length (pageIn s P p)) 64
     ∷ eqb (sum (pageIn s P p)) (sumIn s p)
     ∷ same (codeIn s P (chainIn s P p)) (pageBytes (pageIn s P p))
-    ∷ same (pageIn s P p) (tabulate 64 (λ j. pick (ltb (64 * p + j) N) (getD (pageIn s P p) j 0) 0))
+    ∷ same (pageIn s P p) (quiet N p (pageIn s P p))
     ∷ []
 
 -- n pages from p on

@@ -1,4 +1,5 @@
--- Demand 1: a call ends in its result or in one of its numbered refusals, and a refused call changes no byte. Assumes nothing.
+-- Demand 1 of the live calls and of fresh: a call ends in its result or in one of its numbered refusals, and a refused call changes no
+-- byte. Assumes nothing.
 use mathlib.Core.List.{List, [], _∷_}
 use mathlib.Core.Path.{_≡_}
 use Prim.Native.Nat.{ℕ, _≤_}
@@ -16,8 +17,8 @@ refusals (Reach p) = 10 ∷ 8 ∷ []
 refusals (Day d) = 10 ∷ 7 ∷ []
 refusals Free = 10 ∷ []
 
--- That every call ends is its function's contract, which holds of all bytes: none of them has a `requires`. What is left:
--- on any bytes, sound or not, whatever the refusal's number. The calls that write an image: `write-refused`, `freeze-refused`.
+-- That every call ends is its function's contract, which holds of all bytes: none of them has a `requires`. Beside it, on any bytes, sound
+-- or not. The calls on an image are not here: `write-refused`, `freeze-refused`, and the others change nothing.
 pub record Demand1 : Type 0 where
   -- a refusal is one of the call's own, and fresh has only 9
   pub numbered : (c : Call) (s : List ℕ) (k : ℕ) → call c s .answer ≡ refused k → 1 ≤ occurrences k (refusals c)

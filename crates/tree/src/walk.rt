@@ -86,7 +86,7 @@ fn descend(b: &[u8], at: usize, h: u32, s: u64, j: u64, acc: u64, keep: u64) -> 
 
 // Walks to count j of the tree of 2^h counts with sum s at bit at. Answers acc and the count, and with keep = 1 the counts before it
 // too; with keep = 0 the count alone. h falls by up to four at each call, so that a call's cost is paid once for four levels. The slice is
-// lent anew, as `&*b`: the compiler would else copy the parameter, pointer and length at once, and the processor would wait for that.
+// lent anew, as `&*b`: the compiler would else copy the parameter, pointer and length at once, which can stall (docs/BENCHMARK.md).
 pub fn walk(b: &[u8], at: usize, h: u32, s: u64, j: u64, acc: u64, keep: u64) -> u64
     requires { ⌜ Lies (now b) at h s × (acc + s ≤ 9223372036854775808) × (keep ≤ 1) ⌝ }
     ensures { λ r. ⌜ r ≡ walkAnswer acc keep (walked h s (bits (now (b .entry))) at j) ⌝ }
