@@ -1,9 +1,6 @@
 // The live calls on a store's bytes. Each turns a store that is not sound down first, and then answers as the store's list does.
-mod change;
-mod page;
-mod query;
-mod search;
-
+use live_query::query;
+use live_query::search;
 use soundness::check;
 use store::answer::Answer;
 ghost use Rattle.store.specs.Plain.{Append, Count, Day, Free, Reach, Reading, Set};
@@ -17,7 +14,7 @@ pub fn append(s: &mut [u8], v: u32) -> Answer
     if !check(s) {
         return Answer::Refused(10);
     }
-    change::append(s, v)
+    live_change::append(s, v)
 }
 
 // Sets the count of hour i, which is logged.
@@ -27,7 +24,7 @@ pub fn set(s: &mut [u8], i: u32, v: u32) -> Answer
     if !check(s) {
         return Answer::Refused(10);
     }
-    change::set(s, i, v)
+    live_change::set(s, i, v)
 }
 
 // The count of hour i.

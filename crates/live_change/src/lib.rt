@@ -1,0 +1,75 @@
+// The change of one hour's count.
+use bits::numbers::get4;
+use pages::code::code_of;
+use pages::counts::counts_at;
+use store::answer::Answer;
+use store::header::Header;
+use store::header::entry_at;
+use store::page_bytes::cells_of;
+use store::rewrite::rewrite;
+use store::total::total;
+ghost use mathlib.Core.Bool.{true};
+ghost use mathlib.Core.Path.{_≡_};
+ghost use Prim.Native.Nat.{_+_, max};
+ghost use Rattle.bits.specs.Numbers.{numberAt};
+ghost use Rattle.store.specs.Plain.{Append, Set};
+ghost use Rattle.store.specs.Sound.{sound};
+ghost use Rattle.store.specs.Call.{Called};
+ghost use Rattle.store.specs.Hours.{Asked, Changes};
+ghost use Rattle.store.specs.Answers.{told};
+
+// Makes the count of hour i v in a sound store, whose number of hours becomes the one given. The page's cells are worked out once for the
+// old sum and once for the new one, and nothing is written before they are known to suffice.
+fn change_hour(s: &mut [u8], i: usize, v: u32, hours: usize) -> Answer
+    requires { ⌜ Asked (now s) i × (hours ≡ max (numberAt (now s) 12 4) (i + 1)) ⌝ }
+    ensures { λ r. ⌜ Changes (now (s .entry)) i v (told r) (now (s .exit)) ⌝ }
+{
+    let head = Header::of(s);
+    let p = i / Header::HOURS;
+    let j = i % Header::HOURS;
+    let before = get4(s, entry_at(p));
+    let old = cells_of(before);
+    let mut counts = counts_at(s, head.pages, p, before, old);
+    let was = counts[j];
+    let all = total(s, head.pages);
+    if Header::MAX_TOTAL < all - was as u64 + v as u64 {
+        return Answer::Refused(3);
+    }
+    let after = before - was as u64 + v as u64;
+    let new = cells_of(after);
+    let room = old + head.free;
+    if room < new {
+        return Answer::Refused(12);
+    }
+    counts[j] = v;
+    let code = code_of(counts, after);
+    rewrite(s, head.pages, p, old, new, &code, after, hours);
+    Answer::Changed(
+        lists::excess(new, old) as u64,
+        lists::excess(old, new) as u64,
+    )
+}
+
+// Appends v to the list of a sound store.
+pub fn append(s: &mut [u8], v: u32) -> Answer
+    requires { ⌜ sound (now s) ≡ true ⌝ }
+    ensures { λ r. ⌜ Called (Append v) (now (s .entry)) (told r) (now (s .exit)) ⌝ }
+{
+    let head = Header::of(s);
+    if Header::HOURS * head.pages <= head.hours {
+        return Answer::Refused(11);
+    }
+    change_hour(s, head.hours, v, head.hours + 1)
+}
+
+// Makes count i of a sound store's list v.
+pub fn set(s: &mut [u8], i: u32, v: u32) -> Answer
+    requires { ⌜ sound (now s) ≡ true ⌝ }
+    ensures { λ r. ⌜ Called (Set i v) (now (s .entry)) (told r) (now (s .exit)) ⌝ }
+{
+    let head = Header::of(s);
+    if head.hours <= i as usize {
+        return Answer::Refused(7);
+    }
+    change_hour(s, i as usize, v, head.hours)
+}
