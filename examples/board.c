@@ -7,6 +7,7 @@
  * survives power loss, logs one count an hour and answers questions.  The
  * second half is what the laptop does with the image that the board wrote.
  * At the end every refusal is provoked once, to show what each one looks like.
+ * It compiles as C99 and as C++.
  */
 #include "hourlog.h"
 
@@ -35,29 +36,12 @@ static uint8_t *const copies[2] = {copy_0, copy_1};
 static uint8_t *store; /* the log: the copy in use, found at power-up */
 static uint8_t image[HOURLOG_FREEZE_LENGTH_MAX(PAGES, CELLS, IMAGE_E)];
 
-/* What to tell staff; the index is the refusal's number. */
-static const char *const meaning[] = {
-    "",
-    "e must be 2 to 8",
-    "more than 65,536 counts",
-    "total would pass 4,294,967,295",
-    "buffer too short for the image",
-    "not an image",
-    "image is damaged",
-    "hour not logged",
-    "figure not reached yet",
-    "wrong size for a store",
-    "store is not sound",
-    "log is full",
-    "no cells left"
-};
-
 /* Prints what a call answered.  Every answer is tested before it is used. */
 static void report(const char *call, int64_t answer)
 {
     if (hourlog_is_refused(answer)) {
         int number = hourlog_refusal(answer);
-        printf("%-32s refused %d: %s\n", call, number, meaning[number]);
+        printf("%-32s refused %d: %s\n", call, number, hourlog_refusal_text(number));
     } else {
         printf("%-32s %lld\n", call, (long long)answer);
     }
@@ -79,7 +63,7 @@ static int64_t must(int64_t answer)
 {
     if (hourlog_is_refused(answer)) {
         fprintf(stderr, "unexpected refusal %d: %s\n", hourlog_refusal(answer),
-                meaning[hourlog_refusal(answer)]);
+                hourlog_refusal_text(hourlog_refusal(answer)));
         exit(EXIT_FAILURE);
     }
     return answer;
@@ -87,11 +71,37 @@ static int64_t must(int64_t answer)
 
 /* ---- the board ----------------------------------------------------------- */
 
-/* The copy to change: it starts as what the log is now. */
+/* Finds the log: the copy in use if it is sound, else the other one, which is the
+ * log but for the last change at most.  0 if neither is sound. */
+static int find_log(void)
+{
+    store = copies[in_use & 1];
+    int64_t cells = hourlog_free(store, STORE_LENGTH);
+    if (!hourlog_is_refused(cells)) {
+        return 1;
+    }
+    report("copy in use", cells);
+    uint8_t *other = copies[(in_use & 1) ^ 1];
+    cells = hourlog_free(other, STORE_LENGTH);
+    report("other copy, free cells", cells);
+    if (hourlog_is_refused(cells)) {
+        return 0;
+    }
+    in_use ^= 1;
+    store = other;
+    return 1;
+}
+
+/* The copy to change: it starts as what the log is now.  The log is looked at
+ * before, lest damage be copied over the last good copy.  Where neither is sound,
+ * both stay as they are, and the change will be refused 10. */
 static uint8_t *copy_of_store(void)
 {
+    int found = find_log();
     uint8_t *copy = copies[(in_use & 1) ^ 1];
-    memcpy(copy, store, STORE_LENGTH);
+    if (found) {
+        memcpy(copy, store, STORE_LENGTH);
+    }
     return copy;
 }
 
@@ -104,28 +114,6 @@ static int64_t changed(int64_t answer)
         store = copies[in_use & 1];
     }
     return answer;
-}
-
-/* At power-up the old store is kept if it is sound, and else made anew.  (A
- * board in the field would first copy away what it found: it may be a damaged
- * log and not the blank memory of a first power-up, and the other copy may then
- * hold all but the last change.) */
-static void power_up(void)
-{
-    store = copies[in_use & 1];
-    int64_t cells = hourlog_free(store, STORE_LENGTH);
-    report("power-up", cells);
-    if (hourlog_refusal(cells) == HOURLOG_REFUSED_UNSOUND) {
-        must(changed(hourlog_fresh(copy_of_store(), STORE_LENGTH, PAGES, CELLS)));
-        report("fresh store, free cells", must(hourlog_free(store, STORE_LENGTH)));
-    }
-}
-
-/* Stands in for the coin counter: shut at night, busiest in the evening. */
-static uint32_t coins_in_hour(uint32_t hour)
-{
-    uint32_t of_day = hour % 24;
-    return of_day < 10 ? 0 : (of_day - 9) * (3 + hour / 24);
 }
 
 /* Called by the clock at each full hour; 1 if the hour is logged.  A refused
@@ -146,10 +134,36 @@ static int log_hour(uint32_t coins)
         puts("    -> look at the coin counter: nobody pays that much");
         break;
     default: /* HOURLOG_REFUSED_UNSOUND, the only other one */
-        puts("    -> keep these bytes for repair");
+        puts("    -> both copies are damaged: copy them away before a fresh start");
         break;
     }
     return 0;
+}
+
+/* At power-up the log is looked for in both copies, and made anew only where
+ * neither is sound.  (A board in the field would first copy both away: they may
+ * be a damaged log and not the blank memory of a first power-up.)  Then the log
+ * is brought up to the clock, by which hour 0 began at a midnight, this many full
+ * hours ago: hours that the board slept through have no coins.  A log that is
+ * ahead of the clock is left alone until the clock has passed it. */
+static void power_up(uint32_t full_hours)
+{
+    if (!find_log()) {
+        uint8_t *other = copies[(in_use & 1) ^ 1];
+        must(changed(hourlog_fresh(other, STORE_LENGTH, PAGES, CELLS)));
+    }
+    report("power-up, hours logged", hourlog_hours(store));
+    while (hourlog_hours(store) < full_hours && log_hour(0)) {
+        /* an hour is made up for */
+    }
+    report("up to the clock, hours logged", hourlog_hours(store));
+}
+
+/* Stands in for the coin counter: shut at night, busiest in the evening. */
+static uint32_t coins_in_hour(uint32_t hour)
+{
+    uint32_t of_day = hour % 24;
+    return of_day < 10 ? 0 : (of_day - 9) * (3 + hour / 24);
 }
 
 /* Goes on where the log stopped, which after a power-up can be any hour. */
@@ -163,6 +177,13 @@ static void log_days(uint32_t days)
     printf("logged %u days\n", (unsigned)days);
 }
 
+/* A cash slip names a coin by its number.  Reach answers the first i whose
+ * reading has that coin in it: so it fell in the hour before. */
+static void report_coin(const char *call, int64_t reached)
+{
+    report(call, hourlog_is_refused(reached) ? reached : reached - 1);
+}
+
 static void show_takings(void)
 {
     report("takings of day 0", hourlog_day(store, STORE_LENGTH, 0));
@@ -170,8 +191,29 @@ static void show_takings(void)
     report("takings of day 4, not yet over", hourlog_day(store, STORE_LENGTH, 4));
     report("count of hour 20", hourlog_count(store, STORE_LENGTH, 20));
     report("meter after 72 hours", hourlog_reading(store, STORE_LENGTH, 72));
-    report("meter passed 500 at hour", hourlog_reach(store, STORE_LENGTH, 500));
+    report_coin("coin number 500 fell in hour", hourlog_reach(store, STORE_LENGTH, 500));
+    report("all coins", hourlog_total(store));
     report("free cells", hourlog_free(store, STORE_LENGTH));
+}
+
+/* The supply fails, and the copy in use is damaged.  The other copy is the log
+ * without the last change, which was the append of the last hour: its coins are
+ * what staff add again, from the coin box. */
+static void damaged_copy(void)
+{
+    uint32_t hours = hourlog_hours(store);
+    store[8] ^= 1; /* the number of free cells */
+    power_up(hours);
+    uint32_t right = 0;
+    for (uint32_t hour = 0; hour < hours; hour++) {
+        if (must(hourlog_count(store, STORE_LENGTH, hour)) == coins_in_hour(hour)) {
+            right++;
+        }
+    }
+    printf("hours that are as they were      %u of %u\n", (unsigned)right, (unsigned)hours);
+    uint32_t coins = coins_in_hour(hours - 1);
+    must(changed(hourlog_set(copy_of_store(), STORE_LENGTH, hours - 1, coins)));
+    report("all coins", hourlog_total(store));
 }
 
 /* A test coin was counted as 1,000: staff put it right. */
@@ -199,14 +241,18 @@ static void freeze_to(const char *path)
     report("image written, bytes", length);
 }
 
-/* A log that takes no more: it is saved, and the hour that was refused becomes
- * hour 0 of the next one.  (The log knows no calendar: a board notes with the
- * file which hour its hour 0 was.) */
+/* A log that takes no more: it is saved, and the hour that was refused goes into
+ * the next one, behind the hours of its day that are over.  (The log knows no
+ * calendar: a board notes with the file on which day its hour 0 was.) */
 static void start_over(const char *path, uint32_t refused_coins)
 {
+    uint32_t of_day = hourlog_hours(store) % 24;
     freeze_to(path);
     uint8_t *copy = copy_of_store();
     must(hourlog_fresh(copy, STORE_LENGTH, PAGES, CELLS));
+    while (hourlog_hours(copy) < of_day) {
+        must(hourlog_append(copy, STORE_LENGTH, 0));
+    }
     report_cells("refused hour, in a fresh store",
                  must(changed(hourlog_append(copy, STORE_LENGTH, refused_coins))));
 }
@@ -238,7 +284,7 @@ static void look_into_image(const char *path)
            (unsigned long long)hourlog_checked_total(checked));
     report("image: count of hour 20", hourlog_image_count(image, length, 20));
     report("image: meter after 72 hours", hourlog_image_reading(image, length, 72));
-    report("image: passed 500 at hour", hourlog_image_reach(image, length, 500));
+    report_coin("image: coin 500 fell in hour", hourlog_image_reach(image, length, 500));
 }
 
 /* An image can also be made of a list, without a store. */
@@ -272,20 +318,17 @@ static void refusals_of_the_store(const char *path)
     while (log_hour(0)) {
         /* hours without coins need no cells: they fit until the log is full */
     }
-    store[8] ^= 1; /* the number of free cells */
+    copy_0[8] ^= 1; /* the number of free cells */
+    copy_1[8] ^= 1;
     log_hour(0);
 }
 
 static void refusals_of_the_image(const char *path)
 {
+    static uint32_t counts[HOURLOG_IMAGE_HOURS_MAX + 1];
     size_t length = read_back(path);
-    uint32_t *counts = calloc(65537, sizeof *counts);
-    if (counts == NULL) {
-        perror("calloc");
-        exit(EXIT_FAILURE);
-    }
-    report("length of 65,537 counts", hourlog_image_length(counts, 65537, IMAGE_E));
-    free(counts);
+    report("length of 65,537 counts",
+           hourlog_image_length(counts, HOURLOG_IMAGE_HOURS_MAX + 1, IMAGE_E));
     report("check of half an image", hourlog_image_check(image, length / 2));
     image[length - 1] ^= 0xFF;
     report("check of a damaged image", hourlog_image_check(image, length));
@@ -297,9 +340,10 @@ int main(int argc, char **argv)
         fprintf(stderr, "usage: %s IMAGE-FILE\n", argv[0]);
         return EXIT_FAILURE;
     }
-    power_up();
+    power_up(10); /* the first, at ten in the morning */
     log_days(4);
     show_takings();
+    damaged_copy();
     correct_an_hour();
     freeze_to(argv[1]);
     look_into_image(argv[1]);

@@ -9,10 +9,10 @@
  * A count is coins in one hour.  Hours are numbered from 0, and N hours are
  * logged.  The READING at i is the sum of counts 0 to i-1.
  *
- * Every call returns one int64_t.  Zero or above is the answer; below zero it
- * is minus the number of a refusal.  Refusals are tried in the order that is
- * given with each call.  A refused call changes no byte, and no call ever
- * changes one that it is lent by a const pointer.
+ * Every call returns one int64_t.  Zero or above is success, and the answer;
+ * below zero it is minus the number of a refusal.  Refusals are tried in the
+ * order that is given with each call.  A refused call changes no byte, and no
+ * call ever changes one that it is lent by a const pointer.
  *
  * A pointer must be good for the length given with it; with length 0 it is not
  * followed and may be NULL.  Bytes may lie at any address, counts at one that
@@ -21,6 +21,18 @@
  * A 64-bit value handed to a uint32_t parameter is cut to its low 32 bits by C,
  * before the library sees it: test it first (hourlog_image_reach alone takes a
  * uint64_t).
+ *
+ * THE CLOCK
+ *
+ * The log numbers its hours and knows no calendar.  Let hour 0 begin at a
+ * midnight, and note that date beside the store: then day d is hours 24*d to
+ * 24*d + 23, as hourlog_day takes it.  Let H be the full hours since then, by
+ * the clock, and N the hours logged (hourlog_hours).
+ * Each full hour: append the coins of the hour that is over, which makes N = H.
+ * After fresh: append 0 until N is the hour of the day, and H is that too.
+ * After power-up: while N is behind H, append 0 for each hour slept through.
+ * While N is ahead (the clock was put back), skip: append nothing, and count on,
+ * so that these coins come into the next hour that is logged.
  *
  * WHAT A BOARD HAS TO GIVE
  *
@@ -41,8 +53,12 @@
  * them changes a buffer that another is lent.
  * Power: a call is not atomic.  Cut off within fresh, append or set, it may
  * leave bytes that are not sound, or that are sound and hold another count.
- * Where power can fail, change a copy, and say in a byte of your own beside the
- * two which of them is whole, as examples/board.c does.
+ * Where power can fail, keep two copies.  Change the one that is not in use, and
+ * then say in a byte of your own, beside the two, that it is now in use.  Before
+ * that see that the copy in use is sound, lest damage be copied over the last
+ * good log.  examples/board.c does all this.
+ * Memory that fails: a store has no checksum, and damage can leave it sound with
+ * another count.  Where that is to be seen, keep a checksum of your own.
  */
 #ifndef HOURLOG_H
 #define HOURLOG_H
@@ -52,6 +68,34 @@
 
 #ifdef __cplusplus
 extern "C" {
+#endif
+
+/* ---- versions ---------------------------------------------------------- */
+
+/* Of this header.  MAJOR rises where a call takes or answers something else than
+ * before, MINOR where something is added.  In #if: HOURLOG_VERSION >= 1000. */
+#define HOURLOG_VERSION_MAJOR 1
+#define HOURLOG_VERSION_MINOR 0
+#define HOURLOG_VERSION (1000 * HOURLOG_VERSION_MAJOR + HOURLOG_VERSION_MINOR)
+
+/* Of the bytes: what byte 0 of a store, and of an image, says. */
+#define HOURLOG_STORE_EDITION 1
+#define HOURLOG_IMAGE_EDITION 1
+
+/* ---- for the compiler -------------------------------------------------- */
+
+/* A cast that neither C nor C++ warns of. */
+#ifdef __cplusplus
+#define HOURLOG_AS(type, x) static_cast<type>(x)
+#else
+#define HOURLOG_AS(type, x) ((type)(x))
+#endif
+
+/* Before a call whose answer nobody may pass over: gcc and clang warn of it. */
+#ifdef __GNUC__
+#define HOURLOG_MUST_USE __attribute__((warn_unused_result))
+#else
+#define HOURLOG_MUST_USE
 #endif
 
 /* ---- limits ------------------------------------------------------------ */
@@ -66,7 +110,7 @@ extern "C" {
 
 /* Bytes of a store with P pages and C cells; a constant if P and C are. */
 #define HOURLOG_STORE_LENGTH(P, C) \
-    ((size_t)16 + (size_t)6 * (size_t)(P) + (size_t)32 * (size_t)(C))
+    (16 + 6 * HOURLOG_AS(size_t, P) + 32 * HOURLOG_AS(size_t, C))
 
 /* How many cells a page of 64 hours needs goes by the coins in it:
  *
@@ -80,21 +124,23 @@ extern "C" {
 /* Bytes that suffice for the image of this many hours at page size 2^e,
  * whatever the counts are; a constant if both are.  Most images are far
  * shorter. */
+#define HOURLOG_IMAGE_PAGE(e) (HOURLOG_AS(size_t, 1) << (e))
 #define HOURLOG_IMAGE_PAGES(hours, e) \
-    (((size_t)(hours) + ((size_t)1 << (e)) - 1) >> (e))
-#define HOURLOG_IMAGE_LENGTH_MAX(hours, e)                \
-    ((size_t)16 + 4 * HOURLOG_IMAGE_PAGES(hours, e) +     \
-     (HOURLOG_IMAGE_PAGES(hours, e) *                     \
-          (((size_t)1 << (e)) * (size_t)(35 - (e)) - 4) + \
+    ((HOURLOG_AS(size_t, hours) + HOURLOG_IMAGE_PAGE(e) - 1) >> (e))
+#define HOURLOG_IMAGE_LENGTH_MAX(hours, e)                             \
+    (16 + 4 * HOURLOG_IMAGE_PAGES(hours, e) +                          \
+     (HOURLOG_IMAGE_PAGES(hours, e) *                                  \
+          (HOURLOG_IMAGE_PAGE(e) * HOURLOG_AS(size_t, 35 - (e)) - 4) + \
       7) / 8)
 
-/* Bytes that suffice for freezing any store of P pages and C cells, for e up
- * to 6; a constant if all three are.  With e = 6 it is about the length of the
- * store.  For e of 7 or 8 it can be too short, since a page of the image then
- * spans pages of the store: take HOURLOG_IMAGE_LENGTH_MAX(64 * P, e). */
-#define HOURLOG_FREEZE_LENGTH_MAX(P, C, e)                              \
-    ((size_t)16 + (size_t)30 * (size_t)(C) +                            \
-     8 * HOURLOG_IMAGE_PAGES((size_t)(P) * HOURLOG_HOURS_A_PAGE, (e)))
+/* Bytes that suffice for freezing any store of P pages and C cells; a constant
+ * if all three are.  For e up to 6 a page of the image lies within a page of the
+ * store, and its code takes no more than the cells: at e = 6 that is about the
+ * length of the store.  For e of 7 or 8 it is the figure for any 64*P hours. */
+#define HOURLOG_FREEZE_LENGTH_MAX(P, C, e)                             \
+    ((e) > 6 ? HOURLOG_IMAGE_LENGTH_MAX(64 * HOURLOG_AS(size_t, P), e) \
+             : 16 + 30 * HOURLOG_AS(size_t, C) +                       \
+                   8 * HOURLOG_IMAGE_PAGES(64 * HOURLOG_AS(size_t, P), e))
 
 /* Bytes of stack that suffice for freeze, and for every other call: as measured
  * on x86-64, with some room.  Recursion is never deeper than 8. */
@@ -104,6 +150,9 @@ extern "C" {
 /* ---- refusals ---------------------------------------------------------- */
 
 /*
+ * A refused call answers MINUS one of these numbers.  So compare
+ * hourlog_refusal(answer) with them, never the answer itself.
+ *
  * What to do at one:
  *   1, 2, 4, 7, 8, 9  The arguments do not fit: a matter for the program.  At 4
  *       the macros above say what length suffices, for freeze and for write;
@@ -111,14 +160,16 @@ extern "C" {
  *   3   Nobody pays that much: look at the coin counter.
  *   5, 6  A laptop takes the image from the board again.  At 6, count and
  *       reading still answer for the hours whose path is whole.
- *   10  These bytes are not a sound store, or len is not their length.  A new
- *       board makes a fresh store.  One in use first copies the bytes away:
- *       they may be a log that was damaged.
+ *   10  These bytes are not a sound store, or len is not their length (as after
+ *       an update of the firmware that changes P or C).  First try the other
+ *       copy: if it is sound, it is the log but for the last change at most.
+ *       Only where neither is, make a fresh store; and unless the board is new,
+ *       copy both away before, for they may be a log that was damaged.
  *   11, 12  The log takes no more, and the refused hour is NOT in it.  Save the
- *       log, by freeze or as it stands; make a fresh store; append the refused
- *       count to it, as its hour 0.  At 12 a smaller count may still fit, and
- *       an hour without coins does; but no cell comes back unless a set makes
- *       some count smaller.
+ *       log, by freeze or as it stands; make a fresh store, filled up to the
+ *       hour of the day (see THE CLOCK); append the refused count to it.  At 12
+ *       a smaller count may still fit, and an hour without coins does; but no
+ *       cell comes back unless a set makes some count smaller.
  */
 #define HOURLOG_REFUSED_PAGE_SIZE 1 /* e outside 2 to 8                        */
 #define HOURLOG_REFUSED_LIST 2      /* over 65,536 counts                      */
@@ -143,7 +194,28 @@ static inline int hourlog_is_refused(int64_t answer)
 /* The refusal's number, or 0 if the call was not refused. */
 static inline int hourlog_refusal(int64_t answer)
 {
-    return answer < 0 ? (int)-answer : 0;
+    return answer < 0 ? HOURLOG_AS(int, -answer) : 0;
+}
+
+/* What to tell staff: a text for every number that hourlog_refusal gives. */
+static inline const char *hourlog_refusal_text(int number)
+{
+    switch (number) {
+    case 0: return "no refusal";
+    case HOURLOG_REFUSED_PAGE_SIZE: return "e must be 2 to 8";
+    case HOURLOG_REFUSED_LIST: return "more than 65,536 counts";
+    case HOURLOG_REFUSED_TOTAL: return "total would pass 4,294,967,295";
+    case HOURLOG_REFUSED_BUFFER: return "buffer too short for the image";
+    case HOURLOG_REFUSED_HEADER: return "not an image";
+    case HOURLOG_REFUSED_BODY: return "image is damaged";
+    case HOURLOG_REFUSED_HOUR: return "hour not logged";
+    case HOURLOG_REFUSED_FIGURE: return "figure not reached yet";
+    case HOURLOG_REFUSED_FRESH: return "wrong size for a store";
+    case HOURLOG_REFUSED_UNSOUND: return "store is not sound";
+    case HOURLOG_REFUSED_FULL: return "log is full";
+    case HOURLOG_REFUSED_CELLS: return "no cells left";
+    default: return "unknown refusal";
+    }
 }
 
 /* ---- the live store ---------------------------------------------------- */
@@ -156,69 +228,120 @@ static inline int hourlog_refusal(int64_t answer)
 /* Makes an empty store of P pages and C cells in a buffer of exactly
  * HOURLOG_STORE_LENGTH(P, C) bytes, whatever it held before.
  * Answers 0.  Refuses: 9. */
+HOURLOG_MUST_USE
 int64_t hourlog_fresh(uint8_t *store, size_t len, uint32_t pages, uint32_t cells);
 
 /* Logs the next hour.  Answers how many cells the store took and how many it
  * gave back, as a pair (see hourlog_taken, hourlog_returned); one of the two
  * is 0.  Refuses: 10, 11, 3, 12. */
+HOURLOG_MUST_USE
 int64_t hourlog_append(uint8_t *store, size_t len, uint32_t count);
 
 /* Changes the count of a logged hour.  Answers as append does.
  * Refuses: 10, 7 (hour >= N), 3, 12. */
+HOURLOG_MUST_USE
 int64_t hourlog_set(uint8_t *store, size_t len, uint32_t hour, uint32_t count);
 
 /* The count of an hour.  Refuses: 10, 7 (hour >= N). */
+HOURLOG_MUST_USE
 int64_t hourlog_count(const uint8_t *store, size_t len, uint32_t hour);
 
 /* The sum of the counts before an hour.  Refuses: 10, 7 (hour > N). */
+HOURLOG_MUST_USE
 int64_t hourlog_reading(const uint8_t *store, size_t len, uint32_t hour);
 
-/* The smallest i whose reading is the figure or more.
+/* The smallest i whose reading is the figure or more.  So coin number p, counted
+ * from 1, fell in the hour BEFORE it: hour i - 1 is what a cash slip that says p
+ * belongs to.  For figure 0 it is 0.
  * Refuses: 10, 8 (figure above the total). */
+HOURLOG_MUST_USE
 int64_t hourlog_reach(const uint8_t *store, size_t len, uint32_t figure);
 
 /* The sum of hours 24*day to 24*day + 23.
  * Refuses: 10, 7 (24*day + 24 > N). */
+HOURLOG_MUST_USE
 int64_t hourlog_day(const uint8_t *store, size_t len, uint32_t day);
 
-/* How many cells are free.  It is a question like those above, not the end of
- * the store: it releases nothing and changes no byte.  Refuses: 10. */
+/* How many cells are free; also the way to ask whether a store is sound.  It is
+ * a question like those above, not the end of the store: it releases nothing and
+ * changes no byte.  Refuses: 10. */
+HOURLOG_MUST_USE
 int64_t hourlog_free(const uint8_t *store, size_t len);
 
 /* Writes the image of all logged counts, pages of 2^e counts, and answers its
  * length in bytes.  Bytes of the buffer beyond the image are left unchanged.
  * A smaller e makes the image longer and its queries faster.
  * Refuses: 10, 1, 4. */
+HOURLOG_MUST_USE
 int64_t hourlog_freeze(const uint8_t *store, size_t len, uint32_t e,
                        uint8_t *image, size_t image_len);
 
 /* Cells taken, and cells given back, by an accepted append or set. */
 static inline uint32_t hourlog_taken(int64_t answer)
 {
-    return (uint32_t)((uint64_t)answer & 0xFFFFu);
+    return HOURLOG_AS(uint32_t, HOURLOG_AS(uint64_t, answer) & 0xFFFFu);
 }
 
 static inline uint32_t hourlog_returned(int64_t answer)
 {
-    return (uint32_t)(((uint64_t)answer >> 16) & 0xFFFFu);
+    return HOURLOG_AS(uint32_t, (HOURLOG_AS(uint64_t, answer) >> 16) & 0xFFFFu);
 }
 
-/* N, the hours that a sound store has logged: the next append logs hour N.  It
- * reads bytes 12 to 15 and tests nothing.  After power-up it is good once fresh
- * was not refused, or some other call on the store was not refused with 10. */
+/*
+ * What stands in the bytes of a sound store.  The functions below read these
+ * bytes, whatever they are, and test nothing: after power-up they are good once
+ * some call on the store was not refused with 10.
+ */
+
+/* A number of two bytes, and of four, low byte first. */
+static inline uint32_t hourlog_two_bytes(const uint8_t *at)
+{
+    return HOURLOG_AS(uint32_t, at[0]) | (HOURLOG_AS(uint32_t, at[1]) << 8);
+}
+
+static inline uint32_t hourlog_four_bytes(const uint8_t *at)
+{
+    return hourlog_two_bytes(at) | (hourlog_two_bytes(at + 2) << 16);
+}
+
+/* P and C, as fresh was given them. */
+static inline uint32_t hourlog_pages(const uint8_t *store)
+{
+    return hourlog_two_bytes(store + 2);
+}
+
+static inline uint32_t hourlog_cells(const uint8_t *store)
+{
+    return hourlog_two_bytes(store + 4);
+}
+
+/* N, the hours logged: the next append logs hour N. */
 static inline uint32_t hourlog_hours(const uint8_t *store)
 {
-    return (uint32_t)store[12] | ((uint32_t)store[13] << 8) |
-           ((uint32_t)store[14] << 16) | ((uint32_t)store[15] << 24);
+    return hourlog_four_bytes(store + 12);
+}
+
+/* The total, all coins in the log: the sum of the pages' sums. */
+static inline uint32_t hourlog_total(const uint8_t *store)
+{
+    const uint8_t *const entries = store + 16;
+    const uint32_t pages = hourlog_pages(store);
+    uint32_t total = 0;
+    for (uint32_t page = 0; page < pages; page++) {
+        total += hourlog_four_bytes(entries + 6 * page);
+    }
+    return total;
 }
 
 /* ---- the frozen image -------------------------------------------------- */
 
 /* The length in bytes of the image of n counts.  Refuses: 1, 2, 3. */
+HOURLOG_MUST_USE
 int64_t hourlog_image_length(const uint32_t *counts, size_t n, uint32_t e);
 
 /* Writes that image and answers its length in bytes.  Bytes of the buffer
  * beyond the image are left unchanged.  Refuses: 1, 2, 3, 4. */
+HOURLOG_MUST_USE
 int64_t hourlog_image_write(const uint32_t *counts, size_t n, uint32_t e,
                             uint8_t *image, size_t image_len);
 
@@ -230,30 +353,35 @@ int64_t hourlog_image_write(const uint32_t *counts, size_t n, uint32_t e,
 /* Whether these are exactly the bytes that write makes of some list.  Answers
  * its N and its total as a pair (see hourlog_checked_hours,
  * hourlog_checked_total).  Refuses: 5, 6. */
+HOURLOG_MUST_USE
 int64_t hourlog_image_check(const uint8_t *image, size_t len);
 
 /* The count of an hour; tests only the path to it.
  * Refuses: 5, 7 (hour >= N), 6. */
+HOURLOG_MUST_USE
 int64_t hourlog_image_count(const uint8_t *image, size_t len, uint32_t hour);
 
 /* The sum of the counts before an hour; tests only the path to it.
  * Refuses: 5, 7 (hour > N), 6.  At hour 0 it is 0, whatever the body holds. */
+HOURLOG_MUST_USE
 int64_t hourlog_image_reading(const uint8_t *image, size_t len, uint32_t hour);
 
-/* The smallest i whose reading is the figure or more.
+/* The smallest i whose reading is the figure or more: coin number p fell in hour
+ * i - 1, as in hourlog_reach.
  * Refuses: 5, 8 (figure above the total), 6.  On an image that check refuses
  * with 6 it answers refusal 6 or some index from 0 to N: check first. */
+HOURLOG_MUST_USE
 int64_t hourlog_image_reach(const uint8_t *image, size_t len, uint64_t figure);
 
 /* N, and the total, of an image that check accepted. */
 static inline uint32_t hourlog_checked_hours(int64_t answer)
 {
-    return (uint32_t)((uint64_t)answer >> 40);
+    return HOURLOG_AS(uint32_t, HOURLOG_AS(uint64_t, answer) >> 40);
 }
 
 static inline uint64_t hourlog_checked_total(int64_t answer)
 {
-    return (uint64_t)answer & 0xFFFFFFFFFFu;
+    return HOURLOG_AS(uint64_t, answer) & 0xFFFFFFFFFFu;
 }
 
 #ifdef __cplusplus

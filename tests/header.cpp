@@ -1,10 +1,12 @@
 // The header as C++ sees it: it compiles, its constants are constants, its names
-// link without C++'s mangling, and what it says of lengths, cells, N and NULL is so.
+// link without C++'s mangling, and what it says of lengths, cells, NULL, the bytes of
+// a store and the refusals' texts is so. The stores that docs/FORMAT.md works out are so too.
 #include "hourlog.h"
 
 #undef NDEBUG
 #include <cassert>
 #include <cstdio>
+#include <cstring>
 #include <vector>
 
 static_assert(HOURLOG_STORE_LENGTH(1, 2) == 86, "16 + 6 + 64");
@@ -12,6 +14,8 @@ static_assert(HOURLOG_STORE_LENGTH(HOURLOG_PAGES_MAX, HOURLOG_CELLS_MAX) == 6376
               "the largest store");
 static_assert(HOURLOG_IMAGE_LENGTH_MAX(5, 2) == 16 + 8 + 32, "two pages of 128 bits");
 static_assert(HOURLOG_FREEZE_LENGTH_MAX(1, 2, 6) == 16 + 8 + 60, "one page of two cells");
+static_assert(HOURLOG_FREEZE_LENGTH_MAX(4, 12, 8) == 16 + 4 + 864, "one page of 6,908 bits");
+static_assert(HOURLOG_VERSION == 1000 * HOURLOG_VERSION_MAJOR + HOURLOG_VERSION_MINOR, "");
 
 // One page that holds the greatest total is the longest page of its size.
 static void longest_images()
@@ -24,57 +28,177 @@ static void longest_images()
     }
 }
 
-// The header's table: the greatest sum of a page of 1, 2, .. 7 cells.
+// The header's table: the greatest sum of a page of 1, 2, .. 8 cells.
+static const uint32_t most[] = {122,     1771,     25226,     353686,
+                                4860066, 66043643, 954437176, HOURLOG_TOTAL_MAX};
+
 static void cells_of_a_page()
 {
-    const uint32_t most[] = {122, 1771, 25226, 353686, 4860066, 66043643, 954437176};
     std::vector<uint8_t> store(HOURLOG_STORE_LENGTH(1, HOURLOG_CELLS_A_PAGE_MAX));
     uint32_t cells = 0;
     for (const uint32_t sum : most) {
         cells++;
         assert(hourlog_fresh(store.data(), store.size(), 1, HOURLOG_CELLS_A_PAGE_MAX) == 0);
         assert(hourlog_taken(hourlog_append(store.data(), store.size(), sum)) == cells);
-        assert(hourlog_taken(hourlog_set(store.data(), store.size(), 0, sum + 1)) == 1);
+        assert(sum == HOURLOG_TOTAL_MAX ||
+               hourlog_taken(hourlog_set(store.data(), store.size(), 0, sum + 1)) == 1);
     }
-    assert(cells + 1 == HOURLOG_CELLS_A_PAGE_MAX);
-    assert(hourlog_taken(hourlog_set(store.data(), store.size(), 0, HOURLOG_TOTAL_MAX)) == 0);
+    assert(cells == HOURLOG_CELLS_A_PAGE_MAX);
 }
 
-// Stores filled until they take no more, each hour ever dearer: their images fit.
+// The image of a store fits the buffer that the header measures, for every e.
+static void freezes(const std::vector<uint8_t> &store)
+{
+    const uint32_t pages = hourlog_pages(store.data()), cells = hourlog_cells(store.data());
+    for (uint32_t e = HOURLOG_E_MIN; e <= HOURLOG_E_MAX; e++) {
+        std::vector<uint8_t> image(HOURLOG_FREEZE_LENGTH_MAX(pages, cells, e));
+        const int64_t length =
+            hourlog_freeze(store.data(), store.size(), e, image.data(), image.size());
+        assert(length > 0);
+    }
+}
+
+// As many hours as a store takes, of which hour i is to have counts(i) coins: an hour
+// that is refused has none.
+template <typename Counts>
+static std::vector<uint8_t> filled(uint32_t pages, uint32_t cells, Counts counts)
+{
+    std::vector<uint8_t> store(HOURLOG_STORE_LENGTH(pages, cells));
+    assert(hourlog_fresh(store.data(), store.size(), pages, cells) == 0);
+    for (uint32_t hour = 0; hour < pages * HOURLOG_HOURS_A_PAGE; hour++) {
+        if (hourlog_append(store.data(), store.size(), counts(hour)) < 0) {
+            assert(hourlog_append(store.data(), store.size(), 0) == 0);
+        }
+    }
+    return store;
+}
+
+// Stores that make long images: each hour dearer than the one before; and in every page,
+// every second, .. eighth one the most coins that 1 to 8 cells hold, in its first hour, or
+// shared out over its hours.
 static void freezing_fits()
 {
-    const uint32_t pages = 3;
-    for (uint32_t cells = 1; cells <= pages * HOURLOG_CELLS_A_PAGE_MAX; cells++) {
-        std::vector<uint8_t> store(HOURLOG_STORE_LENGTH(pages, cells));
-        assert(hourlog_fresh(store.data(), store.size(), pages, cells) == 0);
-        for (uint32_t count = 1; !hourlog_is_refused(
-                 hourlog_append(store.data(), store.size(), count)); count += 1 + count / 16) {
-        }
-        for (uint32_t e = HOURLOG_E_MIN; e <= 6; e++) {
-            std::vector<uint8_t> image(HOURLOG_FREEZE_LENGTH_MAX(pages, cells, e));
-            assert(hourlog_freeze(store.data(), store.size(), e, image.data(), image.size()) > 0);
-        }
-        for (uint32_t e = 7; e <= HOURLOG_E_MAX; e++) {
-            std::vector<uint8_t> image(HOURLOG_IMAGE_LENGTH_MAX(64 * pages, e));
-            assert(hourlog_freeze(store.data(), store.size(), e, image.data(), image.size()) > 0);
+    for (uint32_t pages = 1; pages <= 9; pages += 2) {
+        for (uint32_t cells = 1; cells <= pages * HOURLOG_CELLS_A_PAGE_MAX; cells += 1 + cells / 8) {
+            uint32_t dearer = 1;
+            freezes(filled(pages, cells, [&](uint32_t) { return dearer += 1 + dearer / 16; }));
+            for (uint32_t step = 1; step <= 8; step *= 2) {
+                for (const uint32_t sum : most) {
+                    freezes(filled(pages, cells, [=](uint32_t hour) {
+                        return hour % (64 * step) == 0 ? sum : 0;
+                    }));
+                    freezes(filled(pages, cells, [=](uint32_t hour) {
+                        return hour / 64 % step == 0 ? sum / 64 : 0;
+                    }));
+                }
+            }
         }
     }
 }
 
-// N as the store lays it out, low byte first, and as append counts it.
-static void hours_logged()
+// For e of 7 and 8, where no store page holds the image's, no fewer bytes would do.
+static void freezing_needs_it()
 {
-    const uint8_t header[16] = {0, 0, 0, 0, 0, 0, 0, 0, 0, 0, 0, 0, 0x44, 0x33, 0x22, 0x81};
-    assert(hourlog_hours(header) == 0x81223344u);
+    for (uint32_t e = 7; e <= HOURLOG_E_MAX; e++) {
+        const uint32_t pages = 1u << (e - 6);
+        std::vector<uint8_t> store(HOURLOG_STORE_LENGTH(pages, 8));
+        assert(hourlog_fresh(store.data(), store.size(), pages, 8) == 0);
+        assert(hourlog_taken(hourlog_append(store.data(), store.size(), HOURLOG_TOTAL_MAX)) == 8);
+        std::vector<uint8_t> image(HOURLOG_FREEZE_LENGTH_MAX(pages, 8, e));
+        assert(hourlog_freeze(store.data(), store.size(), e, image.data(), image.size() - 1) ==
+               -HOURLOG_REFUSED_BUFFER);
+        assert(static_cast<size_t>(hourlog_freeze(store.data(), store.size(), e, image.data(),
+                                                  image.size())) == image.size());
+    }
+}
 
-    std::vector<uint8_t> store(HOURLOG_STORE_LENGTH(5, 1));
-    assert(hourlog_fresh(store.data(), store.size(), 5, 1) == 0);
-    uint32_t hours = 0;
+// P, C, N and the total as the store lays them out, low byte first, and as the calls count.
+static void bytes_of_a_store()
+{
+    const uint8_t bytes[28] = {1, 0, 2, 0, 7, 8, 0, 0, 0, 0, 0, 0, 0x44, 0x33, 0x22, 0x81,
+                               1, 2, 3, 4, 9, 9, 4, 3, 2, 1, 9, 9};
+    assert(hourlog_pages(bytes) == 2);
+    assert(hourlog_cells(bytes) == 0x0807u);
+    assert(hourlog_hours(bytes) == 0x81223344u);
+    assert(hourlog_total(bytes) == 0x05050505u);
+
+    std::vector<uint8_t> store(HOURLOG_STORE_LENGTH(5, 10));
+    assert(hourlog_fresh(store.data(), store.size(), 5, 10) == 0);
+    assert(store[0] == HOURLOG_STORE_EDITION);
+    assert(hourlog_pages(store.data()) == 5 && hourlog_cells(store.data()) == 10);
+    uint32_t hours = 0, total = 0;
     do {
-        assert(hourlog_hours(store.data()) == hours);
+        assert(hourlog_hours(store.data()) == hours && hourlog_total(store.data()) == total);
+        assert(hourlog_reading(store.data(), store.size(), hours) == total);
+        total += hours % 5;
         hours++;
-    } while (!hourlog_is_refused(hourlog_append(store.data(), store.size(), 0)));
+    } while (!hourlog_is_refused(hourlog_append(store.data(), store.size(), (hours - 1) % 5)));
     assert(hourlog_hours(store.data()) == 5 * HOURLOG_HOURS_A_PAGE);
+}
+
+// docs/FORMAT.md's store of two pages and two cells, counts 3, 0, 5.
+static void worked_store()
+{
+    std::vector<uint8_t> expected{1, 0, 2, 0, 2, 0, 2, 0, 1, 0, 0, 0, 3, 0, 0, 0,
+                                  8, 0, 0, 0, 1, 0, 0, 0, 0, 0, 0, 0,
+                                  0, 0, 0x88, 0x88, 0x3E, 0x80};
+    expected.resize(HOURLOG_STORE_LENGTH(2, 2));
+    std::vector<uint8_t> store(expected.size());
+    assert(hourlog_fresh(store.data(), store.size(), 2, 2) == 0);
+    for (const uint32_t count : {3u, 0u, 5u}) {
+        assert(!hourlog_is_refused(hourlog_append(store.data(), store.size(), count)));
+    }
+    assert(store == expected);
+}
+
+// The cells of a chain, from the number of its first one that stands at an address.
+static std::vector<uint32_t> chain(const std::vector<uint8_t> &store, size_t first)
+{
+    const size_t cells = HOURLOG_STORE_LENGTH(hourlog_pages(store.data()), 0);
+    std::vector<uint32_t> numbers;
+    uint32_t next = hourlog_two_bytes(&store[first]);
+    while (next != 0) {
+        numbers.push_back(next);
+        next = hourlog_two_bytes(&store[cells + 32 * (next - 1)]);
+    }
+    return numbers;
+}
+
+// docs/FORMAT.md's table of chains: the order in which cells are taken and given back.
+static void worked_chains()
+{
+    std::vector<uint8_t> store(HOURLOG_STORE_LENGTH(2, 4));
+    const auto chains = [&](const std::vector<uint32_t> &page_0, const std::vector<uint32_t> &page_1,
+                            const std::vector<uint32_t> &free) {
+        assert(chain(store, 20) == page_0 && chain(store, 26) == page_1 && chain(store, 6) == free);
+    };
+    assert(hourlog_fresh(store.data(), store.size(), 2, 4) == 0);
+    chains({}, {}, {1, 2, 3, 4});
+    assert(hourlog_taken(hourlog_append(store.data(), store.size(), 123)) == 2);
+    chains({1, 2}, {}, {3, 4});
+    for (uint32_t hour = 1; hour < 64; hour++) {
+        assert(hourlog_append(store.data(), store.size(), 0) == 0);
+    }
+    assert(hourlog_taken(hourlog_append(store.data(), store.size(), 1)) == 1);
+    chains({1, 2}, {3}, {4});
+    assert(hourlog_taken(hourlog_set(store.data(), store.size(), 0, 1772)) == 1);
+    chains({1, 2, 4}, {3}, {});
+    assert(hourlog_returned(hourlog_set(store.data(), store.size(), 0, 5)) == 2);
+    chains({1}, {3}, {2, 4});
+}
+
+// A text for every number: each its own, and one for all that there are not.
+static void texts()
+{
+    const char *const unknown = hourlog_refusal_text(HOURLOG_REFUSED_CELLS + 1);
+    assert(hourlog_refusal_text(-1) == unknown);
+    assert(std::strcmp(hourlog_refusal_text(0), "no refusal") == 0);
+    for (int k = 0; k <= HOURLOG_REFUSED_CELLS; k++) {
+        assert(hourlog_refusal_text(k) != unknown);
+        for (int j = 0; j < k; j++) {
+            assert(std::strcmp(hourlog_refusal_text(j), hourlog_refusal_text(k)) != 0);
+        }
+    }
 }
 
 // With length 0 a pointer is not followed and may be NULL, in every call that takes one.
@@ -116,7 +240,11 @@ int main()
     longest_images();
     cells_of_a_page();
     freezing_fits();
-    hours_logged();
+    freezing_needs_it();
+    bytes_of_a_store();
+    worked_store();
+    worked_chains();
+    texts();
     null_with_length_0();
     std::vector<uint8_t> store(HOURLOG_STORE_LENGTH(1, 2));
     assert(hourlog_fresh(store.data(), store.size(), 1, 2) == 0);
@@ -137,6 +265,7 @@ int main()
     assert(length > 0 && static_cast<size_t>(length) <= image.size());
     const int64_t checked = hourlog_image_check(image.data(), static_cast<size_t>(length));
     assert(hourlog_checked_hours(checked) == 1 && hourlog_checked_total(checked) == 122);
+    assert(image[0] == HOURLOG_IMAGE_EDITION);
 
     std::puts("header as C++: good");
     return 0;

@@ -1,7 +1,8 @@
 #!/bin/sh
 # The tests outside the proofs: the library against the second implementation,
-# the C example, the header as C++ and its figures, and comparison and example
-# once more in a build with AddressSanitizer.
+# the C example as C and as C++, the header and its figures, the library installed
+# and used from there, and comparison and example once more in a build with
+# AddressSanitizer.
 #
 # usage: tests/run.sh
 #   HOURLOG_LIB     the folder that holds libhourlog_c.a (else it is built); the
@@ -72,14 +73,48 @@ compare() {
     fi
 }
 
+# Whoever compiles with more warnings gets none from the header; the answer of a
+# call that is passed over is one.
 from_c() {
     echo "== C example and header"
-    build board "$HOURLOG_LIB" gcc -std=c99 -O2 examples/board.c
-    transcript board
-    build header "$HOURLOG_LIB" g++ -std=c++11 -O2 tests/header.cpp
-    "$out/header"
+    strict="-O2 -Wconversion -Wsign-conversion"
+    for standard in c99 c11; do
+        build board-$standard "$HOURLOG_LIB" gcc -std=$standard $strict examples/board.c
+        transcript board-$standard
+    done
+    build board-c++17 "$HOURLOG_LIB" g++ -std=c++17 $strict -x c++ examples/board.c
+    transcript board-c++17
+    for standard in c++11 c++17; do
+        build header-$standard "$HOURLOG_LIB" g++ -std=$standard $strict -Wold-style-cast tests/header.cpp
+    done
+    "$out/header-c++11"
     build stack "$HOURLOG_LIB" gcc -std=c99 -O2 tests/stack.c
     "$out/stack"
+    echo '#include "hourlog.h"
+        void passed_over(void) { hourlog_append(NULL, 0, 1); }' >"$out/passed_over.c"
+    if gcc -Werror -Iinclude -c -o "$out/passed_over.o" "$out/passed_over.c" 2>"$out/passed_over.txt"; then
+        echo "an answer that is passed over gets no warning"
+        return 1
+    fi
+    grep -q 'warn_unused_result' "$out/passed_over.txt"
+}
+
+# The library as a user has it: installed, and found by pkg-config or, where that is
+# missing, by what its file says.
+installed() {
+    echo "== installed"
+    prefix=$PWD/$out/prefix
+    rm -rf "$prefix"
+    ./install.sh "$prefix"
+    file=$prefix/lib/pkgconfig/hourlog.pc
+    if command -v pkg-config >/dev/null; then
+        flags=$(PKG_CONFIG_PATH=$(dirname "$file") pkg-config --cflags --libs hourlog)
+    else
+        flags=$(sed -n "s/^Cflags: //p; s/^Libs: //p" "$file" |
+            sed "s,\${includedir},$prefix/include,; s,\${libdir},$prefix/lib,")
+    fi
+    gcc -std=c99 -O2 examples/board.c $flags -o "$out/board-installed"
+    transcript board-installed
 }
 
 # Leaks are not looked for: the library allocates nothing. A stable rustc does not
@@ -107,6 +142,7 @@ sanitised=$!
 (
     compare
     from_c
+    installed
 ) &
 status=0
 wait $! || status=$?

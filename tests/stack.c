@@ -108,7 +108,7 @@ static void fill(void)
 {
     fresh();
     for (uint32_t k = 0; k < 200; k++) {
-        hourlog_append(STORE, 1 + k % 9);
+        answer = hourlog_append(STORE, 1 + k % 9);
     }
     for (size_t k = 0; k <= LAST; k++) {
         counts[k] = 1000 + (uint32_t)(k % 7);
