@@ -93,8 +93,9 @@ static int find_log(void)
 }
 
 /* The copy to change: it starts as what the log is now.  The log is looked at
- * before, lest damage be copied over the last good copy.  Where neither is sound,
- * both stay as they are, and the change will be refused 10. */
+ * before, lest damage be copied over the last good copy: that takes about as long
+ * as the change.  Where neither copy is sound, both stay as they are, and the
+ * change will be refused 10. */
 static uint8_t *copy_of_store(void)
 {
     int found = find_log();
@@ -177,11 +178,11 @@ static void log_days(uint32_t days)
     printf("logged %u days\n", (unsigned)days);
 }
 
-/* A cash slip names a coin by its number.  Reach answers the first i whose
- * reading has that coin in it: so it fell in the hour before. */
+/* A cash slip names a coin by its number, from 1 on.  Reach answers the first i
+ * whose reading has that coin in it: so it fell in the hour before. */
 static void report_coin(const char *call, int64_t reached)
 {
-    report(call, hourlog_is_refused(reached) ? reached : reached - 1);
+    report(call, reached > 0 ? reached - 1 : reached);
 }
 
 static void show_takings(void)

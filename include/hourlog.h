@@ -7,7 +7,9 @@
  * and reads and writes nothing outside the buffers it is lent.
  *
  * A count is coins in one hour.  Hours are numbered from 0, and N hours are
- * logged.  The READING at i is the sum of counts 0 to i-1.
+ * logged.  The READING at i is the sum of counts 0 to i-1.  A store has P pages
+ * of 64 hours each, and C cells, which are its memory for coins: each page
+ * takes as many of them as its coins need.
  *
  * Every call returns one int64_t.  Zero or above is success, and the answer;
  * below zero it is minus the number of a refusal.  Refusals are tried in the
@@ -25,14 +27,14 @@
  * THE CLOCK
  *
  * The log numbers its hours and knows no calendar.  Let hour 0 begin at a
- * midnight, and note that date beside the store: then day d is hours 24*d to
- * 24*d + 23, as hourlog_day takes it.  Let H be the full hours since then, by
- * the clock, and N the hours logged (hourlog_hours).
- * Each full hour: append the coins of the hour that is over, which makes N = H.
- * After fresh: append 0 until N is the hour of the day, and H is that too.
- * After power-up: while N is behind H, append 0 for each hour slept through.
- * While N is ahead (the clock was put back), skip: append nothing, and count on,
- * so that these coins come into the next hour that is logged.
+ * midnight, and note that date beside the store: then day d, as hourlog_day
+ * sums it, is hours 24*d to 24*d + 23.  With N the hours logged (hourlog_hours)
+ * and H the full hours since that midnight, by a clock without summer time:
+ *   after fresh     append 0 until N is H, the hour of the day;
+ *   each full hour  append the coins of the hour that is over: N is H again;
+ *   after power-up  while N is behind H, append 0 for each hour slept through;
+ *   N ahead of H    (the clock was put back) skip: append nothing and count on,
+ *                   so that these coins come into the next hour logged.
  *
  * WHAT A BOARD HAS TO GIVE
  *
@@ -53,12 +55,12 @@
  * them changes a buffer that another is lent.
  * Power: a call is not atomic.  Cut off within fresh, append or set, it may
  * leave bytes that are not sound, or that are sound and hold another count.
- * Where power can fail, keep two copies.  Change the one that is not in use, and
- * then say in a byte of your own, beside the two, that it is now in use.  Before
- * that see that the copy in use is sound, lest damage be copied over the last
- * good log.  examples/board.c does all this.
- * Memory that fails: a store has no checksum, and damage can leave it sound with
- * another count.  Where that is to be seen, keep a checksum of your own.
+ * Where power can fail, keep two copies, as examples/board.c does.  See that
+ * the copy in use is sound, lest damage be copied over the last good log.  Copy
+ * it over the other one and change that.  Then, and only if the change was not
+ * refused, say in a byte of your own beside the two that this one is in use.
+ * Memory that fails: a store has no checksum, and damage can leave it sound
+ * with another count.  Where that is to be seen, keep a checksum of your own.
  */
 #ifndef HOURLOG_H
 #define HOURLOG_H
@@ -72,8 +74,8 @@ extern "C" {
 
 /* ---- versions ---------------------------------------------------------- */
 
-/* Of this header.  MAJOR rises where a call takes or answers something else than
- * before, MINOR where something is added.  In #if: HOURLOG_VERSION >= 1000. */
+/* Of this header.  MAJOR rises where a call takes or answers something else
+ * than before, MINOR where something is added.  For #if: 1000*MAJOR + MINOR. */
 #define HOURLOG_VERSION_MAJOR 1
 #define HOURLOG_VERSION_MINOR 0
 #define HOURLOG_VERSION (1000 * HOURLOG_VERSION_MAJOR + HOURLOG_VERSION_MINOR)
@@ -134,9 +136,10 @@ extern "C" {
       7) / 8)
 
 /* Bytes that suffice for freezing any store of P pages and C cells; a constant
- * if all three are.  For e up to 6 a page of the image lies within a page of the
- * store, and its code takes no more than the cells: at e = 6 that is about the
- * length of the store.  For e of 7 or 8 it is the figure for any 64*P hours. */
+ * if all three are.  For e up to 6 a page of the image lies within a page of
+ * the store, and all code takes no more than the cells: at e = 6 that is about
+ * the length of the store.  For e of 7 or 8 it is the figure for any 64*P
+ * hours. */
 #define HOURLOG_FREEZE_LENGTH_MAX(P, C, e)                             \
     ((e) > 6 ? HOURLOG_IMAGE_LENGTH_MAX(64 * HOURLOG_AS(size_t, P), e) \
              : 16 + 30 * HOURLOG_AS(size_t, C) +                       \
@@ -157,7 +160,8 @@ extern "C" {
  *   1, 2, 4, 7, 8, 9  The arguments do not fit: a matter for the program.  At 4
  *       the macros above say what length suffices, for freeze and for write;
  *       for write hourlog_image_length says the exact one.
- *   3   Nobody pays that much: look at the coin counter.
+ *   3   Nobody pays that much: look at the coin counter.  The refused hour is
+ *       NOT logged: append it with the right count.
  *   5, 6  A laptop takes the image from the board again.  At 6, count and
  *       reading still answer for the hours whose path is whole.
  *   10  These bytes are not a sound store, or len is not their length (as after
@@ -250,9 +254,9 @@ int64_t hourlog_count(const uint8_t *store, size_t len, uint32_t hour);
 HOURLOG_MUST_USE
 int64_t hourlog_reading(const uint8_t *store, size_t len, uint32_t hour);
 
-/* The smallest i whose reading is the figure or more.  So coin number p, counted
- * from 1, fell in the hour BEFORE it: hour i - 1 is what a cash slip that says p
- * belongs to.  For figure 0 it is 0.
+/* The smallest i whose reading is the figure or more; 0 for figure 0.  So coin
+ * number p, counted from 1, fell in the hour BEFORE it: a cash slip that says p
+ * belongs to hour i - 1.
  * Refuses: 10, 8 (figure above the total). */
 HOURLOG_MUST_USE
 int64_t hourlog_reach(const uint8_t *store, size_t len, uint32_t figure);
@@ -263,8 +267,8 @@ HOURLOG_MUST_USE
 int64_t hourlog_day(const uint8_t *store, size_t len, uint32_t day);
 
 /* How many cells are free; also the way to ask whether a store is sound.  It is
- * a question like those above, not the end of the store: it releases nothing and
- * changes no byte.  Refuses: 10. */
+ * a question like those above, not the end of the store: it releases nothing
+ * and changes no byte.  Refuses: 10. */
 HOURLOG_MUST_USE
 int64_t hourlog_free(const uint8_t *store, size_t len);
 
@@ -288,9 +292,9 @@ static inline uint32_t hourlog_returned(int64_t answer)
 }
 
 /*
- * What stands in the bytes of a sound store.  The functions below read these
- * bytes, whatever they are, and test nothing: after power-up they are good once
- * some call on the store was not refused with 10.
+ * What stands in the bytes of a SOUND store: after power-up, once some call on
+ * it was not refused with 10.  The functions below test nothing; of other bytes
+ * they tell nonsense, and hourlog_total may then read beyond the buffer.
  */
 
 /* A number of two bytes, and of four, low byte first. */
@@ -366,8 +370,8 @@ int64_t hourlog_image_count(const uint8_t *image, size_t len, uint32_t hour);
 HOURLOG_MUST_USE
 int64_t hourlog_image_reading(const uint8_t *image, size_t len, uint32_t hour);
 
-/* The smallest i whose reading is the figure or more: coin number p fell in hour
- * i - 1, as in hourlog_reach.
+/* The smallest i whose reading is the figure or more: coin number p fell in
+ * hour i - 1, as in hourlog_reach.
  * Refuses: 5, 8 (figure above the total), 6.  On an image that check refuses
  * with 6 it answers refusal 6 or some index from 0 to N: check first. */
 HOURLOG_MUST_USE
