@@ -117,9 +117,9 @@ static int64_t changed(int64_t answer)
     return answer;
 }
 
-/* Called by the clock at each full hour; 1 if the hour is logged.  A refused
- * append has changed nothing, so the hour can be logged once its cause is gone. */
-static int log_hour(uint32_t coins)
+/* Logs the next hour; 1 if it is logged.  A refused append has changed nothing,
+ * so the hour can be logged once its cause is gone. */
+static int append(uint32_t coins)
 {
     int64_t answer = changed(hourlog_append(copy_of_store(), STORE_LENGTH, coins));
     if (!hourlog_is_refused(answer)) {
@@ -141,12 +141,29 @@ static int log_hour(uint32_t coins)
     return 0;
 }
 
+/* Brings the log up to the clock, by which hour 0 began at a midnight, this many
+ * full hours ago: hours that the board slept through have no coins.  1 if no hour
+ * is missing. */
+static int catch_up(uint32_t full_hours)
+{
+    int good = find_log();
+    while (good && hourlog_hours(store) < full_hours) {
+        good = append(0);
+    }
+    return good;
+}
+
+/* Called by the clock at each full hour, with the number of the hour that is over.
+ * A log that is ahead of the clock is left alone until the clock has passed it:
+ * the hour is not logged, and its coins stay in the counter. */
+static int log_hour(uint32_t hour, uint32_t coins)
+{
+    return catch_up(hour) && hourlog_hours(store) == hour && append(coins);
+}
+
 /* At power-up the log is looked for in both copies, and made anew only where
  * neither is sound.  (A board in the field would first copy both away: they may
- * be a damaged log and not the blank memory of a first power-up.)  Then the log
- * is brought up to the clock, by which hour 0 began at a midnight, this many full
- * hours ago: hours that the board slept through have no coins.  A log that is
- * ahead of the clock is left alone until the clock has passed it. */
+ * be a damaged log and not the blank memory of a first power-up.) */
 static void power_up(uint32_t full_hours)
 {
     if (!find_log()) {
@@ -154,9 +171,7 @@ static void power_up(uint32_t full_hours)
         must(changed(hourlog_fresh(other, STORE_LENGTH, PAGES, CELLS)));
     }
     report("power-up, hours logged", hourlog_hours(store));
-    while (hourlog_hours(store) < full_hours && log_hour(0)) {
-        /* an hour is made up for */
-    }
+    catch_up(full_hours);
     report("up to the clock, hours logged", hourlog_hours(store));
 }
 
@@ -171,7 +186,7 @@ static uint32_t coins_in_hour(uint32_t hour)
 static void log_days(uint32_t days)
 {
     for (uint32_t hour = hourlog_hours(store); hour < 24 * days; hour++) {
-        if (!log_hour(coins_in_hour(hour))) {
+        if (!log_hour(hour, coins_in_hour(hour))) {
             return;
         }
     }
@@ -197,14 +212,17 @@ static void show_takings(void)
     report("free cells", hourlog_free(store, STORE_LENGTH));
 }
 
-/* The supply fails, and the copy in use is damaged.  The other copy is the log
- * without the last change, which was the append of the last hour: its coins are
- * what staff add again, from the coin box. */
+/* The supply fails, and the copy in use is damaged: first seen at power-up, then
+ * once more while the board runs.  The other copy is the log without the last
+ * change, which was the append of the last hour: its coins are what staff add
+ * again, from the coin box. */
 static void damaged_copy(void)
 {
     uint32_t hours = hourlog_hours(store);
     store[8] ^= 1; /* the number of free cells */
     power_up(hours);
+    store[8] ^= 1;
+    catch_up(hours);
     uint32_t right = 0;
     for (uint32_t hour = 0; hour < hours; hour++) {
         if (must(hourlog_count(store, STORE_LENGTH, hour)) == coins_in_hour(hour)) {
@@ -307,21 +325,21 @@ static void refusals_of_the_store(const char *path)
 {
     report("fresh with no pages",
            changed(hourlog_fresh(copy_of_store(), STORE_LENGTH, 0, CELLS)));
-    log_hour(HOURLOG_TOTAL_MAX);
+    append(HOURLOG_TOTAL_MAX);
     report("count of hour 96", hourlog_count(store, STORE_LENGTH, 96));
     report("reach of 4,000,000,000", hourlog_reach(store, STORE_LENGTH, 4000000000u));
     report("freeze with e = 9", hourlog_freeze(store, STORE_LENGTH, 9, image, sizeof image));
     report("freeze into 20 bytes", hourlog_freeze(store, STORE_LENGTH, IMAGE_E, image, 20));
     report_cells("hour 0 set to 1,000,000,000",
                  changed(hourlog_set(copy_of_store(), STORE_LENGTH, 0, 1000000000u)));
-    log_hour(1000000000u);
+    append(1000000000u);
     start_over(path, 1000000000u);
-    while (log_hour(0)) {
+    while (append(0)) {
         /* hours without coins need no cells: they fit until the log is full */
     }
     copy_0[8] ^= 1; /* the number of free cells */
     copy_1[8] ^= 1;
-    log_hour(0);
+    append(0);
 }
 
 static void refusals_of_the_image(const char *path)
