@@ -2,3 +2,4 @@
 pub mod Bits
 pub mod Pack
 pub mod Numbers
+pub mod Code

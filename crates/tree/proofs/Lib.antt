@@ -15,4 +15,5 @@ pub mod Lowest
 pub mod Fours
 pub mod WalkSteps
 pub mod SeekSteps
+pub mod LowPairs
 pub mod CheckSteps

@@ -21,7 +21,7 @@ unfolding spotted shifted
 spotted-shifted n m nowhere = refl
 spotted-shifted n m (place i) = omega arith
 
-seek-damaged : (h s : ℕ) (b : List ℕ) (a q : ℕ) → leb (leftOf s b a) s ≡ false → seek (suc h) s b a q ≡ nowhere
+pub seek-damaged : (h s : ℕ) (b : List ℕ) (a q : ℕ) → leb (leftOf s b a) s ≡ false → seek (suc h) s b a q ≡ nowhere
 unfolding seek pick
 seek-damaged h s b a q e = rw e
 

@@ -7,12 +7,11 @@ use native.Mathlib.Nat.{mul-le-mul-right}
 use native.Mathlib.Omega.{arith}
 use lib.Dec.{leb, ltb}
 use Rattle.lists.specs.Lists.{pick}
-use Rattle.bits.specs.Bits.{bits, valueFrom}
-use Rattle.reserve.specs.Reserve.{digits, reserve}
+use Rattle.bits.specs.Bits.{valueFrom}
+use Rattle.reserve.specs.Reserve.{digits}
 use Rattle.tree.specs.Read.{leftOf, leftAt, rightAt, Found, damaged, found, later, walk}
-use Rattle.tree.specs.Code.{Lies, Rooted, walkAnswer, Ended, Onward}
+use Rattle.tree.specs.Code.{Rooted, walkAnswer}
 use Rattle.tree.specs.declared.node.Split.{Split}
-use Rattle.tree.specs.declared.walk.Spot.{Spot}
 use Rattle.tree.proofs.WalkLaws.{walk-left, walk-right}
 use Rattle.tree.proofs.Rooting.{Inner}
 
@@ -26,7 +25,7 @@ unfolding walkAnswer later
 answer-later acc k l damaged = refl
 answer-later acc k l (found x c) = omega arith
 
-walk-damaged : (h s : ℕ) (b : List ℕ) (a j : ℕ) → leb (leftOf s b a) s ≡ false → walk (suc h) s b a j ≡ damaged
+pub walk-damaged : (h s : ℕ) (b : List ℕ) (a j : ℕ) → leb (leftOf s b a) s ≡ false → walk (suc h) s b a j ≡ damaged
 unfolding walk pick
 walk-damaged h s b a j e = rw e
 
@@ -57,28 +56,6 @@ module _ (h s : ℕ) (b : List ℕ) (a j acc k : ℕ) where
   pub walk-bad : (h ≡ 0 → ⊥) → {r : Split} → Rooted b a (h - 1) s r → r .ok ≡ false → 2 ^ 63 ≡ walkAnswer acc k (walk h s b a j)
   unfolding walkAnswer
   walk-bad p n e = rw (up p, walk-damaged (h - 1) s b a j (sym (n .ok-is) ∙ e))
-
--- where a tree lies, so does the tree of one count of 0 at bit 0
-none-lies : {b : List ℕ} {a h s : ℕ} → Lies b a h s → Lies b 0 0 0
-unfolding reserve
-none-lies y = record { height = omega arith; total = omega arith; long = y .long; inside = omega arith; small = omega arith }
-
--- a walk that ended, with the answer that is due
-pub at-end : {b : List ℕ} {a h s : ℕ} → Lies b a h s → {acc k n H x : ℕ} {r : Spot} → Ended acc r → acc ≤ 9223372036854775808 → acc ≡ x
-    → Onward b k n H x r
-unfolding walkAnswer walk
-at-end y e i u =
-    record {
-      lies = rw (e .at-is, e .h-is, e .s-is) (none-lies y);
-      fits = omega (arith, e .acc-is, e .s-is);
-      lower = omega (arith, e .h-is);
-      same = rw (e .h-is, e .s-is, e .acc-is) (omega (arith, u));
-    }
-
--- one step more
-pub further : {b : List ℕ} {k n h x : ℕ} {p r : Spot} → Onward b k n h x p
-    → Onward b k 1 (p .h) (walkAnswer (p .acc) k (walk (p .h) (p .s) (bits b) (p .at) (p .j))) r → Onward b k (n + 1) h x r
-further o q = record { lies = q .lies; fits = q .fits; lower = omega (arith, o .lower, q .lower); same = q .same ∙ o .same }
 
 module _ {h s : ℕ} {b : List ℕ} {a : ℕ} {r : Split} (i : Inner b a h s r) where
   said : leftOf s b a ≡ r .left

@@ -1,16 +1,15 @@
 -- What the functions of src/ ask and answer. Assumes nothing.
-use mathlib.Core.Bool.{true}
+use mathlib.Core.Bool.{Bool, true}
 use mathlib.Core.List.{List}
 use mathlib.Core.Path.{_≡_}
-use Prim.Native.Nat.{ℕ, _+_, _-_, _*_, _^_, _≤_, _<_}
+use Prim.Native.Nat.{ℕ, _+_, _-_, _*_, _/_, _%_, _^_, _≤_, _<_}
 use lib.ListN.{length, replicate}
 use lib.Dec.{leb}
-use Rattle.lists.specs.Lists.{part}
-use Rattle.bits.specs.Bits.{bits}
-use Rattle.reserve.specs.Reserve.{reserve}
-use Rattle.tree.specs.Read.{leftOf, leftAt, rightAt, Found, damaged, found, Place, nowhere, place, walk}
+use Rattle.lists.specs.Lists.{part, pick}
+use Rattle.reserve.specs.Reserve.{digits, reserve}
+use Rattle.tree.specs.Read.{leftOf, leftAt, rightAt, Found, damaged, found, Place, nowhere, place}
 use Rattle.tree.specs.declared.node.Split.{Split}
-use Rattle.tree.specs.declared.walk.Spot.{Spot}
+use Rattle.tree.specs.declared.pairs.Pair.{Pair}
 
 -- a tree of 2^h counts with sum s from bit a on lies in the bytes b
 pub record Lies (b : List ℕ) (a h s : ℕ) : Type 0 where
@@ -37,20 +36,12 @@ unfoldable pub walkAnswer : ℕ → ℕ → Found → ℕ
 walkAnswer acc k damaged = 2 ^ 63
 walkAnswer acc k (found x c) = acc + k * x + c
 
--- a walk at its end, with the answer acc
-pub record Ended (acc : ℕ) (r : Spot) : Type 0 where
-  pub at-is : r .at ≡ 0
-  pub h-is : r .h ≡ 0
-  pub s-is : r .s ≡ 0
-  pub acc-is : r .acc ≡ acc
-
--- a walk can go on from r in the bytes b, n levels below height h or at its end, and its answer is still x; k is what it keeps of the
--- counts that it passes
-pub record Onward (b : List ℕ) (k n h x : ℕ) (r : Spot) : Type 0 where
-  pub lies : Lies b (r .at) (r .h) (r .s)
-  pub fits : r .acc + r .s ≤ 9223372036854775808
-  pub lower : r .h ≤ h - n
-  pub same : walkAnswer (r .acc) k (walk (r .h) (r .s) (bits b) (r .at) (r .j)) ≡ x
+-- one of the two pairs of four counts with sum s and left sum l, the right one where c is true, out of the word w at whose high end their
+-- bits stand: its sum, the sum that is passed on the way to it, and its left count
+pub record Entered (w s l : ℕ) (c : Bool) (r : Pair) : Type 0 where
+  pub sum-is : r .sum ≡ pick c (s - l) l
+  pub passed-is : r .passed ≡ pick c l 0
+  pub count-is : r .count ≡ w / 2 ^ (64 - (digits s + digits (r .passed) + digits (r .sum))) % 2 ^ digits (r .sum)
 
 -- how a search answers in one number: the index, and n counts before the tree; above all such numbers for damage
 unfoldable pub spotted : ℕ → Place → ℕ
