@@ -3,7 +3,7 @@ use crate::node::root;
 use bits::word::low_bits;
 use reserve::digits_of;
 use reserve::reserve_of;
-ghost use mathlib.Core.Bool.{true};
+ghost use mathlib.Core.Bool.{true, false};
 ghost use mathlib.Core.Path.{_≡_};
 ghost use Prim.Native.Nat.{_+_, _*_, _≤_, _<_, _^_};
 ghost use lib.ListN.{length};
@@ -53,7 +53,7 @@ fn quad(v: u64, r: u32, s: u64) -> bool
 
 // Whether a tree of 2^h counts that owns r bits is of the lowest two levels and comes out of one load.
 fn one_load(h: u32, r: usize) -> bool
-    ensures { λ q. ⌜ (q ≡ true → (h ≤ 2) × (r ≤ 57)) ⌝ }
+    ensures { λ q. ⌜ (q ≡ true → (h ≤ 2) × (r ≤ 57)) × (q ≡ false → h ≤ 2 → 57 < r) ⌝ }
 {
     if 2 < h {
         return false;
@@ -73,8 +73,37 @@ fn low_levels(b: &[u8], at: usize, h: u32, s: u64, r: usize) -> bool
     quad(v, r as u32, s)
 }
 
-// Whether the tree of 2^h counts with sum s at bit at, which owns r bits, is the code of some list. Each node's reserve is worked out
-// once, by the node above it.
+// Whether the node of height h at bit at, which has sum s and owns r bits, and all below it are some list's code. Each node's reserve is
+// worked out once, by the node above it. Two counts always come out of one load, so the recursion ends above h = 0. The right half comes
+// last, so that the compiler makes its call a jump.
+fn check_node(b: &&[u8], at: usize, h: u32, s: u64, r: usize) -> bool
+    requires { ⌜ Lies (now (now b)) at h s × (r ≡ reserved h s) × (1 ≤ h) ⌝ }
+    ensures { λ q. ⌜ q ≡ exact h s (bits (now (now (b .entry)))) at ⌝ }
+{
+    if s == 0 {
+        return true;
+    }
+    if one_load(h, r) {
+        return low_levels(*b, at, h, s, r);
+    }
+    let down = h - 1;
+    let n = root(*b, at, down, s);
+    if !n.ok {
+        return false;
+    }
+    let right = s - n.left;
+    let rest = reserve_of(down, right);
+    let spare = n.second + rest;
+    if !zero_bits(*b, spare, at + r - spare) {
+        return false;
+    }
+    if !check_node(b, n.first, down, n.left, n.second - n.first) {
+        return false;
+    }
+    check_node(b, n.second, down, right, rest)
+}
+
+// Whether the tree of 2^h counts with sum s at bit at, which owns r bits, is the code of some list.
 pub fn nodes(b: &[u8], at: usize, h: u32, s: u64, r: usize) -> bool
     requires { ⌜ Lies (now b) at h s × (r ≡ reserved h s) ⌝ }
     ensures { λ q. ⌜ q ≡ exact h s (bits (now (b .entry))) at ⌝ }
@@ -82,30 +111,10 @@ pub fn nodes(b: &[u8], at: usize, h: u32, s: u64, r: usize) -> bool
     if h == 0 {
         return true;
     }
-    if s == 0 {
-        return true;
-    }
-    if one_load(h, r) {
-        return low_levels(b, at, h, s, r);
-    }
-    let down = h - 1;
-    let n = root(b, at, down, s);
-    if !n.ok {
-        return false;
-    }
-    if !nodes(&*b, n.first, down, n.left, n.second - n.first) {
-        return false;
-    }
-    let right = s - n.left;
-    let rest = reserve_of(down, right);
-    if !nodes(&*b, n.second, down, right, rest) {
-        return false;
-    }
-    let spare = n.second + rest;
-    zero_bits(b, spare, at + r - spare)
+    check_node(&b, at, h, s, r)
 }
 
-// Whether the tree of 2^h counts with sum s at bit at has no left sum above its node, and zeros in the bits left over.
+// The same of a tree whose reserve is not at hand: it has no left sum above its node, and zeros in the bits left over.
 pub fn check(b: &[u8], at: usize, h: u32, s: u64) -> bool
     requires { ⌜ Lies (now b) at h s ⌝ }
     ensures { λ r. ⌜ r ≡ exact h s (bits (now (b .entry))) at ⌝ }
