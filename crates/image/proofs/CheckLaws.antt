@@ -15,7 +15,8 @@ use Rattle.lists.proofs.Tests.{every-last, every-no, every-of}
 use Rattle.bits.specs.Bits.{bits, value}
 use Rattle.bits.proofs.Packing.{Bits, bits-bytes, bits-drop, bits-take, value-lt}
 use Rattle.reserve.specs.Reserve.{digits, reserve}
-use Rattle.tree.specs.Code.{Lies, walkAnswer as walked}
+use Rattle.tree.specs.Code.Node.{Lies}
+use Rattle.tree_walk.specs.Code.Answers.{walkAnswer as walked}
 use Rattle.tree.specs.Exact.{clear, exact}
 use Rattle.tree.specs.Read.{Found, damaged, found}
 use Rattle.image.specs.Check.{accepted, check, fails, headed, holds}

@@ -9,7 +9,7 @@ use borrow.Author.Tests.{le-leb, lt-leb, leb-true, lt-ltb, le-ltb, ne-eqb}
 use Rattle.lists.specs.Lists.{pick}
 use Rattle.lists.proofs.Tests.{each}
 use Rattle.bits.specs.Bits.{bits}
-use Rattle.tree.specs.Code.{walkAnswer as walked}
+use Rattle.tree_walk.specs.Code.Answers.{walkAnswer as walked}
 use Rattle.tree.specs.Read.{Found, damaged, found, later, leftAt, leftOf, rightAt, walk}
 use Rattle.image.specs.Check.{headed}
 use Rattle.image.specs.Code.{Opened, PageAt, answered}

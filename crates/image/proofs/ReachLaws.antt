@@ -12,7 +12,7 @@ use borrow.Author.Tests.{le-leb, leb-true, lt-leb, lt-ltb}
 use Rattle.lists.specs.Lists.{pick}
 use Rattle.lists.proofs.Tests.{each, left, right}
 use Rattle.bits.specs.Bits.{bits}
-use Rattle.tree.specs.Code.{spotted}
+use Rattle.tree_walk.specs.Code.Answers.{spotted}
 use Rattle.tree.specs.Read.{Place, nowhere, place, seek}
 use Rattle.image.specs.Check.{accepted, headed}
 use Rattle.image.specs.Code.{Opened, PageAt, RootAt}

@@ -5,7 +5,7 @@ use mathlib.Core.Path.{_≡_}
 use Prim.Native.Nat.{ℕ, _+_, _^_, _≤_, _<_}
 use lib.Dec.{eqb}
 use Rattle.lists.specs.Lists.{pick}
-use Rattle.tree.specs.Code.{Lies}
+use Rattle.tree.specs.Code.Node.{Lies}
 use Rattle.image.specs.Check.{headed}
 use Rattle.image.specs.Query.{beforeFits, fits, pageFine}
 use Rattle.image.specs.Read.{beforeOf, eOf, lOf, nOf, rootOf, sOf, startOf, sumOf, treeAt, widthOf}

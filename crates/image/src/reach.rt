@@ -131,7 +131,7 @@ fn reach_in(s: &[u8], h: Head, q: u64, at: Span) -> Answer
     if r.before + r.sum < q {
         return Answer::Refused(6);
     }
-    let i = tree::walk::search(
+    let i = tree_walk::search(
         s,
         r.at,
         h.e,

@@ -45,7 +45,7 @@ fn put_page(out: &mut [u8], counts: &[u32], r: Layout, i: usize, at: Place) -> P
     let tree = at.start + (w as usize);
     put4(out, 16 + 4 * i, at.start as u64);
     put_field(out, r.code + at.start, w, root);
-    tree::write::write(out, r.code + tree, r.e, counts, m * i, s, own);
+    tree_write::write(out, r.code + tree, r.e, counts, m * i, s, own);
     Place {
         start: tree + own,
         before: root,

@@ -18,7 +18,7 @@ pub(crate) fn walk_page(s: &[u8], p: usize, j: usize, acc: u64, keep: u64) -> u6
 {
     let e = entry_of(s, p);
     let code = gather_at(s, e.pages, p, e.cells);
-    tree::walk::walk(&code, 0, 6, e.sum, j as u64, acc, keep)
+    tree_walk::walk(&code, 0, 6, e.sum, j as u64, acc, keep)
 }
 
 // The least index in page p whose prefix sum in it is q or more, and n.
@@ -29,5 +29,5 @@ pub(crate) fn search_page(s: &[u8], p: usize, q: u64, n: u64) -> u64
 {
     let e = entry_of(s, p);
     let code = gather_at(s, e.pages, p, e.cells);
-    tree::walk::search(&code, 0, 6, e.sum, q, n)
+    tree_walk::search(&code, 0, 6, e.sum, q, n)
 }

@@ -15,7 +15,7 @@ use Rattle.bits.proofs.Laws.{bits-append, length-bits}
 use Rattle.bits.proofs.Packing.{length-fill, pack-append, pack-bits, pack-zeros, zeros-bits}
 use Rattle.reserve.specs.Reserve.{reserve}
 use Rattle.tree.specs.Tree.{tree}
-use Rattle.tree.specs.Code.{Lies}
+use Rattle.tree.specs.Code.Node.{Lies}
 use Rattle.tree.specs.Read.{counts}
 use Rattle.tree.specs.Exact.{exact}
 use Rattle.tree.proofs.Shape.{counts-tree, length-tree}

@@ -12,7 +12,7 @@ fn encode(code: &mut [u8], counts: &[u32], s: u64)
     requires { ⌜ (s ≡ sum (now counts)) × (s < 4294967296) ⌝ }
     ensures { λ _. ⌜ now (code .exit) ≡ pageBytes (now (counts .entry)) ++ replicate (240 - 30 * cells s) 0 ⌝ }
 {
-    tree::write::nodes(code, 0, 6, counts, 0, s);
+    tree_write::nodes(code, 0, 6, counts, 0, s);
 }
 
 // The code of a page of sum s, with zeros behind it to the bytes of eight cells.

@@ -23,7 +23,8 @@ use Rattle.reserve.proofs.Fit.{most}
 use Rattle.tree.specs.Exact.{clear, exact}
 use Rattle.tree.specs.Read.{counts, walk}
 use Rattle.tree.specs.Tree.{tree}
-use Rattle.tree.specs.Code.{Lies, walkAnswer}
+use Rattle.tree.specs.Code.Node.{Lies}
+use Rattle.tree_walk.specs.Code.Answers.{walkAnswer}
 use Rattle.tree.proofs.Clearing.{clear-none}
 use Rattle.tree.specs.Exact.{Coded}
 use Rattle.tree.proofs.Exacts.{exact-coded, exact-zero, tree-exact}

@@ -24,7 +24,7 @@ fn hours_fit(code: &[u8], s: u64, p: usize, hours: usize) -> bool
     if hours <= first {
         return s == 0;
     }
-    tree::walk::walk(code, 0, 6, s, (hours - first - 1) as u64, 0, 1) == s
+    tree_walk::walk(code, 0, 6, s, (hours - first - 1) as u64, 0, 1) == s
 }
 
 // Whether the bytes of k cells at the front of code are those of page p of sum s.
@@ -35,11 +35,11 @@ pub(crate) fn page_fits(code: &[u8], k: usize, s: u64, p: usize, hours: usize) -
     if s == 0 {
         return true;
     }
-    if !tree::check::check(code, 0, 6, s) {
+    if !tree_check::check(code, 0, 6, s) {
         return false;
     }
     let used = reserve::reserve_of(6, s);
-    if !tree::check::zero_bits(code, used, Header::BITS * k - used) {
+    if !tree_check::zero_bits(code, used, Header::BITS * k - used) {
         return false;
     }
     hours_fit(code, s, p, hours)

@@ -12,7 +12,7 @@ use Rattle.lists.specs.Lists.{splice}
 use Rattle.lists.proofs.Tests.{each}
 use Rattle.tree.specs.Read.{leftOf, leftAt, rightAt, counts}
 use Rattle.tree.specs.Exact.{clear, spareAt, spareLen, exact}
-use Rattle.tree.specs.Code.{Rooted}
+use Rattle.tree.specs.Code.Node.{Rooted}
 use Rattle.tree.specs.declared.node.Split.{Split}
 use Rattle.tree.proofs.Shape.{length-counts}
 use Rattle.lists.proofs.Parts.{splice-then}
@@ -33,13 +33,13 @@ both-exact h s b a e =
     record { le = w .0; left = w .1 .0; right = w .1 .1 .0 }
 
 -- a code's node that was read as r is no damage
-pub record Opened (b : List ℕ) (a h s : ℕ) (r : Split) : Type 0 where
+pub record Unfolded (b : List ℕ) (a h s : ℕ) (r : Split) : Type 0 where
   pub node : Inner b a h s r
   pub left-exact : exact (h - 1) (r .left) b (r .first) ≡ true
   pub right-exact : exact (h - 1) (s - r .left) b (r .second) ≡ true
 
-pub opened : {b : List ℕ} {a h s : ℕ} {r : Split} → (h ≡ 0 → ⊥) → exact h s b a ≡ true → Rooted b a (h - 1) s r → Opened b a h s r
-opened {b} {a} {h} {s} {r} p x n =
+pub unfolded : {b : List ℕ} {a h s : ℕ} {r : Split} → (h ≡ 0 → ⊥) → exact h s b a ≡ true → Rooted b a (h - 1) s r → Unfolded b a h s r
+unfolded {b} {a} {h} {s} {r} p x n =
     let up : suc (h - 1) ≡ h = omega (arith, p) in
     let q = both-exact (h - 1) s b a (ap (λ (k : ℕ). exact k s b a) up ∙ x) in
     let k : r .ok ≡ true = n .ok-is ∙ q .le in

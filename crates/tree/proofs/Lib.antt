@@ -1,8 +1,6 @@
--- Laws of the definitions.
+-- Laws of the definitions, and of the code's steps.
 pub mod Shape
 pub mod Windows
-pub mod Blank
-pub mod Writing
 pub mod Decoding
 pub mod WalkLaws
 pub mod SearchLaws
@@ -11,9 +9,4 @@ pub mod RangeLaws
 pub mod Rooting
 pub mod Clearing
 pub mod Local
-pub mod Lowest
-pub mod Fours
-pub mod WalkSteps
-pub mod SeekSteps
-pub mod LowPairs
-pub mod CheckSteps
+pub mod TwoCounts

@@ -15,7 +15,7 @@ use Rattle.reserve.proofs.Exact.{digits-le}
 use Rattle.reserve.proofs.Fit.{fit-all}
 use Rattle.tree.specs.Read.{leftOf, leftAt, rightAt}
 use Rattle.tree.specs.Exact.{spareAt}
-use Rattle.tree.specs.Code.{Lies, Rooted}
+use Rattle.tree.specs.Code.Node.{Lies, Rooted}
 use Rattle.tree.specs.declared.node.Split.{Split}
 
 -- a node of height h + 1 and left sum l

@@ -8,7 +8,7 @@ ghost use Rattle.lists.specs.Lists.{splice};
 ghost use Rattle.bits.specs.Bits.{bits};
 ghost use Rattle.tree.specs.Read.{counts};
 ghost use Rattle.tree.specs.Exact.{exact};
-ghost use Rattle.tree.specs.Code.{Lies};
+ghost use Rattle.tree.specs.Code.Node.{Lies};
 
 // Puts the counts of the tree of 2^h counts with sum s at bit at, which is some list's code, into out from index from on.
 pub fn decode(b: &[u8], at: usize, h: u32, s: u64, out: &mut [u32], from: usize)

@@ -1,12 +1,6 @@
-// The tree code: 2^h counts with a known sum as bits. Writing, checking, decoding and walking are recursions in which h falls;
-// a tree's bits are read and written by their address in the whole slice.
-mod by_index;
-mod by_sum;
-pub mod check;
-mod damage;
+// The tree code: 2^h counts with a known sum as bits. Here are its definitions and laws, the reading of a node, and the counts of a tree;
+// `tree_write`, `tree_check` and `tree_walk` have the other recursions. In all of them h falls; a tree's bits are read and written by their
+// address in the whole slice.
 pub mod decode;
-mod node;
-mod pairs;
+pub mod node;
 pub mod sums;
-pub mod walk;
-pub mod write;

@@ -1,7 +1,7 @@
 // The root of a tree: its left sum, and where its two subtrees start.
 ghost use Prim.Native.Nat.{_+_, _<_};
 ghost use Rattle.bits.specs.Bits.{bits};
-ghost use Rattle.tree.specs.Code.{Lies, Rooted};
+ghost use Rattle.tree.specs.Code.Node.{Lies, Rooted};
 
 // A node that was read. Where its left sum is above its sum, ok is false and the rest says nothing.
 pub struct Split {
@@ -12,7 +12,7 @@ pub struct Split {
 }
 
 // Reads the root of a tree of 2^(h + 1) counts with sum s at bit at.
-pub(crate) fn root(b: &[u8], at: usize, h: u32, s: u64) -> Split
+pub fn root(b: &[u8], at: usize, h: u32, s: u64) -> Split
     requires { ⌜ Lies (now b) at (h + 1) s ⌝ }
     ensures { λ r. ⌜ Rooted (bits (now (b .entry))) at h s r ⌝ }
 {

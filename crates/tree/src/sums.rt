@@ -1,19 +1,7 @@
-// Counts of a list that goes on with zeros, and their sums.
+// Sums of counts of a list that goes on with zeros.
 ghost use mathlib.Core.Path.{_≡_};
 ghost use Prim.Native.Nat.{_+_, _≤_, _<_, _^_};
-ghost use lib.ListN.{getD};
 ghost use Rattle.lists.specs.Lists.{sum, window};
-
-// The count at index i, 0 beyond the end.
-pub fn count_at(counts: &[u32], i: usize) -> u64
-    ensures { λ r. ⌜ r ≡ getD (now (counts .entry)) i 0 ⌝ }
-{
-    if i < counts.len() {
-        counts[i] as u64
-    } else {
-        0
-    }
-}
 
 // The sum of the n counts from index from on, none beyond the end.
 pub fn sum_of(counts: &[u32], from: usize, n: usize) -> u64

@@ -4,8 +4,8 @@ use Prim.Native.Nat.{ℕ}
 use native.Mathlib.Omega.{arith}
 use lib.Pow.{pow-pos}
 use borrow.Author.Tests.{not-true, not-false}
-use Rattle.tree.specs.Code.{Lies}
-use Rattle.tree.proofs.WalkSteps.{kept}
+use Rattle.tree.specs.Code.Node.{Lies}
+use Rattle.tree_walk.proofs.WalkSteps.{kept}
 use Rattle.image.proofs.HeadLaws.{plain}
 use Rattle.image.proofs.QueryLaws.{look-bad, look-good, look-page}
 use Rattle.image.proofs.query.look.Statement.{statement}

@@ -4,7 +4,7 @@ use mathlib.Core.Bool.{true}
 use Prim.Native.Nat.{ℕ, _+_, _*_, _^_, _≤_, _<_}
 use native.Mathlib.Omega.{arith}
 use borrow.Author.Tests.{not-true, not-false}
-use Rattle.tree.specs.Code.{Lies}
+use Rattle.tree.specs.Code.Node.{Lies}
 use Rattle.image.specs.Answers.{told}
 use Rattle.image.specs.Reach.{Reach}
 use Rattle.image.specs.Reply.{given, refused}

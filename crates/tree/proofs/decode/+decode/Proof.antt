@@ -5,7 +5,7 @@ use Prim.Native.Nat.{ℕ, _+_, _-_, _^_, _≤_, _<_}
 use native.Mathlib.Omega.{arith}
 use Rattle.bits.specs.Bits.{bits}
 use Rattle.tree.proofs.Rooting.{top, halved, left-lies, right-lies}
-use Rattle.tree.proofs.Decoding.{Opened, opened, one-count, both-halves}
+use Rattle.tree.proofs.Decoding.{Unfolded, unfolded, one-count, both-halves}
 use borrow.Author.Needs.{needs}
 use borrow.Fn.Kinds.{In}
 use borrow.Fn.PlainCycle.{Measures, is, falls, and}
@@ -41,11 +41,11 @@ module _ (t : ℕ) (c : decode-lts.After-root (callees t) (decode-at t) decode.P
   abbrev call : decode-lts.Start (callees t) (decode-at t) decode.Post
   call = c .before .before .before .before
 
-  opened-at : Opened (bits (call .args .b .now)) (call .args .at) (call .args .h) (call .args .s) (c .root .result)
-  opened-at = opened (c .before .if1 .left) (call .pre .1 .1) (c .root .ensures)
+  unfolded-at : Unfolded (bits (call .args .b .now)) (call .args .at) (call .args .h) (call .args .s) (c .root .result)
+  unfolded-at = unfolded (c .before .if1 .left) (call .pre .1 .1) (c .root .ensures)
 
   left-le : c .root .result .left ≤ call .args .s
-  left-le = opened-at .node .root .left-le (opened-at .node .sound)
+  left-le = unfolded-at .node .root .left-le (unfolded-at .node .sound)
 
   half-is : 2 ^ (call .args .h - 1) + 2 ^ (call .args .h - 1) ≡ 2 ^ call .args .h
   half-is = halved (call .args .h) (c .before .if1 .left)
@@ -82,7 +82,7 @@ decode-power-requires t c κs = omega arith
 decode-decode-requires : (t : ℕ) → decode-lts.Need-decode-requires (callees t) (decode-at t) decode.Post
 decode-decode-requires t c κs =
     let n = c .before .before in
-    let w = opened-at t n in
+    let w = unfolded-at t n in
     (omega arith, (left-lies (call t n .pre .1 .0) (w .node), w .left-exact, omega (arith, left-le t n), omega (arith, half-is t n)))
 
 decode-sub-decode : (t : ℕ) → decode-lts.Need-sub-decode (callees t) (decode-at t) decode.Post
@@ -96,7 +96,7 @@ decode-add-decode t c =
 decode-decode-requires-2 : (t : ℕ) → decode-lts.Need-decode-requires-2 (callees t) (decode-at t) decode.Post
 decode-decode-requires-2 t c κs =
     let n = c .before .before .before .before .before .before .before in
-    let w = opened-at t n in
+    let w = unfolded-at t n in
     let k = c .before .before .before .before .decode .kept .1 .1 .1 .1 .0 in
     (omega arith, (right-lies (call t n .pre .1 .0) (w .node), w .right-exact, omega arith, omega (arith, half-is t n)))
 
@@ -110,7 +110,7 @@ decode-returns-2 t c =
     let half = c .before .before .before .before .before .before .before .before .before .power in
     let one = c .before .before .before .before .before .before .before .decode in
     let two = c .before .before .decode2 in
-    both-halves (opened-at t n .node) (a .out .now) (one .last .1 .1 .1 .1 .0) (two .last .1 .1 .1 .1 .0) (a .from) (half .result)
+    both-halves (unfolded-at t n .node) (a .out .now) (one .last .1 .1 .1 .1 .0) (two .last .1 .1 .1 .1 .0) (a .from) (half .result)
     (half .ensures) (call t n .pre .1 .3) (one .ensures) (two .ensures)
 
 pub +decode-spec : {M : Type 1} → statement M

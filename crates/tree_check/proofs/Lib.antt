@@ -1,0 +1,3 @@
+-- Laws of the check's steps.
+pub mod Lowest
+pub mod CheckSteps

@@ -1,0 +1,200 @@
+-- The lowest two levels of a tree, out of one number: the four counts' bits as the number v in r bits. Assumes nothing.
+use mathlib.Core.Path.{_≡_, refl, sym, ap, ap₂, _∙_}
+use mathlib.Core.Bool.{Bool, true, false, and-true}
+use mathlib.Core.List.{List, [], _∷_}
+use Prim.Native.Nat.{ℕ, zero, suc, _+_, _-_, _*_, _/_, _%_, _^_, _≤_, _<_}
+use native.Mathlib.Nat.{mod-lt, mod-eq-of-lt}
+use native.Mathlib.Omega.{arith}
+use lib.ListN.{length, take, drop}
+use lib.Seq.{take-all}
+use lib.Dec.{leb, eqb}
+use lib.Pow.{pow-pos, shr-lt}
+use borrow.Author.Tests.{le-leb, lt-leb}
+use Rattle.lists.specs.Lists.{every, same, part}
+use Rattle.lists.proofs.Parts.{length-part}
+use Rattle.bits.specs.Bits.{field, value, bits}
+use Rattle.bits.proofs.Laws.{length-field, length-bits}
+use Rattle.bits.proofs.Packing.{bits-bytes, bits-field, bits-take, bits-drop, value-field, value-lt}
+use Rattle.bits.proofs.Words.{field-get}
+use Rattle.reserve.specs.Reserve.{digits, reserve}
+use Rattle.reserve.proofs.Exact.{digits-le}
+use Rattle.reserve.proofs.Fit.{fit-all, one-count}
+use Rattle.tree.specs.Read.{leftOf, leftAt, rightAt}
+use Rattle.tree.specs.Exact.{clear, spareAt, spareLen, exact}
+use Rattle.tree.proofs.Clearing.{clear-value}
+use Rattle.tree.specs.Code.Node.{Lies}
+use Rattle.tree.proofs.Exacts.{field-part}
+use Rattle.tree.proofs.TwoCounts.{reserve-pair}
+use Rattle.tree.proofs.Local.{tests, exact-tests, exact-local}
+
+-- ---- two counts: their tree is one field
+clear-nothing : (b : List ℕ) (a n : ℕ) → n ≡ 0 → clear b a n ≡ true
+unfolding clear same
+clear-nothing b a zero e = refl
+clear-nothing b a (suc n) e = absurd (omega (arith, e))
+
+pub exact-pair : (s : ℕ) (b : List ℕ) (a : ℕ) → exact 1 s b a ≡ leb (leftOf s b a) s
+unfolding exact every
+exact-pair s b a =
+    let l : ℕ = leftOf s b a in
+    let none : spareLen 0 s l ≡ 0 = omega (arith, reserve-pair s, one-count l, one-count (s - l)) in
+    rw (clear-nothing b (spareAt 0 s l a) (spareLen 0 s l) none, and-true (leb l s))
+
+-- ---- a piece of a field, as a number
+pub value-piece : (r v k n : ℕ) → k + n ≤ r → value (part (field r v) k n) ≡ v / 2 ^ (r - (k + n)) % 2 ^ n
+value-piece r v k n l =
+    let low : ℕ = r - (k + n) in
+    let g : field r v ≡ take r (drop 0 (field r v)) = sym (take-all r (field r v) (omega (arith, length-field r v))) in
+    ap (λ (z : ℕ). value (part (field r v) z n)) {x = k} {y = 0 + k} (omega arith)
+    ∙ ap value (field-get (field r v) 0 r k n low v (omega arith) g (omega (arith, length-field r v)))
+    ∙ value-field n (v / 2 ^ low % 2 ^ n) (mod-lt (v / 2 ^ low) (pow-pos n))
+
+-- ---- four counts: left sum l, the pairs' left counts x and y, and zeros
+abbrev pub fourTests : ℕ → ℕ → ℕ → ℕ → ℕ → List Bool
+fourTests s l x y z = leb l s ∷ leb x l ∷ leb y (s - l) ∷ eqb z 0 ∷ []
+
+-- the bits behind each of the three fields
+abbrev pub behind : ℕ → ℕ → ℕ
+behind r s = r - digits s
+
+module _ (s r v l : ℕ) (er : r ≡ reserve 2 s) (small : v < 2 ^ r) (el : l ≡ v / 2 ^ behind r s) where
+  room : digits s ≤ r
+  room = omega (arith, er, fit-all 1 s 0 s (omega arith))
+
+  pub left-four : leftOf s (field r v) 0 ≡ l
+  unfolding leftOf
+  left-four =
+      let e : r - (0 + digits s) ≡ r - digits s = omega arith in
+      let w : v < 2 ^ (digits s + behind r s) = ap-lt (omega (arith, room)) in
+      value-piece r v 0 (digits s) (omega (arith, room))
+      ∙ ap (λ (k : ℕ). v / 2 ^ k % 2 ^ digits s) e
+      ∙ mod-eq-of-lt (shr-lt (digits s) (behind r s) w)
+      ∙ sym el
+    where
+      ap-lt : {k : ℕ} → r ≡ k → v < 2 ^ k
+      ap-lt e = rw (sym e) small
+
+  module _ (le : l ≤ s) where
+    fits : digits s + digits l + digits (s - l) ≤ r
+    fits = omega (arith, er, fit-all 1 s l (s - l) (omega arith), reserve-pair l, reserve-pair (s - l))
+
+    -- the left pair's left count
+    abbrev pub leftCount : ℕ
+    leftCount = v / 2 ^ (behind r s - digits l) % 2 ^ digits l
+
+    abbrev pub rightCount : ℕ
+    rightCount = v / 2 ^ (behind r s - digits l - digits (s - l)) % 2 ^ digits (s - l)
+
+    abbrev pub rest : ℕ
+    rest = v % 2 ^ (behind r s - digits l - digits (s - l))
+
+    left-pair : exact 1 l (field r v) (leftAt s 0) ≡ leb leftCount l
+    unfolding leftOf
+    left-pair =
+        let e : r - (0 + digits s + digits l) ≡ r - digits s - digits l = omega arith in
+        exact-pair l (field r v) (leftAt s 0)
+        ∙ ap (λ (z : ℕ). leb z l) (value-piece r v (0 + digits s) (digits l) (omega (arith, fits)) ∙ ap (λ (k : ℕ). v / 2 ^ k % 2 ^ digits l) e)
+
+    right-pair : exact 1 (s - l) (field r v) (rightAt 1 s l 0) ≡ leb rightCount (s - l)
+    unfolding leftOf
+    right-pair =
+        let e : r - (0 + digits s + reserve 1 l + digits (s - l)) ≡ r - digits s - digits l - digits (s - l) = omega (arith, reserve-pair l) in
+        exact-pair (s - l) (field r v) (rightAt 1 s l 0)
+        ∙ ap (λ (z : ℕ). leb z (s - l))
+        (value-piece r v (0 + digits s + reserve 1 l) (digits (s - l)) (omega (arith, fits, reserve-pair l)) ∙ ap (λ (k : ℕ). v / 2 ^ k % 2 ^ digits (s - l)) e)
+
+    spare-four : clear (field r v) (spareAt 1 s l 0) (spareLen 1 s l) ≡ eqb rest 0
+    spare-four =
+        let n : ℕ = r - digits s - digits l - digits (s - l) in
+        let a : spareAt 1 s l 0 ≡ r - n = omega (arith, fits, reserve-pair l, reserve-pair (s - l)) in
+        let k : spareLen 1 s l ≡ n = omega (arith, er, fits, reserve-pair l, reserve-pair (s - l)) in
+        let z : r - (r - n + n) ≡ 0 = omega arith in
+        ap₂ (clear (field r v)) a k
+        ∙ clear-value (field r v) (r - n) n (bits-field r v) (omega (arith, length-field r v))
+        ∙ ap (λ (x : ℕ). eqb x 0) (value-piece r v (r - n) n (omega arith) ∙ ap (λ (y : ℕ). v / 2 ^ y % 2 ^ n) z ∙ ap (λ (y : ℕ). y % 2 ^ n) (whole v))
+      where
+        whole : (x : ℕ) → x / 2 ^ 0 ≡ x
+        whole x = omega arith
+
+    pub four-is : exact 2 s (field r v) 0 ≡ every (fourTests s l leftCount rightCount rest)
+    unfolding tests every
+    four-is =
+        exact-tests 1 s (field r v) 0 ∙ ap (λ (z : ℕ). tests 1 s z (field r v) 0) left-four
+        ∙ rw (left-pair, right-pair, spare-four)
+
+  pub four-above : s < l → exact 2 s (field r v) 0 ≡ false
+  unfolding tests every
+  four-above k = exact-tests 1 s (field r v) 0 ∙ ap (λ (z : ℕ). tests 1 s z (field r v) 0) left-four ∙ rw (lt-leb l s k)
+
+-- ---- the same in the code's own numbers: the digits t, f and g of s, l and s - l, and the counts x and y of the pairs
+pub record Quad (s r v t l : ℕ) : Type 0 where
+  pub reserved : r ≡ reserve 2 s
+  pub few : r ≤ 57
+  pub small : v < 2 ^ r
+  pub total : s < 1099511627776
+  pub top : t ≡ digits s
+  pub left : l ≡ v / 2 ^ (r - t)
+
+pub high-fits : (s r t : ℕ) → r ≡ reserve 2 s → t ≡ digits s → t ≤ r
+high-fits s r t er et = omega (arith, er, et, fit-all 1 s 0 s (omega arith))
+
+module _ {s r v t l : ℕ} (q : Quad s r v t l) where
+  left-is : l ≡ v / 2 ^ behind r s
+  left-is = q .left ∙ ap (λ (k : ℕ). v / 2 ^ (r - k)) (q .top)
+
+  pub quad-above : s < l → false ≡ exact 2 s (field r v) 0
+  quad-above k = sym (four-above s r v l (q .reserved) (q .small) left-is k)
+
+  module _ (le : l ≤ s) (f g : ℕ) (ef : f ≡ digits l) (eg : g ≡ digits (s - l)) where
+    pub widths : (t + f + g ≤ r) × (f < 64) × (g < 64)
+    widths = (
+      omega (arith, q .top, ef, eg, fits s r v l (q .reserved) (q .small) left-is le),
+      omega (arith, digits-le l 40 (omega (arith, q .total))),
+      omega (arith, digits-le (s - l) 40 (omega (arith, q .total))),
+    )
+
+    tested : (x y z : ℕ) → x ≡ v / 2 ^ (r - t - f) % 2 ^ f → y ≡ v / 2 ^ (r - t - f - g) % 2 ^ g → z ≡ v % 2 ^ (r - t - f - g)
+        → exact 2 s (field r v) 0 ≡ every (fourTests s l x y z)
+    tested x y z ex ey ez =
+        four-is s r v l (q .reserved) (q .small) left-is le
+        ∙ sym (rw (ex, ey, ez, q .top, ef, eg))
+
+    pub quad-left : (x : ℕ) → x ≡ v / 2 ^ (r - t - f) % 2 ^ f → l < x → false ≡ exact 2 s (field r v) 0
+    unfolding every
+    quad-left x ex k = sym (tested x _ _ ex refl refl ∙ rw (le-leb l s le, lt-leb x l k))
+
+    pub quad-right : (x y : ℕ) → x ≡ v / 2 ^ (r - t - f) % 2 ^ f → x ≤ l → y ≡ v / 2 ^ (r - t - f - g) % 2 ^ g → s - l < y
+        → false ≡ exact 2 s (field r v) 0
+    unfolding every
+    quad-right x y ex kx ey k = sym (tested x y _ ex ey refl ∙ rw (le-leb l s le, le-leb x l kx, lt-leb y (s - l) k))
+
+    pub quad-last : (x y z : ℕ) → x ≡ v / 2 ^ (r - t - f) % 2 ^ f → x ≤ l → y ≡ v / 2 ^ (r - t - f - g) % 2 ^ g → y ≤ s - l
+        → z ≡ v % 2 ^ (r - t - f - g) → eqb z 0 ≡ exact 2 s (field r v) 0
+    unfolding every
+    quad-last x y z ex kx ey ky ez =
+        sym (tested x y z ex ey ez ∙ rw (le-leb l s le, le-leb x l kx, le-leb y (s - l) ky, and-true (eqb z 0)))
+
+-- ---- the number in a tree's own bits
+module _ (b : List ℕ) (a h s r v : ℕ) (y : Lies b a h s) (er : r ≡ reserve h s) (ev : v ≡ value (part (bits b) a r)) where
+  inside : a + r ≤ length (bits b)
+  inside = omega (arith, er, y .inside, length-bits b)
+
+  pub own-lt : v < 2 ^ r
+  own-lt =
+      let w = value-lt (part (bits b) a r) 0 (bits-take r (drop a (bits b)) (bits-drop a (bits b) (bits-bytes b))) in
+      let n : 2 ^ length (part (bits b) a r) ≡ 2 ^ r = ap (λ (k : ℕ). 2 ^ k) (length-part (bits b) a r inside) in
+      omega (arith, ev)
+
+  pub own-pair : h ≡ 1 → leb v s ≡ exact h s (bits b) a
+  unfolding leftOf
+  own-pair e =
+      let w : reserve h s ≡ digits s = ap (λ (k : ℕ). reserve k s) e ∙ reserve-pair s in
+      ap (λ (z : ℕ). leb z s) (ev ∙ ap (λ (k : ℕ). value (part (bits b) a k)) (er ∙ w))
+      ∙ sym (ap (λ (k : ℕ). exact k s (bits b) a) e ∙ exact-pair s (bits b) a)
+
+  pub own-four : h ≡ 2 → exact 2 s (field r v) 0 ≡ exact h s (bits b) a
+  own-four e =
+      let w : r ≡ reserve 2 s = er ∙ ap (λ (k : ℕ). reserve k s) e in
+      let g : part (bits b) a r ≡ field r v = field-part (bits b) a r (bits-bytes b) inside ∙ ap (field r) (sym ev) in
+      let f : part (field r v) 0 r ≡ part (bits b) a r = take-all r (field r v) (omega (arith, length-field r v)) ∙ sym g in
+      exact-local 2 s (field r v) (bits b) 0 a (ap (part (field r v) 0) (sym w) ∙ f ∙ ap (part (bits b) a) w) ∙ ap (λ (k : ℕ). exact k s (bits b) a) (sym e)

@@ -1,0 +1,214 @@
+-- The lowest two levels on a walk's way: which of two pairs it goes to, out of the word at whose high end their bits stand. Assumes nothing.
+use mathlib.Core.Path.{_≡_, refl, sym, ap, ap₂, _∙_, subst}
+use mathlib.Core.Bool.{Bool, true, false}
+use mathlib.Core.List.{List}
+use Prim.Native.Nat.{ℕ, zero, suc, _+_, _-_, _*_, _/_, _%_, _^_, _≤_, _<_}
+use native.Mathlib.Nat.{add-zero}
+use native.Mathlib.Omega.{arith}
+use lib.Dec.{leb, ltb, eqb, eqb·suc-zero}
+use borrow.Author.Tests.{leb-true, leb-false, ltb-true, ltb-false, le-leb, lt-leb}
+use Rattle.lists.specs.Lists.{pick, part}
+use Rattle.bits.specs.Bits.{bits, value}
+use Rattle.bits.specs.Code.Front.{Front}
+use Rattle.bits.proofs.Laws.{length-bits}
+use Rattle.reserve.specs.Reserve.{digits, reserve}
+use Rattle.reserve.proofs.Exact.{digits-is, digits-le}
+use Rattle.reserve.proofs.Fit.{fit-all}
+use Rattle.tree.specs.Read.{leftOf, leftAt, rightAt, later, walk, shifted, seek}
+use Rattle.tree.specs.Code.Node.{Lies}
+use Rattle.tree_walk.specs.Code.Pairs.{Entered}
+use Rattle.tree_walk.specs.Code.Answers.{walkAnswer, spotted}
+use Rattle.tree.specs.declared.node.Split.{Split}
+use Rattle.tree_walk.specs.declared.pairs.Pair.{Pair}
+use Rattle.tree.proofs.TwoCounts.{reserve-pair}
+use Rattle.tree.proofs.Rooting.{Inner}
+use Rattle.tree.proofs.WalkLaws.{walk-left, walk-right}
+use Rattle.tree.proofs.SearchLaws.{seek-left, seek-right}
+use Rattle.tree_walk.proofs.WalkSteps.{walk-damaged, walk-low, walk-high}
+use Rattle.tree_walk.proofs.SeekSteps.{seek-damaged, Goes, goes-on}
+
+pub pick-le : (c : Bool) {x y s : ℕ} → x ≤ s → y ≤ s → pick c x y ≤ s
+unfolding pick
+pick-le true k l = k
+pick-le false k l = l
+
+-- of j counts two are passed over, if there are two
+pub skipped : (j : ℕ) → pick (leb 2 j) 2 0 ≤ j
+unfolding pick
+skipped j = go (leb 2 j) refl
+  where
+    go : (c : Bool) → leb 2 j ≡ c → pick c 2 0 ≤ j
+    go true e = leb-true 2 j e
+    go false e = omega arith
+
+-- ---- a pair's sum and what is passed on the way to it, the right pair's where c is true
+module _ {s l sum passed : ℕ} (le : l ≤ s) where
+  pub in-sum : (c : Bool) → sum ≡ pick c (s - l) l → passed ≡ pick c l 0 → passed + sum ≤ s
+  unfolding pick
+  in-sum true es ep = omega (arith, es, ep)
+  in-sum false es ep = omega (arith, es, ep)
+
+  pub narrow : digits s ≤ 19 → (c : Bool) → sum ≡ pick c (s - l) l → passed ≡ pick c l 0 → (digits passed ≤ 19) × (digits sum ≤ 19)
+  narrow few c es ep = (less passed (omega (arith, in-sum c es ep)), less sum (omega (arith, in-sum c es ep)))
+    where
+      less : (x : ℕ) → x ≤ s → digits x ≤ 19
+      less x k = omega (arith, few, digits-le x (digits s) (omega (arith, digits-is s)))
+
+-- the pair's left count, by widths that were computed
+pub count-of : (w s passed sum x t f g : ℕ) → t ≡ digits s → f ≡ digits passed → g ≡ digits sum → x ≡ w / 2 ^ (64 - (t + f + g)) % 2 ^ g
+    → x ≡ w / 2 ^ (64 - (digits s + digits passed + digits sum)) % 2 ^ digits sum
+count-of w s passed sum x t f g et ef eg ex = ex ∙ rw (et, ef, eg)
+
+-- ---- a pair: its left count x, and the other one
+module _ (sum x : ℕ) (b : List ℕ) (a : ℕ) (e : leftOf sum b a ≡ x) where
+  walk-pair-bad : (acc k j : ℕ) → sum < x → 2 ^ 63 ≡ walkAnswer acc k (walk 1 sum b a j)
+  unfolding walkAnswer
+  walk-pair-bad acc k j l = rw (walk-damaged 0 sum b a j (ap (λ (z : ℕ). leb z sum) e ∙ lt-leb x sum l))
+
+  walk-pair : (acc k j : ℕ) → x ≤ sum → acc + pick (eqb j 0) x (sum - x + k * x) ≡ walkAnswer acc k (walk 1 sum b a j)
+  unfolding walkAnswer walk later pick
+  walk-pair acc k zero l = rw (walk-left 0 sum x b a 0 e l (omega arith)) (omega arith)
+  walk-pair acc k (suc j) l = rw (walk-right 0 sum x b a (suc j) e l (omega arith), eqb·suc-zero, add-zero) (omega arith)
+
+  seek-pair-bad : (n q : ℕ) → sum < x → 2 ^ 63 ≡ spotted n (seek 1 sum b a q)
+  unfolding spotted
+  seek-pair-bad n q l = rw (seek-damaged 0 sum b a q (ap (λ (z : ℕ). leb z sum) e ∙ lt-leb x sum l))
+
+  seek-pair : (n q : ℕ) → x ≤ sum → n + pick (ltb x q) 2 1 ≡ spotted n (seek 1 sum b a q)
+  unfolding pick spotted seek shifted
+  seek-pair n q l = go (ltb x q) refl
+    where
+      go : (c : Bool) → ltb x q ≡ c → n + pick (ltb x q) 2 1 ≡ spotted n (seek 1 sum b a q)
+      go true f = rw (f, seek-right 0 sum x b a q e l (ltb-true x q f))
+      go false f = rw (f, seek-left 0 sum x b a q e l (ltb-false x q f))
+
+-- ---- height 2, as it was tested
+pub at-two : {b : List ℕ} {a h s : ℕ} → h ≡ 2 → Lies b a h s → Lies b a 2 s
+at-two {b} {a} {h} {s} e y = subst (λ (k : ℕ). Lies b a k s) e y
+
+pub room-for-four : {h : ℕ} (n : ℕ) → h ≡ 2 → n + 2 ^ h < 2 ^ 63 → n + 4 < 2 ^ 63
+room-for-four {h} n e l = subst (λ (k : ℕ). n + 2 ^ k < 2 ^ 63) e l
+
+pub walk-two-high : {h : ℕ} (acc k s : ℕ) (b : List ℕ) (a j : ℕ) → h ≡ 2 → walkAnswer acc k (walk 2 s b a j) ≡ walkAnswer acc k (walk h s b a j)
+walk-two-high acc k s b a j e = ap (λ (z : ℕ). walkAnswer acc k (walk z s b a j)) (sym e)
+
+pub seek-two-high : {h : ℕ} (n s : ℕ) (b : List ℕ) (a q : ℕ) → h ≡ 2 → spotted n (seek 2 s b a q) ≡ spotted n (seek h s b a q)
+seek-two-high n s b a q e = ap (λ (z : ℕ). spotted n (seek z s b a q)) (sym e)
+
+-- ---- four counts with sum s at bit a, whose bits stand at the high end of w
+pub record Low (b : List ℕ) (a s w : ℕ) : Type 0 where
+  pub lies : Lies b a 2 s
+  pub few : digits s ≤ 19
+  pub front : Front (bits b) a w
+
+module _ {b : List ℕ} {a s w : ℕ} (o : Low b a s w) where
+  -- n bits behind the first k, where the tree has them
+  piece : (k n : ℕ) → k + n ≤ 57 → k + n ≤ reserve 2 s → w / 2 ^ (64 - (k + n)) % 2 ^ n ≡ value (part (bits b) (a + k) n)
+  piece k n l i = sym (o .front k n l (omega (arith, o .lies .inside, length-bits b)))
+
+  pub left-piece : (t l : ℕ) → t ≡ digits s → l ≡ w / 2 ^ (64 - (0 + t)) % 2 ^ t → leftOf s (bits b) a ≡ l
+  unfolding leftOf
+  left-piece t l et el =
+      sym (el ∙ ap (λ (n : ℕ). w / 2 ^ (64 - (0 + n)) % 2 ^ n) et
+      ∙ piece 0 (digits s) (omega (arith, o .few)) (omega (arith, fit-all 1 s 0 s (omega arith)))
+      ∙ ap (λ (k : ℕ). value (part (bits b) k (digits s))) (add-zero a))
+
+  module _ (l : ℕ) (el : leftOf s (bits b) a ≡ l) where
+    above : s < l → leb (leftOf s (bits b) a) s ≡ false
+    above k = ap (λ (z : ℕ). leb z s) el ∙ lt-leb l s k
+
+    pub walk-four-bad : (acc k j : ℕ) → s < l → 2 ^ 63 ≡ walkAnswer acc k (walk 2 s (bits b) a j)
+    unfolding walkAnswer
+    walk-four-bad acc k j i = rw (walk-damaged 1 s (bits b) a j (above i))
+
+    pub seek-four-bad : (n q : ℕ) → s < l → 2 ^ 63 ≡ spotted n (seek 2 s (bits b) a q)
+    unfolding spotted
+    seek-four-bad n q i = rw (seek-damaged 1 s (bits b) a q (above i))
+
+    module _ (le : l ≤ s) where
+      -- the root, as one that was read
+      abbrev split : Split
+      split = record { ok = true; left = l; first = leftAt s a; second = rightAt 1 s l a }
+
+      inner : Inner (bits b) a 2 s split
+      inner =
+          record {
+            high = λ e. omega (arith, e);
+            root =
+                record {
+                  ok-is = sym (ap (λ (z : ℕ). leb z s) el ∙ le-leb l s le);
+                  left-is = λ _. sym el;
+                  left-le = λ _. le;
+                  first-is = λ _. refl;
+                  second-is = λ _. refl;
+                };
+            sound = refl;
+          }
+
+      -- where the pair starts
+      abbrev start : Bool → ℕ
+      start c = pick c (rightAt 1 s l a) (leftAt s a)
+
+      placed : (c : Bool) (passed : ℕ) → passed ≡ pick c l 0 → a + (digits s + digits passed) ≡ start c
+      unfolding pick digits
+      placed true passed e = ap (λ (z : ℕ). a + (digits s + digits z)) e ∙ omega (arith, reserve-pair l)
+      placed false passed e = ap (λ (z : ℕ). a + (digits s + digits z)) e ∙ omega arith
+
+      owned : (c : Bool) (passed sum : ℕ) → passed ≡ pick c l 0 → sum ≡ pick c (s - l) l → digits s + digits passed + digits sum ≤ reserve 2 s
+      unfolding pick digits
+      owned true passed sum ep es =
+          omega (arith, fit-all 1 s l (s - l) (omega arith), reserve-pair l, reserve-pair (s - l), ap digits ep, ap digits es)
+      owned false passed sum ep es = omega (arith, fit-all 1 s l (s - l) (omega arith), reserve-pair l, ap digits ep, ap digits es)
+
+      -- its left count, as it is read there
+      count-is : (c : Bool) {p : Pair} → Entered w s l c p → leftOf (p .sum) (bits b) (start c) ≡ p .count
+      unfolding leftOf
+      count-is c {p} e =
+          let n = narrow le (o .few) c (e .sum-is) (e .passed-is) in
+          sym (e .count-is ∙ piece (digits s + digits (p .passed)) (digits (p .sum)) (omega (arith, n, o .few)) (owned c _ _ (e .passed-is) (e .sum-is))
+          ∙ ap (λ (k : ℕ). value (part (bits b) k (digits (p .sum)))) (placed c (p .passed) (e .passed-is)))
+
+      module _ (acc k j : ℕ) where
+        chosen : (c : Bool) → leb 2 j ≡ c → (passed sum : ℕ) → passed ≡ pick c l 0 → sum ≡ pick c (s - l) l
+            → walkAnswer (acc + k * passed) k (walk 1 sum (bits b) (start c) (j - pick c 2 0)) ≡ walkAnswer acc k (walk 2 s (bits b) a j)
+        unfolding pick
+        chosen true e passed sum ep es = rw (ep, es) (walk-high inner j acc k {m = 2} refl (leb-true 2 j e))
+        chosen false e passed sum ep es =
+            rw (ep, es)
+            (ap₂ (λ (x y : ℕ). walkAnswer x k (walk 1 l (bits b) (leftAt s a) y)) {x = acc + k * 0} {y = acc} (omega arith) (omega arith)
+            ∙ walk-low inner j acc k {m = 2} refl (leb-false 2 j e))
+
+        module _ {p : Pair} (e : Entered w s l (leb 2 j) p) where
+          pub walk-two-bad : p .sum < p .count → 2 ^ 63 ≡ walkAnswer acc k (walk 2 s (bits b) a j)
+          walk-two-bad i =
+              walk-pair-bad (p .sum) (p .count) (bits b) (start (leb 2 j)) (count-is (leb 2 j) e) (acc + k * p .passed) k (j - pick (leb 2 j) 2 0) i
+              ∙ chosen (leb 2 j) refl (p .passed) (p .sum) (e .passed-is) (e .sum-is)
+
+          -- d counts are passed over, and z is the answer within the pair
+          pub walk-two : p .count ≤ p .sum → (d z : ℕ) → d ≡ pick (leb 2 j) 2 0 → z ≡ pick (eqb (j - d) 0) (p .count) (p .sum - p .count + k * p .count)
+              → acc + k * p .passed + z ≡ walkAnswer acc k (walk 2 s (bits b) a j)
+          walk-two i d z ed ez =
+              ap (λ (x : ℕ). acc + k * p .passed + x) (ez ∙ ap (λ (x : ℕ). pick (eqb (j - x) 0) (p .count) (p .sum - p .count + k * p .count)) ed)
+              ∙ walk-pair (p .sum) (p .count) (bits b) (start (leb 2 j)) (count-is (leb 2 j) e) (acc + k * p .passed) k (j - pick (leb 2 j) 2 0) i
+              ∙ chosen (leb 2 j) refl (p .passed) (p .sum) (e .passed-is) (e .sum-is)
+
+      module _ (q n : ℕ) {p : Pair} (e : Entered w s l (ltb l q) p) where
+        onward : (hours : ℕ) → hours ≡ pick (ltb l q) 2 0
+            → Goes b 1 q n (spotted n (seek 2 s (bits b) a q)) (p .passed) hours (p .sum) (start (ltb l q))
+        onward hours eh =
+            goes-on (o .lies) inner q n {m = 2} refl record { passed-is = e .passed-is; hours-is = eh; sum-is = e .sum-is; start-is = refl }
+
+        pub passed-le : p .passed ≤ q
+        passed-le = onward _ refl .few
+
+        pub seek-two-bad : p .sum < p .count → 2 ^ 63 ≡ spotted n (seek 2 s (bits b) a q)
+        seek-two-bad i =
+            seek-pair-bad (p .sum) (p .count) (bits b) (start (ltb l q)) (count-is (ltb l q) e) (n + pick (ltb l q) 2 0) (q - p .passed) i
+            ∙ onward _ refl .same
+
+        pub seek-two : p .count ≤ p .sum → (d z : ℕ) → d ≡ pick (ltb l q) 2 0 → z ≡ pick (ltb (p .count) (q - p .passed)) 2 1
+            → n + d + z ≡ spotted n (seek 2 s (bits b) a q)
+        seek-two i d z ed ez =
+            ap (λ (x : ℕ). n + d + x) ez
+            ∙ seek-pair (p .sum) (p .count) (bits b) (start (ltb l q)) (count-is (ltb l q) e) (n + d) (q - p .passed) i
+            ∙ onward d ed .same

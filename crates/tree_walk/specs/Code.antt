@@ -1,0 +1,3 @@
+-- What one function hands the next.
+pub mod Answers
+pub mod Pairs

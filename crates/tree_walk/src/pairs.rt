@@ -1,0 +1,38 @@
+// The lowest two levels on a walk's way: four counts whose bits stand at the high end of a word, and one of their two pairs.
+use bits::front;
+use lists::either;
+use reserve::digits_of;
+ghost use mathlib.Core.Bool.{true};
+ghost use mathlib.Core.Path.{_≡_};
+ghost use Prim.Native.Nat.{_≤_};
+ghost use Rattle.reserve.specs.Reserve.{digits};
+ghost use Rattle.tree_walk.specs.Code.Pairs.{Entered};
+
+// Whether a tree of 2^h counts with sum s is one of four counts whose three fields, each of no more digits than s, have 57 bits at most.
+pub(crate) fn one_word(h: u32, s: u64) -> bool
+    ensures { λ r. ⌜ (r ≡ true → (h ≡ 2) × (digits s ≤ 19)) ⌝ }
+{
+    if h != 2 {
+        return false;
+    }
+    digits_of(s) <= 19
+}
+
+// One of the two pairs of four counts: its sum and its left count, and the sum of the pair that is passed on the way to it.
+pub struct Pair {
+    pub sum: u64,
+    pub count: u64,
+    pub passed: u64,
+}
+
+// The left pair, or the right one, of four counts with sum s and left sum left, whose bits stand at the high end of w. The pair's left
+// count stands behind the left sum, and in the right pair behind the left pair's.
+pub(crate) fn one_pair(w: u64, s: u64, left: u64, right: bool) -> Pair
+    requires { ⌜ (left ≤ s) × (digits s ≤ 19) ⌝ }
+    ensures { λ r. ⌜ Entered w s left right r ⌝ }
+{
+    let sum = either(right, s - left, left);
+    let passed = either(right, left, 0);
+    let count = front::part(w, digits_of(s) + digits_of(passed), digits_of(sum));
+    Pair { sum, count, passed }
+}
