@@ -2,7 +2,7 @@
 -- Assumes nothing.
 use mathlib.Core.Path.{_≡_, sym, ap, _∙_, subst}
 use mathlib.Core.List.{List, [], _∷_}
-use Prim.Native.Nat.{ℕ, zero, suc, _+_, _-_, _*_, _^_, _≤_, _<_}
+use Prim.Native.Nat.{ℕ, zero, suc, _+_, _-_, _^_, _≤_, _<_}
 use native.Mathlib.Omega.{arith}
 use native.Mathlib.Decide.{decLe}
 use lib.ListN.{length, take, drop}
@@ -13,7 +13,7 @@ use Rattle.tree.specs.Ranges.{Side, child, end, left, node, right}
 use Rattle.tree.specs.Read.{counts}
 use Rattle.tree.specs.Tree.{tree}
 use Rattle.tree.proofs.RangeLaws.{apart, holds-code, inside}
-use Rattle.image.specs.Image.{Limits, code, image, page, pages, start}
+use Rattle.image.specs.Image.{Limits, code, codeStart, image, page, pages, start}
 use Rattle.image.specs.Read.{codeAt, startOf, treeAt, widthOf}
 use Rattle.demand_2.specs.Demand2.{Related, around, before, behind, nodeIn, pageStart, treeStart, within}
 use Rattle.image.proofs.Back.{code-is, start-is, tree-is, width-is}
@@ -63,7 +63,7 @@ nodes-related e xs p q ds es = go (decLe (suc p) q) (decLe (suc q) p)
 
 -- all within the L bits of code
 pub node-in-code : (e : ℕ) (xs : List ℕ) (p : ℕ) (ds : List Side) → p < pages e (length xs)
-    → end (nodeIn e xs p ds) ≤ 8 * (16 + 4 * pages e (length xs)) + length (code e xs)
+    → end (nodeIn e xs p ds) ≤ codeStart (pages e (length xs)) + length (code e xs)
 node-in-code e xs p ds l = omega (arith, node-in-page e xs p ds .1, start-next e xs p, start-within e xs p l)
 
 -- and in the image each range holds the code of its node's counts

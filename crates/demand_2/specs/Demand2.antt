@@ -2,7 +2,7 @@
 use mathlib.Core.Path.{_≡_}
 use mathlib.Core.Bool.{true}
 use mathlib.Core.List.{List, _∷_, _++_}
-use Prim.Native.Nat.{ℕ, suc, _+_, _*_, _≤_, _<_}
+use Prim.Native.Nat.{ℕ, suc, _+_, _≤_, _<_}
 use lib.ListN.{length, getD, take, drop}
 use lib.Dec.{leb, ltb}
 use Rattle.lists.specs.Lists.{part, pick, reached, sum}
@@ -12,7 +12,7 @@ use Rattle.tree.specs.Ranges.{Inside, Node, Parts, Side, end, left, node, right
 use Rattle.tree.specs.Tree.{tree}
 use Rattle.image.specs.Calls.{lengthCall, writeCall}
 use Rattle.image.specs.Check.{accepted, check, holds}
-use Rattle.image.specs.Image.{IsImage, Limits, code, image, page, pages, size, start}
+use Rattle.image.specs.Image.{IsImage, Limits, code, codeStart, image, page, pages, size, start}
 use Rattle.image.specs.Query.{count, reading}
 use Rattle.image.specs.Reach.{Reach}
 use Rattle.image.specs.Read.{eOf, listOf, sOf}
@@ -20,7 +20,7 @@ use Rattle.image.specs.Reply.{Reply, given, refused}
 
 -- the bit where page p starts in the image, and where its tree does. Addresses are those of the bits of all the image's bytes
 abbrev pub pageStart : ℕ → List ℕ → ℕ → ℕ
-pageStart e xs p = 8 * (16 + 4 * pages e (length xs)) + start e xs p
+pageStart e xs p = codeStart (pages e (length xs)) + start e xs p
 
 abbrev pub treeStart : ℕ → List ℕ → ℕ → ℕ
 treeStart e xs p = pageStart e xs p + digits (sum xs)

@@ -13,7 +13,7 @@ use Rattle.lists.proofs.Tests.{each, left, right, same-is}
 use Rattle.bits.specs.Bits.{bits}
 use Rattle.tree.proofs.Shape.{length-counts}
 use Rattle.image.specs.Check.{accepted, headed}
-use Rattle.image.specs.Image.{IsImage, image, pages}
+use Rattle.image.specs.Image.{IsImage, image, maxHours, maxTotal, pages}
 use Rattle.image.specs.Read.{eOf, listOf, nOf, pageOf, pagesOf, sumOf, treeAt}
 use Rattle.image.proofs.PageLaws.{pages-cover}
 
@@ -31,14 +31,14 @@ length-list s =
 pub accepted-only : (s : List ℕ) → accepted s ≡ true → IsImage s (eOf s) (listOf s)
 unfolding accepted headed
 accepted-only s h =
-    let w = each _ (left (headed s) (leb (sum (listOf s)) 4294967295 && same s (image (eOf s) (listOf s))) h) in
-    let r = right (headed s) (leb (sum (listOf s)) 4294967295 && same s (image (eOf s) (listOf s))) h in
+    let w = each _ (left (headed s) (leb (sum (listOf s)) maxTotal && same s (image (eOf s) (listOf s))) h) in
+    let r = right (headed s) (leb (sum (listOf s)) maxTotal && same s (image (eOf s) (listOf s))) h in
     record {
       limits = record {
         e-low = leb-true 2 (eOf s) (w .1 .1 .0);
         e-high = leb-true (eOf s) 8 (w .1 .1 .1 .0);
-        hours = omega (arith, length-list s, leb-true (nOf s) 65536 (w .1 .1 .1 .1 .1 .1 .0));
-        total = leb-true (sum (listOf s)) 4294967295 (left (leb (sum (listOf s)) 4294967295) (same s (image (eOf s) (listOf s))) r);
+        hours = omega (arith, length-list s, leb-true (nOf s) maxHours (w .1 .1 .1 .1 .1 .1 .0));
+        total = leb-true (sum (listOf s)) maxTotal (left (leb (sum (listOf s)) maxTotal) (same s (image (eOf s) (listOf s))) r);
       };
-      bytes = same-is s (image (eOf s) (listOf s)) (right (leb (sum (listOf s)) 4294967295) (same s (image (eOf s) (listOf s))) r);
+      bytes = same-is s (image (eOf s) (listOf s)) (right (leb (sum (listOf s)) maxTotal) (same s (image (eOf s) (listOf s))) r);
     }

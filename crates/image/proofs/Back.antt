@@ -23,7 +23,8 @@ use Rattle.reserve.proofs.Exact.{digits-is}
 use Rattle.tree.specs.Tree.{tree}
 use Rattle.tree.proofs.Shape.{bits-tree, length-tree}
 use Rattle.image.specs.Check.{headed}
-use Rattle.image.specs.Image.{Limits, code, header, image, packed, page, pageCode, pages, root, size, start, table}
+use Rattle.image.specs.Image.{Limits, code, codeStart, header, headerLength, image, maxHours, packed, page, pageCode, pages, root, size, start, table}
+use Rattle.image.specs.Image.{tableAt}
 use Rattle.image.specs.Read.{beforeOf, codeAt, eOf, lOf, nOf, pagesOf, rootOf, sOf, startOf, sumOf, treeAt, widthOf}
 use Rattle.image.proofs.Packed.{bits-packed, drop-bits, length-packed, tail}
 use Rattle.image.proofs.PageLaws.{code-most, length-pageCode, page-sum, root-le, start-within}
@@ -39,7 +40,7 @@ bits-code e xs =
     bits-concat (pages e (length xs)) (pageCode e xs) (λ p. bits-join (field (digits (sum xs)) (root e xs p)) (tree e (page e xs p))
     (bits-field (digits (sum xs)) (root e xs p)) (bits-tree e (page e xs p)))
 
-length-header : (e n s l : ℕ) → length (header e n s l) ≡ 16
+length-header : (e n s l : ℕ) → length (header e n s l) ≡ headerLength
 unfolding header little
 length-header e n s l = refl
 
@@ -64,29 +65,29 @@ module _ (e : ℕ) (xs : List ℕ) where
       (length-append (table e xs) (packed (code e xs)) ∙ ap₂ _+_ (length-table e xs) (length-packed (code e xs)))
       ∙ omega arith
 
-  head : part S 0 16 ≡ H
+  head : part S 0 headerLength ≡ H
   unfolding image
-  head = take-at H (table e xs ++ packed (code e xs)) 16 (length-header e (length xs) (sum xs) (length (code e xs)))
+  head = take-at H (table e xs ++ packed (code e xs)) headerLength (length-header e (length xs) (sum xs) (length (code e xs)))
 
-  head-word : (a v : ℕ) → a + 4 ≤ 16 → part H a 4 ≡ little 4 v → v ≤ 4294967295 → numberAt S a 4 ≡ v
+  head-word : (a v : ℕ) → a + 4 ≤ headerLength → part H a 4 ≡ little 4 v → v ≤ 4294967295 → numberAt S a 4 ≡ v
   head-word a v l q m =
-      ap number (ap (λ (z : ℕ). part S z 4) {x = a} {y = 0 + a} (omega arith) ∙ part-in S H 0 16 a 4 head l ∙ q) ∙ number-little 4 v (omega arith)
+      ap number (ap (λ (z : ℕ). part S z 4) {x = a} {y = 0 + a} (omega arith) ∙ part-in S H 0 headerLength a 4 head l ∙ q) ∙ number-little 4 v (omega arith)
 
   pub e-is : eOf S ≡ e
   unfolding eOf image header
   e-is = refl
 
-  table-at : (p : ℕ) → p < P → part S (16 + 4 * p) 4 ≡ little 4 (start e xs p)
+  table-at : (p : ℕ) → p < P → part S (tableAt p) 4 ≡ little 4 (start e xs p)
   unfolding image table
   table-at p l =
-      part-skip H (table e xs ++ packed (code e xs)) (4 * p) 4 16 (length-header e (length xs) (sum xs) (length (code e xs)))
+      part-skip H (table e xs ++ packed (code e xs)) (4 * p) 4 headerLength (length-header e (length xs) (sum xs) (length (code e xs)))
       ∙ concat-at P 4 (λ p. little 4 (start e xs p)) (packed (code e xs)) p (λ j _. length-little 4 (start e xs j)) l
 
-  body : drop (16 + 4 * P) S ≡ packed (code e xs)
+  body : drop (tableAt P) S ≡ packed (code e xs)
   unfolding image
   body =
-      sym (drop-drop (4 * P) 16 (image e xs)) ∙ ap (drop (4 * P))
-      (drop-at H (table e xs ++ packed (code e xs)) 16 (length-header e (length xs) (sum xs) (length (code e xs))))
+      sym (drop-drop (4 * P) headerLength (image e xs)) ∙ ap (drop (4 * P))
+      (drop-at H (table e xs ++ packed (code e xs)) headerLength (length-header e (length xs) (sum xs) (length (code e xs))))
       ∙ drop-at (table e xs) (packed (code e xs)) (4 * P) (length-table e xs)
 
   module _ (m : Limits e xs) where
@@ -110,13 +111,13 @@ module _ (e : ℕ) (xs : List ℕ) where
     unfolding widthOf
     width-is = ap digits s-is
 
-    pub code-is : codeAt S ≡ 8 * (16 + 4 * P)
+    pub code-is : codeAt S ≡ codeStart P
     unfolding codeAt
-    code-is = ap (λ (z : ℕ). 8 * (16 + 4 * z)) pages-is
+    code-is = ap codeStart pages-is
 
     -- the bits from where the code starts
     pub bits-is : drop (codeAt S) (bits S) ≡ code e xs ++ tail (code e xs)
-    bits-is = ap (λ (z : ℕ). drop z (bits S)) code-is ∙ drop-bits (16 + 4 * P) S ∙ ap bits body ∙ bits-packed (code e xs) (bits-code e xs)
+    bits-is = ap (λ (z : ℕ). drop z (bits S)) code-is ∙ drop-bits (tableAt P) S ∙ ap bits body ∙ bits-packed (code e xs) (bits-code e xs)
 
     pub start-is : (p : ℕ) → p < P → startOf S p ≡ start e xs p
     unfolding startOf
@@ -167,7 +168,7 @@ module _ (e : ℕ) (xs : List ℕ) where
     unfolding headed image header little size eOf
     headed-image =
         every-of _ (
-          le-leb 16 (length S) (omega (arith, length-image)),
+          le-leb headerLength (length S) (omega (arith, length-image)),
           (
             refl,
             (
@@ -179,7 +180,7 @@ module _ (e : ℕ) (xs : List ℕ) where
                   (
                     refl,
                     (
-                      ap (λ (z : ℕ). leb z 65536) n-is ∙ le-leb (length xs) 65536 (m .hours),
+                      ap (λ (z : ℕ). leb z maxHours) n-is ∙ le-leb (length xs) maxHours (m .hours),
                       (eq-eqb (length S) (size (eOf S) (nOf S) (lOf S)) (length-image ∙ sym (ap₂ (λ (n l : ℕ). size e n l) n-is l-is)), tt),
                     ),
                   ),

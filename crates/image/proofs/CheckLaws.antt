@@ -22,12 +22,12 @@ use Rattle.tree.specs.Read.{Found, damaged, found}
 use Rattle.image.specs.Check.{accepted, check, fails, headed, holds}
 use Rattle.image.specs.Checking.{Tests}
 use Rattle.image.specs.Code.{Opened, RootAt}
-use Rattle.image.specs.Image.{bytesFor, pages}
+use Rattle.image.specs.Image.{bytesFor}
 use Rattle.image.specs.Query.{fits, look, readingAt, theReading}
 use Rattle.image.specs.Read.{codeAt, eOf, lOf, nOf, pagesOf, rootOf, sOf, startOf, widthOf}
 use Rattle.image.specs.Reply.{Reply}
 use Rattle.image.specs.Test.{checked, pagesFrom, says}
-use Rattle.image.proofs.HeadLaws.{Plain, never, plain}
+use Rattle.image.proofs.HeadLaws.{Bounds, bounds, never}
 use Rattle.image.proofs.Mirror.{checked-is}
 use Rattle.image.proofs.PageLaws.{reserve-most}
 use Rattle.image.specs.declared.check.Tested.{Tested}
@@ -90,8 +90,8 @@ pub record Own (s : List ℕ) (h : Head) (p : ℕ) (t : Root) : Type 0 where
   pub ok : t .ok ≡ true
 
 module _ {s : List ℕ} {h : Head} {p : ℕ} {t : Root} (g : Own s h p t) where
-  abbrev f : Plain s h
-  f = plain s h (g .opened)
+  abbrev f : Bounds s h
+  f = bounds s h (g .opened)
 
   own : t .value ≡ rootOf s p
   own = g .root .value-is (g .ok)
@@ -122,7 +122,7 @@ module _ {s : List ℕ} {h : Head} {p : ℕ} {t : Root} {a x v : ℕ} (g : Stand
   value-is = own (g .own-root)
 
   end-is : t .end ≡ a + widthOf s
-  end-is = omega (arith, g .end-at, plain s h o .width)
+  end-is = omega (arith, g .end-at, bounds s h o .width)
 
   start-is : startOf s p ≡ a
   start-is = omega (arith, end-is, g .own-root .root .end-is (g .own-root .ok))
@@ -132,46 +132,45 @@ module _ {s : List ℕ} {h : Head} {p : ℕ} {t : Root} {a x v : ℕ} (g : Stand
 
   pub end-small : t .end + v ≤ 4294976255
   end-small =
-      let most = reserve-most (h .e) (t .value - x) (plain s h o .e-high) (omega (arith, own-small (g .own-root))) in
+      let most = reserve-most (h .e) (t .value - x) (bounds s h o .e-high) (omega (arith, own-small (g .own-root))) in
       omega (arith, own-within (g .own-root), o .head .bits-small, g .tree-bits)
 
   pub tree-over : {r : Tested} → r .ok ≡ false → h .bits < t .end + v → Tests s p a x r
   tree-over n l =
       tests-bad n 2 (λ _. lt-leb (a + widthOf s + reserve (eOf s) (rootOf s p - x)) (lOf s) (omega (arith, end-is, reserve-is, o .head .bits-is)))
 
-  module _ {c : ℕ} (ec : c ≡ 8 * (16 + 4 * pages (h .e) (h .hours))) where
-    at-is : c + t .end ≡ codeAt s + a + widthOf s
-    at-is = omega (arith, ec, plain s h o .code-is, end-is)
+  at-is : h .code + t .end ≡ codeAt s + a + widthOf s
+  at-is = omega (arith, o .head .code-is, end-is)
 
-    exact-is : exact (h .e) (t .value - x) (bits s) (c + t .end) ≡ exact (eOf s) (rootOf s p - x) (bits s) (codeAt s + a + widthOf s)
-    exact-is = λ i. exact (o .head .e-is i) (value-is i - x) (bits s) (at-is i)
+  exact-is : exact (h .e) (t .value - x) (bits s) (h .code + t .end) ≡ exact (eOf s) (rootOf s p - x) (bits s) (codeAt s + a + widthOf s)
+  exact-is = λ i. exact (o .head .e-is i) (value-is i - x) (bits s) (at-is i)
 
-    pub tree-lies : t .end + v ≤ h .bits → Lies s (c + t .end) (h .e) (t .value - x)
-    tree-lies l =
-        let f = plain s h o in
-        let ev = g .tree-bits in
-        record {
-          height = f .e-high;
-          total = omega (arith, own-small (g .own-root));
-          long = omega (arith, f .long);
-          inside = omega (arith, ev, ec, f .code-is, f .code-at, f .long);
-          small = omega (arith, ev, ec, f .code-is, f .code-at, f .few, o .head .bits-small);
-        }
+  pub tree-lies : t .end + v ≤ h .bits → Lies s (h .code + t .end) (h .e) (t .value - x)
+  tree-lies l =
+      let f = bounds s h o in
+      let ev = g .tree-bits in
+      record {
+        height = f .e-high;
+        total = omega (arith, own-small (g .own-root));
+        long = omega (arith, f .long);
+        inside = omega (arith, ev, o .head .code-is, f .code-at, f .long);
+        small = omega (arith, ev, o .head .code-is, f .code-at, f .few, o .head .bits-small);
+      }
 
-    pub inexact : {r : Tested} → r .ok ≡ false → exact (h .e) (t .value - x) (bits s) (c + t .end) ≡ false → Tests s p a x r
-    inexact n e = tests-bad n 3 (λ _. sym exact-is ∙ e)
+  pub inexact : {r : Tested} → r .ok ≡ false → exact (h .e) (t .value - x) (bits s) (h .code + t .end) ≡ false → Tests s p a x r
+  inexact n e = tests-bad n 3 (λ _. sym exact-is ∙ e)
 
-    pub page-passes : x ≤ t .value → t .end + v ≤ h .bits → exact (h .e) (t .value - x) (bits s) (c + t .end) ≡ true
-        → Tests s p a x (record { ok = true; end = t .end + v; root = t .value })
-    page-passes l m e =
-        let q : t .end + v ≡ a + widthOf s + reserve (eOf s) (rootOf s p - x) = omega (arith, end-is, reserve-is) in
-        record {
-          stops = λ n. absurd (never (sym n));
-          goes-on =
-              λ _ k. pages-yes s k p a x start-is (omega (arith, value-is)) (omega (arith, q, o .head .bits-is)) (sym exact-is ∙ e)
-              ∙ sym (ap₂ (pagesFrom s k (suc p)) q value-is);
-          end-le = λ _. omega (arith, o .head .bits-is);
-        }
+  pub page-passes : x ≤ t .value → t .end + v ≤ h .bits → exact (h .e) (t .value - x) (bits s) (h .code + t .end) ≡ true
+      → Tests s p a x (record { ok = true; end = t .end + v; root = t .value })
+  page-passes l m e =
+      let q : t .end + v ≡ a + widthOf s + reserve (eOf s) (rootOf s p - x) = omega (arith, end-is, reserve-is) in
+      record {
+        stops = λ n. absurd (never (sym n));
+        goes-on =
+            λ _ k. pages-yes s k p a x start-is (omega (arith, value-is)) (omega (arith, q, o .head .bits-is)) (sym exact-is ∙ e)
+            ∙ sym (ap₂ (pagesFrom s k (suc p)) q value-is);
+        end-le = λ _. omega (arith, o .head .bits-is);
+      }
 
 -- ---- the pages in turn
 module _ {s : List ℕ} {p a x : ℕ} {r : Tested} (t : Tests s p a x r) (n : ℕ) (l : p < n) where
@@ -228,12 +227,12 @@ rest-some s h o r n e =
     last k (suc m) n e = ap (λ (z : ℕ). theReading (look s z)) {x = k - 1} {y = m} (omega (arith, e))
 
 -- ---- the last byte's other bits
-pub fill-is : (s : List ℕ) (h : Head) → Opened s h → (c : ℕ) → c ≡ 8 * (16 + 4 * pages (h .e) (h .hours))
-    → clear (bits s) (c + h .bits) (8 * length s - (c + h .bits)) ≡ clear (bits s) (codeAt s + lOf s) (8 * bytesFor (lOf s) - lOf s)
+pub fill-is : (s : List ℕ) (h : Head) → Opened s h
+    → clear (bits s) (h .code + h .bits) (8 * length s - (h .code + h .bits)) ≡ clear (bits s) (codeAt s + lOf s) (8 * bytesFor (lOf s) - lOf s)
 unfolding bytesFor
-fill-is s h o c e =
-    let f = plain s h o in
-    let a : c + h .bits ≡ codeAt s + lOf s = omega (arith, e, f .code-is, o .head .bits-is) in
+fill-is s h o =
+    let f = bounds s h o in
+    let a : h .code + h .bits ≡ codeAt s + lOf s = omega (arith, o .head .code-is, o .head .bits-is) in
     let b : 8 * length s ≡ codeAt s + 8 * ((lOf s + 7) / 8) =
     omega (arith, f .long, f .code-at, ap (λ (z : ℕ). (z + 7) / 8) (o .head .bits-is)) in
     ap₂ (clear (bits s)) a (omega (arith, a, b))

@@ -9,13 +9,13 @@ use lib.Dec.{leb}
 use borrow.Author.Tests.{le-leb, leb-true}
 use Rattle.lists.specs.Lists.{pick, sum}
 use Rattle.image.specs.Calls.{Wrote, lengthCall, put, putAfter, unwritten, writeCall}
-use Rattle.image.specs.Image.{Limits, image}
+use Rattle.image.specs.Image.{Limits, image, maxHours, maxTotal}
 use Rattle.image.specs.Reply.{Reply, given, refused}
 use Rattle.lists.proofs.Tests.{left, right}
 
 pub length-within : (e : ℕ) (xs : List ℕ) → Limits e xs → lengthCall e xs ≡ given (length (image e xs))
 unfolding lengthCall pick
-length-within e xs m = rw (le-leb 2 e (m .e-low), le-leb e 8 (m .e-high), le-leb (length xs) 65536 (m .hours), le-leb (sum xs) 4294967295 (m .total))
+length-within e xs m = rw (le-leb 2 e (m .e-low), le-leb e 8 (m .e-high), le-leb (length xs) maxHours (m .hours), le-leb (sum xs) maxTotal (m .total))
 
 pub write-put : (e : ℕ) (xs out : List ℕ) → Limits e xs → length (image e xs) ≤ length out
     → writeCall e xs out ≡ record { reply = given (length (image e xs)); bytes = image e xs ++ drop (length (image e xs)) out }
@@ -26,15 +26,15 @@ write-put e xs out m l = rw (length-within e xs m, le-leb (length (image e xs)) 
 never : (k n : ℕ) → refused k ≡ given n → ⊥
 never k n e = let z : _≡_ {A = ℕ} 0 1 = cc in omega arith
 
-limits-of : (e : ℕ) (xs : List ℕ) (n y : ℕ) (a b c : Bool) → (leb 2 e && leb e 8) ≡ a → leb (length xs) 65536 ≡ b
-    → leb (sum xs) 4294967295 ≡ c
+limits-of : (e : ℕ) (xs : List ℕ) (n y : ℕ) (a b c : Bool) → (leb 2 e && leb e 8) ≡ a → leb (length xs) maxHours ≡ b
+    → leb (sum xs) maxTotal ≡ c
     → pick a (pick b (pick c (given y) (refused 3)) (refused 2)) (refused 1) ≡ given n → Limits e xs
 unfolding pick
 limits-of e xs n y true true true i j k z = record {
   e-low = leb-true 2 e (left (leb 2 e) (leb e 8) i);
   e-high = leb-true e 8 (right (leb 2 e) (leb e 8) i);
-  hours = leb-true (length xs) 65536 j;
-  total = leb-true (sum xs) 4294967295 k;
+  hours = leb-true (length xs) maxHours j;
+  total = leb-true (sum xs) maxTotal k;
 }
 limits-of e xs n y true true false i j k z = absurd (never 3 n z)
 limits-of e xs n y true false c i j k z = absurd (never 2 n z)
@@ -42,7 +42,7 @@ limits-of e xs n y false b c i j k z = absurd (never 1 n z)
 
 pub length-only : (e : ℕ) (xs : List ℕ) (n : ℕ) → lengthCall e xs ≡ given n → Limits e xs
 unfolding lengthCall
-length-only e xs n q = limits-of e xs n (length (image e xs)) (leb 2 e && leb e 8) (leb (length xs) 65536) (leb (sum xs) 4294967295) refl refl refl q
+length-only e xs n q = limits-of e xs n (length (image e xs)) (leb 2 e && leb e 8) (leb (length xs) maxHours) (leb (sum xs) maxTotal) refl refl refl q
 
 -- ---- refused
 -- 'A refusal is its number alone; no byte changes.'

@@ -25,7 +25,8 @@ use Rattle.tree.specs.Read.{place}
 use Rattle.tree.specs.Tree.{tree}
 use Rattle.tree.proofs.Exacts.{field-part, tree-exact}
 use Rattle.image.specs.Check.{accepted, headed}
-use Rattle.image.specs.Image.{Limits, bytesFor, code, header, image, packed, page, pageCode, pages, root, size, start, table}
+use Rattle.image.specs.Image.{Limits, bytesFor, code, header, headerLength, image, maxTotal, packed, page, pageCode, pages, root, size, start, table}
+use Rattle.image.specs.Image.{tableAt}
 use Rattle.image.specs.Query.{fits, readingAt}
 use Rattle.image.specs.Read.{beforeOf, codeAt, eOf, lOf, listOf, nOf, pageOf, pagesOf, rootOf, sOf, startOf, sumOf, treeAt, widthOf}
 use Rattle.image.specs.Reply.{Reply, given}
@@ -54,11 +55,11 @@ zero-tail (suc n) (x ∷ xs) (suc i) q = zero-tail n xs i (omega arith)
 pub word-most : (s : List ℕ) → ((i : ℕ) → getD s i 0 < 256) → (a : ℕ) → a + 4 ≤ length s → numberAt s a 4 ≤ 4294967295
 word-most s h a l = omega (arith, number-small (part s a 4) (bytes-part s h a 4), ap (λ (k : ℕ). 256 ^ k) (length-part s a 4 l))
 
-head-parts : (s : List ℕ) → take 4 s ++ (part s 4 4 ++ (part s 8 4 ++ part s 12 4)) ≡ take 16 s
+head-parts : (s : List ℕ) → take 4 s ++ (part s 4 4 ++ (part s 8 4 ++ part s 12 4)) ≡ take headerLength s
 head-parts s =
     sym (take-add 4 12 s ∙ ap (λ (z : List ℕ). take 4 s ++ z) (part-more s 4 4 8 ∙ ap (λ (z : List ℕ). part s 4 4 ++ z) (part-more s 8 4 4)))
 
-front-is : (s : List ℕ) (x : ℕ) → 16 ≤ length s → getD s 0 0 ≡ 1 → getD s 1 0 ≡ x → getD s 2 0 ≡ 0 → getD s 3 0 ≡ 0
+front-is : (s : List ℕ) (x : ℕ) → headerLength ≤ length s → getD s 0 0 ≡ 1 → getD s 1 0 ≡ x → getD s 2 0 ≡ 0 → getD s 3 0 ≡ 0
     → 1 ∷ x ∷ 0 ∷ 0 ∷ [] ≡ take 4 s
 front-is (x₀ ∷ x₁ ∷ x₂ ∷ x₃ ∷ s) x l a b c d = sym (λ i. a i ∷ b i ∷ c i ∷ d i ∷ [])
 front-is [] x l a b c d = absurd (omega arith)
@@ -239,58 +240,58 @@ module _ (s : List ℕ) (bytes : (i : ℕ) → getD s i 0 < 256) (h : checked s 
       ap length (codes p (omega arith)) ∙ length-part b c (placeOf s p) (omega (arith, place-le p l, code-fits s header-ok all))
       ∙ sym (pass p l .place)
 
-  packed-same : packed (code e xs) ≡ drop (16 + 4 * K) s
+  packed-same : packed (code e xs) ≡ drop (tableAt K) s
   unfolding packed fill codeAt
   packed-same =
       let n : ℕ = bytesFor (lOf s) in
-      let z : List ℕ = drop (16 + 4 * K) s in
+      let z : List ℕ = drop (tableAt K) s in
       let r : part b c (lOf s) ++ part b (c + lOf s) (8 * n - lOf s) ≡ bits z =
       sym (part-more b c (lOf s) (8 * n - lOf s)) ∙ take-all (lOf s + (8 * n - lOf s)) (drop c b)
-      (omega (arith, length-drop c b, bits-long s header-ok all)) ∙ drop-bits (16 + 4 * K) s in
+      (omega (arith, length-drop c b, bits-long s header-ok all)) ∙ drop-bits (tableAt K) s in
       ap₂ (λ (k : ℕ) (y : List ℕ). pack (bytesFor k) (y ++ replicate (8 * bytesFor k - k) 0)) code-long code-same
       ∙ ap (λ (y : List ℕ). pack n (part b c (lOf s) ++ y)) (sym rest-clear)
       ∙ ap (pack n) r
       ∙ ap (λ (k : ℕ). pack k (bits z)) (sym (body-long s header-ok all))
-      ∙ pack-bits z (λ i. rw (getD-drop (16 + 4 * K) s i 0) (bytes (16 + 4 * K + i)))
+      ∙ pack-bits z (λ i. rw (getD-drop (tableAt K) s i 0) (bytes (tableAt K + i)))
 
-  table-same : table e xs ≡ part s 16 (4 * K)
+  table-same : table e xs ≡ part s headerLength (4 * K)
   unfolding table size pagesOf startOf
   table-same =
-      let T : List ℕ = part s 16 (4 * K) in
+      let T : List ℕ = part s headerLength (4 * K) in
       ap (λ (z : ℕ). concat (tabulate z (λ p. little 4 (start e xs p)))) pages-same
       ∙ ap concat (tabulate-ext K (λ p. little 4 (start e xs p)) (λ p. part T (4 * p) 4)
-      (λ p l. ap (little 4) (start-same p l) ∙ sym (stored s bytes (16 + 4 * p) 4 (omega (arith, size-is s header-ok all)))
-      ∙ part-in s T 16 (4 * K) (4 * p) 4 refl (omega arith)))
-      ∙ chop 4 K T (length-part s 16 (4 * K) (omega (arith, size-is s header-ok all)))
+      (λ p l. ap (little 4) (start-same p l) ∙ sym (stored s bytes (tableAt p) 4 (omega (arith, size-is s header-ok all)))
+      ∙ part-in s T headerLength (4 * K) (4 * p) 4 refl (omega arith)))
+      ∙ chop 4 K T (length-part s headerLength (4 * K) (omega (arith, size-is s header-ok all)))
 
-  header-same : header e (length xs) (sum xs) (length (code e xs)) ≡ take 16 s
+  header-same : header e (length xs) (sum xs) (length (code e xs)) ≡ take headerLength s
   unfolding header nOf sOf lOf eOf headed size
   header-same =
       let w = each _ header-ok in
       let word : (a : ℕ) → a + 4 ≤ length s → little 4 (numberAt s a 4) ≡ part s a 4 = λ a l. sym (stored s bytes a 4 l) in
-      let long′ : 16 ≤ length s = leb-true 16 (length s) (w .0) in
+      let long′ : headerLength ≤ length s = leb-true headerLength (length s) (w .0) in
       ap₂ (λ (n t : ℕ). header e n t (length (code e xs))) hours-long total ∙ ap (header e (nOf s) (sOf s)) code-long
       ∙ ap₂ _++_ (front-is s e long′ (eqb-true (getD s 0 0) 1 (w .1 .0)) refl (eqb-true (getD s 2 0) 0 (w .1 .1 .1 .1 .0))
       (eqb-true (getD s 3 0) 0 (w .1 .1 .1 .1 .1 .0)))
       (ap₂ _++_ (word 4 (omega arith)) (ap₂ _++_ (word 8 (omega arith)) (word 12 (omega arith))))
       ∙ head-parts s
 
-  long : 16 ≤ length s
+  long : headerLength ≤ length s
   unfolding headed
-  long = leb-true 16 (length s) (each _ header-ok .0)
+  long = leb-true headerLength (length s) (each _ header-ok .0)
 
   pub image-same : image e xs ≡ s
   unfolding image
   image-same =
       ap₂ _++_ header-same (ap₂ _++_ table-same packed-same)
-      ∙ ap (λ (z : List ℕ). take 16 s ++ (part s 16 (4 * K) ++ z)) (sym (drop-drop (4 * K) 16 s))
-      ∙ ap (λ (z : List ℕ). take 16 s ++ z) (take-append-drop (4 * K) (drop 16 s))
-      ∙ take-append-drop 16 s
+      ∙ ap (λ (z : List ℕ). take headerLength s ++ (part s headerLength (4 * K) ++ z)) (sym (drop-drop (4 * K) headerLength s))
+      ∙ ap (λ (z : List ℕ). take headerLength s ++ z) (take-append-drop (4 * K) (drop headerLength s))
+      ∙ take-append-drop headerLength s
 
   pub checked-accepted : accepted s ≡ true
   unfolding accepted sOf
   checked-accepted =
-      both header-ok (both (le-leb (sum xs) 4294967295 (omega (arith, total, word-most s bytes 8 (omega (arith, long)))))
+      both header-ok (both (le-leb (sum xs) maxTotal (omega (arith, total, word-most s bytes 8 (omega (arith, long)))))
       (ap (same s) image-same ∙ same-refl s))
 
 -- the code's test is the statement

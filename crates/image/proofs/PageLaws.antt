@@ -18,7 +18,7 @@ use Rattle.reserve.proofs.Fit.{bound}
 use Rattle.reserve.proofs.Line.{A, B}
 use Rattle.tree.specs.Tree.{tree}
 use Rattle.tree.proofs.Shape.{length-tree}
-use Rattle.image.specs.Image.{Limits, code, page, pageCode, pages, root, start}
+use Rattle.image.specs.Image.{Limits, code, maxHours, maxTotal, page, pageCode, pages, root, start}
 
 -- ---- how many pages
 cover-alg : (n m k : ℕ) → 1 ≤ m → n + (m - 1) < k * m + m → n ≤ m * k
@@ -45,11 +45,11 @@ hour-low e i = mod-lt i (pow-pos e)
 pub hour-page : (e n i : ℕ) → i < n → i / 2 ^ e < pages e n
 hour-page e n i l = lt-of-mul-lt-mul-left (2 ^ e) (omega (arith, hour-split e i, pages-cover e n))
 
-few-alg : (n m k : ℕ) → 4 ≤ m → n ≤ 65536 → ((p : ℕ) → p < k → m * p < n) → k ≤ 16384
+few-alg : (n m k : ℕ) → 4 ≤ m → n ≤ maxHours → ((p : ℕ) → p < k → m * p < n) → k ≤ 16384
 few-alg n m zero a b c = omega arith
 few-alg n m (suc k) a b c = omega (arith, c k (omega arith), mul-le-mul-right k a)
 
-pub pages-few : (e n : ℕ) → 2 ≤ e → n ≤ 65536 → pages e n ≤ 16384
+pub pages-few : (e n : ℕ) → 2 ≤ e → n ≤ maxHours → pages e n ≤ 16384
 pages-few e n a b = few-alg n (2 ^ e) (pages e n) (pow-mono {i = 2} {j = e} a) b (pages-tight e n)
 
 -- ---- a page's counts
@@ -72,7 +72,7 @@ unfolding root page window
 page-sum e xs p = sym (reading-behind (2 ^ e) xs p)
 
 -- ---- how many bits
-pub width-most : (s : ℕ) → s ≤ 4294967295 → digits s ≤ 32
+pub width-most : (s : ℕ) → s ≤ maxTotal → digits s ≤ 32
 width-most s l = digits-le s 32 (omega arith)
 
 -- a tree of a sum of 40 bits

@@ -26,7 +26,7 @@ use Rattle.tree.proofs.Exacts.{exact-coded}
 use Rattle.tree.proofs.Shape.{length-counts}
 use Rattle.tree.proofs.WalkLaws.{shift, walk-tree}
 use Rattle.image.specs.Check.{headed}
-use Rattle.image.specs.Image.{bytesFor, code, size}
+use Rattle.image.specs.Image.{bytesFor, code, size, tableAt}
 use Rattle.image.specs.Query.{beforeFits, look, lookIn, pageFine, readingAt, theReading}
 use Rattle.image.specs.Read.{beforeOf, codeAt, eOf, lOf, nOf, pageOf, pagesOf, rootOf, sOf, startOf, sumOf, treeAt, widthOf}
 use Rattle.image.specs.Reply.{given}
@@ -153,9 +153,9 @@ module _ (s : List ℕ) (hd : headed s ≡ true) (all : All s (pagesOf s) 0) whe
   pub top : beforeOf s K ≡ sOf s
   top = ap (beforeOf s) {x = K} {y = 0 + K} (omega arith) ∙ all .top
 
-  pub body-long : length (drop (16 + 4 * K) s) ≡ bytesFor (lOf s)
+  pub body-long : length (drop (tableAt K) s) ≡ bytesFor (lOf s)
   unfolding size pagesOf
-  body-long = omega (arith, length-drop (16 + 4 * K) s, size-is)
+  body-long = omega (arith, length-drop (tableAt K) s, size-is)
 
   pub bits-long : length b ≡ c + 8 * bytesFor (lOf s)
   unfolding codeAt size pagesOf

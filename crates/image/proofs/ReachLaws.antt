@@ -24,7 +24,7 @@ use Rattle.image.specs.Searching.{Between, Hit, Narrowable, Narrowed}
 use Rattle.image.specs.Steps.{placed, reachFrom}
 use Rattle.image.specs.Test.{checked}
 use Rattle.image.proofs.CheckLaws.{root-small}
-use Rattle.image.proofs.HeadLaws.{never, plain}
+use Rattle.image.proofs.HeadLaws.{bounds, never}
 use Rattle.image.proofs.Mirror.{checked-image}
 use Rattle.image.proofs.Passing.{All, from-all, page-fine, placeOf, top}
 use Rattle.image.proofs.Reaching.{reach-found, reach-six}
@@ -70,7 +70,7 @@ guess-small x n l m = omega (arith, mul-le-mul-right {m = x} {n = 1099511627776}
 
 module _ {s : List ℕ} {h : Head} {q : ℕ} {at : Span} (o : Opened s h) (b : Between s q at) where
   pub narrowable : at .lo < at .hi → Narrowable q at
-  narrowable l = record { many = l; few = omega (arith, b .inside, plain s h o .few); low = b .low; high = b .high; small = b .small }
+  narrowable l = record { many = l; few = omega (arith, b .inside, bounds s h o .few); low = b .low; high = b .high; small = b .small }
 
   module _ {m : ℕ} {t : Root} (l : at .lo ≤ m) (u : m < at .hi) (rt : RootAt s m t) where
     pub narrow-bad : {r : Span} → r .ok ≡ false → t .ok ≡ false → Narrowed s q at r
@@ -83,7 +83,7 @@ module _ {s : List ℕ} {h : Head} {q : ℕ} {at : Span} (o : Opened s h) (b : B
 
     module _ (ok : t .ok ≡ true) where
       value-small : t .value < 4294967296
-      value-small = omega (arith, rt .value-is ok, root-small s m (plain s h o .narrow))
+      value-small = omega (arith, rt .value-is ok, root-small s m (bounds s h o .narrow))
 
       pub narrow-left : q ≤ t .value → Narrowed s q at (record { ok = true; lo = at .lo; hi = m; below = at .below; above = t .value })
       narrow-left k = record {

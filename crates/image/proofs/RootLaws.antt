@@ -2,7 +2,7 @@
 use mathlib.Core.Path.{_≡_, refl, sym, ap, ap₂, _∙_}
 use mathlib.Core.Bool.{true, false}
 use mathlib.Core.List.{List}
-use Prim.Native.Nat.{ℕ, zero, suc, _+_, _-_, _*_, _≤_, _<_}
+use Prim.Native.Nat.{ℕ, zero, suc, _+_, _-_, _≤_, _<_}
 use native.Mathlib.Omega.{arith}
 use lib.ListN.{getD, take, drop}
 use lib.Dec.{leb}
@@ -13,19 +13,19 @@ use Rattle.bits.specs.Bits.{bits, value}
 use Rattle.bits.specs.Numbers.{numberAt}
 use Rattle.reserve.specs.Reserve.{digits, reserve}
 use Rattle.image.specs.Code.{BeforeAt, Opened, PageAt, RootAt}
-use Rattle.image.specs.Image.{pages}
+use Rattle.image.specs.Image.{tableAt}
 use Rattle.image.specs.Query.{beforeFits, fits, pageFine, pageTests}
-use Rattle.image.specs.Read.{beforeOf, codeAt, eOf, lOf, rootOf, sOf, startOf, sumOf, treeAt, widthOf}
-use Rattle.image.proofs.HeadLaws.{never, plain}
+use Rattle.image.specs.Read.{beforeOf, eOf, lOf, rootOf, sOf, startOf, sumOf, treeAt, widthOf}
+use Rattle.image.proofs.HeadLaws.{bounds, never}
 use Rattle.image.proofs.PageLaws.{reserve-most}
 use Rattle.image.specs.declared.head.Head.{Head}
 use Rattle.image.specs.declared.page.Root.{Root}
 use Rattle.image.specs.declared.page.Page.{Page}
 
 -- ---- a root
-module _ (s : List ℕ) (h : Head) (o : Opened s h) (p a w : ℕ) (ea : a ≡ numberAt s (16 + 4 * p) 4) (ew : w ≡ digits (h .total)) where
+module _ (s : List ℕ) (h : Head) (o : Opened s h) (p a w : ℕ) (ea : a ≡ numberAt s (tableAt p) 4) (ew : w ≡ digits (h .total)) where
   width : w ≡ widthOf s
-  width = ew ∙ plain s h o .width
+  width = ew ∙ bounds s h o .width
 
   pub root-bad : h .bits < a + w → RootAt s p (record { ok = false; value = 0; end = 0 })
   unfolding startOf
@@ -36,12 +36,12 @@ module _ (s : List ℕ) (h : Head) (o : Opened s h) (p a w : ℕ) (ea : a ≡ nu
     end-le = λ n. absurd (never n);
   }
 
-  pub root-good : (v : ℕ) → a + w ≤ h .bits → v ≡ value (take w (drop (8 * (16 + 4 * pages (h .e) (h .hours)) + a) (bits s)))
+  pub root-good : (v : ℕ) → a + w ≤ h .bits → v ≡ value (take w (drop (h .code + a) (bits s)))
       → RootAt s p (record { ok = true; value = v; end = a + w })
   unfolding startOf rootOf
   root-good v l e = record {
     ok-is = sym (le-leb (startOf s p + widthOf s) (lOf s) (omega (arith, width, o .head .bits-is)));
-    value-is = λ _. e ∙ ap₂ (λ (x y : ℕ). value (part (bits s) x y)) (ap₂ _+_ (plain s h o .code-is) ea) width;
+    value-is = λ _. e ∙ ap₂ (λ (x y : ℕ). value (part (bits s) x y)) (ap₂ _+_ (o .head .code-is) ea) width;
     end-is = λ _. ap₂ _+_ ea width;
     end-le = λ _. omega (arith, width, o .head .bits-is);
   }
@@ -110,21 +110,19 @@ module _ {s : List ℕ} {h : Head} {p : ℕ} {t x : Root} (g : Roots s h p t x) 
   reserves v e = e ∙ ap₂ reserve (o .head .e-is) sums
 
   pub tree-most : t .value ≤ h .total → reserve (h .e) (t .value - x .value) ≤ 8960
-  tree-most l = reserve-most (h .e) (t .value - x .value) (plain s h o .e-high) (omega (arith, o .head .total-small))
+  tree-most l = reserve-most (h .e) (t .value - x .value) (bounds s h o .e-high) (omega (arith, o .head .total-small))
 
   pub tree-passes : {v : ℕ} → v ≡ reserve (h .e) (t .value - x .value) → h .bits < t .end + v
       → fits s (startOf s p + widthOf s) (reserve (eOf s) (sumOf s p)) ≡ false
   tree-passes {v} e l =
       lt-leb (startOf s p + widthOf s + reserve (eOf s) (sumOf s p)) (lOf s) (omega (arith, reserves v e, own-end, o .head .bits-is))
 
-  pub page-good : {v a : ℕ} → v ≡ reserve (h .e) (t .value - x .value) → a ≡ 8 * (16 + 4 * pages (h .e) (h .hours)) → t .value ≤ h .total
-      → x .value ≤ t .value → t .end + v ≤ h .bits
-      → PageAt s p (record { ok = true; before = x .value; sum = t .value - x .value; at = a + t .end })
+  pub page-good : {v : ℕ} → v ≡ reserve (h .e) (t .value - x .value) → t .value ≤ h .total → x .value ≤ t .value → t .end + v ≤ h .bits
+      → PageAt s p (record { ok = true; before = x .value; sum = t .value - x .value; at = h .code + t .end })
   unfolding pageFine treeAt
-  page-good {v} {a} ev ea l m n =
-      let f = plain s h o in
+  page-good {v} ev l m n =
+      let f = bounds s h o in
       let q = o .head in
-      let b : a ≡ codeAt s = ea ∙ f .code-is in
       let r : v ≡ reserve (eOf s) (t .value - x .value) = ev ∙ ap (λ (k : ℕ). reserve k (t .value - x .value)) (q .e-is) in
       record {
         ok-is =
@@ -146,13 +144,13 @@ module _ {s : List ℕ} {h : Head} {p : ℕ} {t x : Root} (g : Roots s h p t x) 
             ));
         before-is = λ _. last;
         sum-is = λ _. sums;
-        at-is = λ _. omega (arith, b, own-end);
+        at-is = λ _. omega (arith, q .code-is, own-end);
         total = λ _. omega (arith, q .total-is);
         lies = λ _. record {
           height = omega (arith, f .e-high, q .e-is);
           total = omega (arith, q .total-small);
           long = omega (arith, f .long);
-          inside = omega (arith, r, b, f .code-at, f .long);
-          small = omega (arith, r, b, f .code-at, f .few, q .bits-small);
+          inside = omega (arith, r, q .code-is, f .code-at, f .long);
+          small = omega (arith, r, q .code-is, f .code-at, f .few, q .bits-small);
         };
       }

@@ -13,7 +13,7 @@ use Rattle.lists.proofs.Tests.{each, left, right}
 use Rattle.tree.specs.Read.{Found, damaged, found}
 use Rattle.image.specs.Calls.{lengthCall, put, putAfter, unwritten, writeCall}
 use Rattle.image.specs.Check.{Verdict, accepted, check, fails, headed, holds}
-use Rattle.image.specs.Image.{Limits, bytesFor, image, size}
+use Rattle.image.specs.Image.{Limits, bytesFor, image, maxHours, maxTotal, size}
 use Rattle.image.specs.Query.{count, look, reading, readingAt, theCount, theReading}
 use Rattle.image.specs.Reach.{Free, If, Reach, says-index, says-six}
 use Rattle.image.specs.Read.{eOf, listOf, nOf, sOf}
@@ -32,7 +32,7 @@ Small (given n) = n ≤ 4294967295
 Small (refused k) = (1 ≤ k) × (k ≤ 12)
 
 abbrev pub SmallVerdict : Verdict → Type 0
-SmallVerdict (holds n s) = (n ≤ 65536) × (s ≤ 4294967295)
+SmallVerdict (holds n s) = (n ≤ maxHours) × (s ≤ maxTotal)
 SmallVerdict (fails k) = (1 ≤ k) × (k ≤ 12)
 
 or-refused : (b : Bool) (k : ℕ) (r : Reply) → 1 ≤ k → k ≤ 12 → (b ≡ true → Small r) → Small (pick b r (refused k))
@@ -54,13 +54,13 @@ pub length-small : (e : ℕ) (xs : List ℕ) → Small (lengthCall e xs)
 unfolding lengthCall
 length-small e xs =
     or-refused (leb 2 e && leb e 8) 1 _ (omega arith) (omega arith) (λ a.
-    or-refused (leb (length xs) 65536) 2 _ (omega arith) (omega arith) (λ b.
-    or-refused (leb (sum xs) 4294967295) 3 _ (omega arith) (omega arith) (λ c.
+    or-refused (leb (length xs) maxHours) 2 _ (omega arith) (omega arith) (λ b.
+    or-refused (leb (sum xs) maxTotal) 3 _ (omega arith) (omega arith) (λ c.
     image-most e xs (record {
       e-low = leb-true 2 e (left (leb 2 e) (leb e 8) a);
       e-high = leb-true e 8 (right (leb 2 e) (leb e 8) a);
-      hours = leb-true (length xs) 65536 b;
-      total = leb-true (sum xs) 4294967295 c;
+      hours = leb-true (length xs) maxHours b;
+      total = leb-true (sum xs) maxTotal c;
     }))))
 
 put-small : (out i : List ℕ) → length i ≤ 4294967295 → Small (put out i .reply)
@@ -94,12 +94,12 @@ check-small s = go (headed s) (accepted s) refl
     go false b e = omega arith
 
 -- ---- the queries, on any bytes
-hours-most : (s : List ℕ) → headed s ≡ true → nOf s ≤ 65536
+hours-most : (s : List ℕ) → headed s ≡ true → nOf s ≤ maxHours
 unfolding headed
-hours-most s e = leb-true (nOf s) 65536 (each _ e .1 .1 .1 .1 .1 .1 .0)
+hours-most s e = leb-true (nOf s) maxHours (each _ e .1 .1 .1 .1 .1 .1 .0)
 
 module _ (s : List ℕ) (bytes : (i : ℕ) → getD s i 0 < 256) where
-  total-most : headed s ≡ true → sOf s ≤ 4294967295
+  total-most : headed s ≡ true → sOf s ≤ maxTotal
   unfolding sOf
   total-most e = word-most s bytes 8 (omega (arith, headed-long s e))
 

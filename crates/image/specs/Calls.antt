@@ -5,14 +5,14 @@ use Prim.Native.Nat.{ℕ}
 use lib.ListN.{length, drop}
 use lib.Dec.{leb}
 use Rattle.lists.specs.Lists.{sum, pick}
-use Rattle.image.specs.Image.{image}
+use Rattle.image.specs.Image.{image, maxHours, maxTotal}
 use Rattle.image.specs.Reply.{Reply, given, refused}
 
 -- length: 1, 'e outside 2 to 8'; 2, 'over 65,536 counts'; 3, the total 'above 4,294,967,295'; else 'the image's length in bytes'
 unfoldable pub lengthCall : ℕ → List ℕ → Reply
 lengthCall e xs =
     pick (leb 2 e && leb e 8)
-    (pick (leb (length xs) 65536) (pick (leb (sum xs) 4294967295) (given (length (image e xs))) (refused 3)) (refused 2))
+    (pick (leb (length xs) maxHours) (pick (leb (sum xs) maxTotal) (given (length (image e xs))) (refused 3)) (refused 2))
     (refused 1)
 
 -- what a call that writes answers, and its buffer afterwards

@@ -1,32 +1,34 @@
 -- Document 01, 'Where a call is turned down': refusals 5 and 6 of check. Assumes nothing.
 use mathlib.Core.Bool.{Bool, _&&_}
-use mathlib.Core.List.{List, [], _∷_}
+use mathlib.Core.List.{List, [], _∷_, _++_}
 use Prim.Native.Nat.{ℕ}
 use lib.ListN.{length, getD}
 use lib.Dec.{leb, eqb}
 use Rattle.lists.specs.Lists.{sum, pick, every, same}
-use Rattle.image.specs.Image.{image, size}
+use Rattle.image.specs.Image.{headerLength, image, maxHours, maxTotal, size}
 use Rattle.image.specs.Read.{eOf, nOf, sOf, lOf, listOf}
 
--- not refusal 5: 'under 16 bytes; edition, e, zero bytes or N wrong; byte length not the one N, e and L give'
-abbrev pub headTests : List ℕ → List Bool
-headTests s =
-    leb 16 (length s)
-    ∷ eqb (getD s 0 0) 1
+-- not 'edition, e, zero bytes or N wrong'
+abbrev pub fieldTests : List ℕ → List Bool
+fieldTests s =
+    eqb (getD s 0 0) 1
     ∷ leb 2 (eOf s)
     ∷ leb (eOf s) 8
     ∷ eqb (getD s 2 0) 0
     ∷ eqb (getD s 3 0) 0
-    ∷ leb (nOf s) 65536
-    ∷ eqb (length s) (size (eOf s) (nOf s) (lOf s))
+    ∷ leb (nOf s) maxHours
     ∷ []
+
+-- not refusal 5: 'under 16 bytes', those, 'byte length not the one N, e and L give'
+abbrev pub headTests : List ℕ → List Bool
+headTests s = leb headerLength (length s) ∷ (fieldTests s ++ (eqb (length s) (size (eOf s) (nOf s) (lOf s)) ∷ []))
 
 unfoldable pub headed : List ℕ → Bool
 headed s = every (headTests s)
 
 -- not refusal 6, 'not the writer's bytes': the list that the bytes say has an image, and the bytes are that image
 unfoldable pub accepted : List ℕ → Bool
-accepted s = headed s && (leb (sum (listOf s)) 4294967295 && same s (image (eOf s) (listOf s)))
+accepted s = headed s && (leb (sum (listOf s)) maxTotal && same s (image (eOf s) (listOf s)))
 
 -- 'check (returns N and S)', or a refusal
 pub data Verdict : Type 0 where

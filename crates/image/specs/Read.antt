@@ -1,13 +1,13 @@
 -- What bytes say when they are read as an image, tested by nothing. Assumes nothing.
 use mathlib.Core.List.{List}
-use Prim.Native.Nat.{ℕ, zero, suc, _+_, _-_, _*_}
+use Prim.Native.Nat.{ℕ, zero, suc, _+_, _-_}
 use lib.ListN.{getD, take}
 use Rattle.lists.specs.Lists.{tabulate, concat, part}
 use Rattle.bits.specs.Bits.{bits, value}
 use Rattle.bits.specs.Numbers.{numberAt}
 use Rattle.reserve.specs.Reserve.{digits}
 use Rattle.tree.specs.Read.{counts}
-use Rattle.image.specs.Image.{pages}
+use Rattle.image.specs.Image.{codeStart, pages, tableAt, totalWidth}
 
 -- ---- the header: '1 is e', '4-7 N, 8-11 total S, 12-15 L'
 unfoldable pub eOf : List ℕ → ℕ
@@ -17,10 +17,10 @@ unfoldable pub nOf : List ℕ → ℕ
 nOf s = numberAt s 4 4
 
 unfoldable pub sOf : List ℕ → ℕ
-sOf s = numberAt s 8 4
+sOf s = numberAt s 8 totalWidth
 
 unfoldable pub lOf : List ℕ → ℕ
-lOf s = numberAt s 12 4
+lOf s = numberAt s (8 + totalWidth) 4
 
 unfoldable pub pagesOf : List ℕ → ℕ
 pagesOf s = pages (eOf s) (nOf s)
@@ -32,11 +32,11 @@ widthOf s = digits (sOf s)
 -- ---- page p
 -- its start bit, from the table
 unfoldable pub startOf : List ℕ → ℕ → ℕ
-startOf s p = numberAt s (16 + 4 * p) 4
+startOf s p = numberAt s (tableAt p) 4
 
--- where the code starts among the bits of all the bytes, behind the header and the table
+-- where the code starts among the bits of all the bytes
 unfoldable pub codeAt : List ℕ → ℕ
-codeAt s = 8 * (16 + 4 * pagesOf s)
+codeAt s = codeStart (pagesOf s)
 
 -- its root
 unfoldable pub rootOf : List ℕ → ℕ → ℕ

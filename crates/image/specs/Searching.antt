@@ -3,6 +3,7 @@ use mathlib.Core.Bool.{true, false}
 use mathlib.Core.List.{List}
 use mathlib.Core.Path.{_≡_}
 use Prim.Native.Nat.{ℕ, _+_, _-_, _≤_, _<_}
+use Rattle.image.specs.Image.{maxHours}
 use Rattle.image.specs.Read.{pagesOf, rootOf, beforeOf}
 use Rattle.image.specs.Check.{accepted}
 use Rattle.image.specs.declared.reach.Span.{Span}
@@ -10,7 +11,7 @@ use Rattle.image.specs.declared.reach.Span.{Span}
 -- two pages or more, and the roots around them: below q, and q or more
 pub record Narrowable (q : ℕ) (r : Span) : Type 0 where
   pub many : r .lo < r .hi
-  pub few : r .hi ≤ 65536
+  pub few : r .hi ≤ maxHours
   pub low : r .below < q
   pub high : q ≤ r .above
   pub small : r .above < 1099511627776

@@ -1,9 +1,7 @@
 // The check of an image: whether bytes are the writer's.
 use crate::head::Head;
-use crate::head::code_at;
-use crate::head::fields;
-use crate::head::opens;
-use crate::head::pages_of;
+use crate::head::Opening;
+use crate::head::open_image;
 use crate::page::root_of;
 use crate::query::look;
 use tree_check::nodes;
@@ -65,7 +63,7 @@ fn page_test(s: &[u8], h: Head, p: u64, start: u64, before: u64) -> Tested
     if h.bits < end {
         return failed();
     }
-    if !nodes(s, code_at(h) + (own.end as usize), h.e, sum, size) {
+    if !nodes(s, h.code + (own.end as usize), h.e, sum, size) {
         return failed();
     }
     Tested {
@@ -80,7 +78,7 @@ fn pages_pass(s: &[u8], h: Head) -> bool
     requires { ⌜ Opened (now s) h ⌝ }
     ensures { λ r. ⌜ r ≡ pagesFrom (now (s .entry)) (pagesOf (now (s .entry))) 0 0 0 ⌝ }
 {
-    let n = pages_of(h.e, h.hours);
+    let n = h.pages;
     let mut p = 0;
     let mut end = 0;
     let mut root = 0;
@@ -116,7 +114,7 @@ fn fill_zero(s: &[u8], h: Head) -> bool
     ensures { λ r. ⌜ r ≡ clear (bits (now (s .entry))) (codeAt (now (s .entry)) + lOf (now (s .entry)))
         (8 * bytesFor (lOf (now (s .entry))) - lOf (now (s .entry))) ⌝ }
 {
-    let end = code_at(h) + (h.bits as usize);
+    let end = h.code + (h.bits as usize);
     let spare = 8 * s.len() - end;
     zero_bits(s, end, spare)
 }
@@ -125,10 +123,9 @@ fn fill_zero(s: &[u8], h: Head) -> bool
 pub fn check(s: &[u8]) -> Verdict
     ensures { λ r. ⌜ ruled r ≡ checkOf (now (s .entry)) ⌝ }
 {
-    if !opens(s) {
+    let Opening::Image(h) = open_image(s) else {
         return Verdict::Refused(5);
-    }
-    let h = fields(s);
+    };
     if !pages_pass(s, h) {
         return Verdict::Refused(6);
     }

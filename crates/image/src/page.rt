@@ -1,10 +1,10 @@
 // A page of an image: its root, the root before it, and the tests of both and of its tree.
 use crate::head::Head;
-use crate::head::code_at;
+use crate::head::table_at;
 use bits::numbers::get4;
 ghost use mathlib.Core.Bool.{false};
 ghost use mathlib.Core.Path.{_≡_};
-ghost use Prim.Native.Nat.{_+_, _*_, _<_};
+ghost use Prim.Native.Nat.{_+_, _<_};
 ghost use Rattle.image.specs.Read.{pagesOf};
 ghost use Rattle.image.specs.Code.{Opened, RootAt, BeforeAt, PageAt};
 
@@ -20,7 +20,7 @@ pub(crate) fn root_of(s: &[u8], h: Head, p: u64) -> Root
     requires { ⌜ Opened (now s) h × (p < pagesOf (now s)) ⌝ }
     ensures { λ r. ⌜ RootAt (now (s .entry)) p r ⌝ }
 {
-    let start = get4(s, 16 + 4 * (p as usize));
+    let start = get4(s, table_at(h.table, p));
     let w = reserve::digits_of(h.total);
     let end = start + (w as u64);
     if h.bits < end {
@@ -30,7 +30,7 @@ pub(crate) fn root_of(s: &[u8], h: Head, p: u64) -> Root
             end: 0,
         };
     }
-    let value = bits::get_field(s, code_at(h) + (start as usize), w);
+    let value = bits::get_field(s, h.code + (start as usize), w);
     Root {
         ok: true,
         value,
@@ -96,7 +96,7 @@ pub(crate) fn page_of(s: &[u8], h: Head, p: u64) -> Page
     if h.bits < own.end + (reserve::reserve_of(h.e, sum) as u64) {
         return damaged();
     }
-    let at = code_at(h) + (own.end as usize);
+    let at = h.code + (own.end as usize);
     Page {
         ok: true,
         before: last.value,

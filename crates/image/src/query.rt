@@ -1,8 +1,8 @@
 // Count and reading of an image: each tests only its path.
 use crate::answer::Answer;
 use crate::head::Head;
-use crate::head::fields;
-use crate::head::opens;
+use crate::head::Opening;
+use crate::head::open_image;
 use crate::page::page_of;
 use tree_walk::DAMAGED;
 use tree_walk::walk;
@@ -40,10 +40,9 @@ fn answer_of(r: u64) -> Answer
 pub fn count(s: &[u8], i: u64) -> Answer
     ensures { λ r. ⌜ told r ≡ counted (now (s .entry)) i ⌝ }
 {
-    if !opens(s) {
+    let Opening::Image(h) = open_image(s) else {
         return Answer::Refused(5);
-    }
-    let h = fields(s);
+    };
     if h.hours <= i {
         return Answer::Refused(7);
     }
@@ -54,10 +53,9 @@ pub fn count(s: &[u8], i: u64) -> Answer
 pub fn reading(s: &[u8], i: u64) -> Answer
     ensures { λ r. ⌜ told r ≡ read (now (s .entry)) i ⌝ }
 {
-    if !opens(s) {
+    let Opening::Image(h) = open_image(s) else {
         return Answer::Refused(5);
-    }
-    let h = fields(s);
+    };
     if h.hours < i {
         return Answer::Refused(7);
     }

@@ -1,9 +1,8 @@
 // Reach: the least index whose reading is a figure or more.
 use crate::answer::Answer;
 use crate::head::Head;
-use crate::head::fields;
-use crate::head::opens;
-use crate::head::pages_of;
+use crate::head::Opening;
+use crate::head::open_image;
 use crate::page::page_of;
 use crate::page::root_of;
 ghost use mathlib.Core.Bool.{false};
@@ -94,7 +93,7 @@ fn find(s: &[u8], h: Head, q: u64) -> Span
     requires { ⌜ Opened (now s) h × (1 ≤ q) × (q ≤ h .total) ⌝ }
     ensures { λ r. ⌜ Hit (now (s .entry)) q r ⌝ }
 {
-    let n = pages_of(h.e, h.hours);
+    let n = h.pages;
     if n == 0 {
         return nowhere();
     }
@@ -149,10 +148,9 @@ fn reach_in(s: &[u8], h: Head, q: u64, at: Span) -> Answer
 pub fn reach(s: &[u8], p: u64) -> Answer
     ensures { λ r. ⌜ Reach (now (s .entry)) p (told r) ⌝ }
 {
-    if !opens(s) {
+    let Opening::Image(h) = open_image(s) else {
         return Answer::Refused(5);
-    }
-    let h = fields(s);
+    };
     if h.total < p {
         return Answer::Refused(8);
     }

@@ -1,34 +1,41 @@
 -- `image::check::check` meets its contract. Assumes nothing.
-use mathlib.Core.Path.{sym, _∙_}
+use mathlib.Core.Bool.{false}
+use mathlib.Core.Path.{_≡_, sym, subst, _∙_}
 use Prim.Native.Nat.{ℕ, _<_}
 use native.Mathlib.Omega.{arith}
 use lib.ListN.{getD}
+use borrow.Author.Needs.{needs}
 use borrow.Author.Tests.{not-true, not-false}
 use Rattle.image.specs.Checking.{ruled}
-use Rattle.image.specs.Code.{Opened}
+use Rattle.image.specs.Check.{headed}
+use Rattle.image.specs.Code.{Opened, Opens}
 use Rattle.image.proofs.CheckLaws.{check-five, check-holds, check-six}
-use Rattle.image.proofs.HeadLaws.{headed-long, opened}
 use Rattle.image.proofs.check.check.Statement.{statement}
 use Rattle.image.proofs.check.check.Tie as tie
 
 -- past refusal 5
-past : (c : tie.After-fields) → Opened (c .before .before .before .before .args .s .now) (c .fields .result)
-past c =
-    let t = c .before .before .opens in
-    opened (t .result) (t .ensures) (c .before .if1 .left) (c .fields .ensures)
+past : (c : tie.After-known-told) → Opened (c .before .before .before .before .before .args .s .now) (c .before .h .given .0 .0)
+past c = subst (Opens (c .before .before .before .before .before .args .s .now)) (c .before .h .given .1) (c .before .before .before .open-image .ensures)
 
-bytes : (c : tie.After-fields) (i : ℕ) → getD (c .before .before .before .before .args .s .now) i 0 < 256
-bytes c i = omega (arith, c .before .before .before .shared-slice-known .given i)
+-- at refusal 5
+wrong : (c : tie.After-enum-told) → headed (c .before .before .before .before .args .s .now) ≡ false
+wrong c = subst (Opens (c .before .before .before .before .args .s .now)) (c .enum-told .given .1) (c .before .before .open-image .ensures)
 
-opens-requires : tie.Need-opens-requires
-opens-requires c κs = tt
+open-image-requires : tie.Need-open-image-requires
+open-image-requires c κs = tt
+
+enum-known-h : tie.Need-enum-known-h
+enum-known-h c = search needs
+
+enum-told : tie.Need-enum-told
+enum-told c = search needs
+
+bytes : (c : tie.After-known-told) (i : ℕ) → getD (c .before .before .before .before .before .args .s .now) i 0 < 256
+bytes c i = omega (arith, c .before .before .before .before .shared-slice-known .given i)
 
 returns : tie.Need-returns
 unfolding ruled
-returns c = check-five _ (sym (c .before .opens .ensures) ∙ not-true _ (c .if1 .taken))
-
-fields-requires : tie.Need-fields-requires
-fields-requires c κs = headed-long _ (sym (c .before .opens .ensures) ∙ not-false _ (c .if1 .left))
+returns c = check-five _ (wrong c)
 
 pages-pass-requires : tie.Need-pages-pass-requires
 pages-pass-requires c κs = past c
@@ -38,7 +45,7 @@ unfolding ruled
 returns-2 c =
     let t = c .before in
     let f = t .before in
-    check-six (past f) (bytes f) 0 (sym (t .pages-pass .ensures) ∙ not-true (t .pages-pass .result) (c .if2 .taken))
+    check-six (past f) (bytes f) 0 (sym (t .pages-pass .ensures) ∙ not-true (t .pages-pass .result) (c .if1 .taken))
 
 rest-zero-requires : tie.Need-rest-zero-requires
 rest-zero-requires c κs = past (c .before .before)
@@ -48,7 +55,7 @@ unfolding ruled
 returns-3 c =
     let t = c .before in
     let f = t .before .before .before in
-    check-six (past f) (bytes f) 1 (sym (t .rest-zero .ensures) ∙ not-true (t .rest-zero .result) (c .if3 .taken))
+    check-six (past f) (bytes f) 1 (sym (t .rest-zero .ensures) ∙ not-true (t .rest-zero .result) (c .if2 .taken))
 
 fill-zero-requires : tie.Need-fill-zero-requires
 fill-zero-requires c κs = past (c .before .before .before .before)
@@ -58,7 +65,7 @@ unfolding ruled
 returns-4 c =
     let t = c .before in
     let f = t .before .before .before .before .before in
-    check-six (past f) (bytes f) 2 (sym (t .fill-zero .ensures) ∙ not-true (t .fill-zero .result) (c .if4 .taken))
+    check-six (past f) (bytes f) 2 (sym (t .fill-zero .ensures) ∙ not-true (t .fill-zero .result) (c .if3 .taken))
 
 returns-5 : tie.Need-returns-5
 unfolding ruled
@@ -67,17 +74,18 @@ returns-5 c =
     let r = z .before .before in
     let p = r .before .before in
     check-holds (past (p .before)) (bytes (p .before))
-    (sym (p .pages-pass .ensures) ∙ not-false (p .pages-pass .result) (r .before .if2 .left))
-    (sym (r .rest-zero .ensures) ∙ not-false (r .rest-zero .result) (z .before .if3 .left))
-    (sym (z .fill-zero .ensures) ∙ not-false (z .fill-zero .result) (c .if4 .left))
+    (sym (p .pages-pass .ensures) ∙ not-false (p .pages-pass .result) (r .before .if1 .left))
+    (sym (r .rest-zero .ensures) ∙ not-false (r .rest-zero .result) (z .before .if2 .left))
+    (sym (z .fill-zero .ensures) ∙ not-false (z .fill-zero .result) (c .if3 .left))
 
 pub check-spec : {M : Type 1} → statement M
 check-spec =
     tie.close
     (tie.spec
-    opens-requires
+    open-image-requires
+    enum-known-h
+    enum-told
     returns
-    fields-requires
     pages-pass-requires
     returns-2
     rest-zero-requires

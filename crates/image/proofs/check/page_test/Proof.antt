@@ -5,7 +5,7 @@ use borrow.Author.Tests.{not-true, not-false}
 use mathlib.Core.Path.{sym, _∙_}
 use Rattle.image.proofs.CheckLaws.{Own, Standing, elsewhere, end-small, falls, inexact, own-small, own-within, page-passes, root-passes}
 use Rattle.image.proofs.CheckLaws.{tree-lies, tree-over}
-use Rattle.image.proofs.HeadLaws.{plain}
+use Rattle.image.proofs.HeadLaws.{bounds}
 use Rattle.image.proofs.check.page_test.Statement.{statement}
 use Rattle.image.proofs.check.page_test.Tie as tie
 
@@ -25,7 +25,7 @@ in-place c = c .before .before .before .before
 abbrev first : tie.After-reserve-of → tie.Else1
 first c = root-ok (in-place c)
 
-abbrev measured : tie.After-code-at → tie.After-reserve-of
+abbrev measured : tie.After-struct-known7 → tie.After-reserve-of
 measured c = c .before .before .before .before
 
 -- the root was read
@@ -81,7 +81,7 @@ reserve-of-requires : tie.Need-reserve-of-requires
 reserve-of-requires c κs =
     let g = own (root-ok (c .before .before .before)) in
     let a = entry (root-ok (c .before .before .before)) .args in
-    (plain (a .s .now) (a .h) (g .opened) .e-high, omega (arith, own-small g))
+    (bounds (a .s .now) (a .h) (g .opened) .e-high, omega (arith, own-small g))
 
 add-end : tie.Need-add-end
 add-end c = omega (arith, end-small (standing (c .before)))
@@ -92,23 +92,17 @@ failed-requires-4 c κs = search needs
 returns-4 : tie.Need-returns-4
 returns-4 c = tree-over (standing (c .before .before .before .before)) (c .failed4 .ensures) (c .before .if4 .taken)
 
-code-at-requires : tie.Need-code-at-requires
-code-at-requires c κs =
-    let a = entry (first (c .before .before .before)) in
-    let f = plain (a .args .s .now) (a .args .h) (a .pre .0) in
-    (f .e-high, f .hours-high)
-
 add-nodes : tie.Need-add-nodes
 add-nodes c =
     let g = standing (measured c) .own-root in
     let a = entry (first (measured c)) .args in
-    let f = plain (a .s .now) (a .h) (g .opened) in
-    omega (arith, own-within g, g .opened .head .bits-small, c .code-at .ensures, f .pages-are, f .few)
+    let f = bounds (a .s .now) (a .h) (g .opened) in
+    omega (arith, own-within g, g .opened .head .bits-small, g .opened .head .code-is, f .code-at, f .few)
 
 nodes-requires : tie.Need-nodes-requires
 nodes-requires c κs =
     let m = measured c in
-    (tree-lies (standing m) (c .code-at .ensures) (c .before .if4 .left), m .reserve-of .ensures)
+    (tree-lies (standing m) (c .before .if4 .left), m .reserve-of .ensures)
 
 failed-requires-5 : tie.Need-failed-requires-5
 failed-requires-5 c κs = search needs
@@ -117,14 +111,14 @@ returns-5 : tie.Need-returns-5
 returns-5 c =
     let n = c .before .before in
     let k = n .before in
-    inexact (standing (measured k)) (k .code-at .ensures) (c .failed5 .ensures)
+    inexact (standing (measured k)) (c .failed5 .ensures)
     (sym (n .nodes .ensures) ∙ not-true (n .nodes .result) (c .before .if5 .taken))
 
 returns-6 : tie.Need-returns-6
 returns-6 c =
     let n = c .before in
     let k = n .before in
-    page-passes (standing (measured k)) (k .code-at .ensures) (measured k .before .before .if3 .left) (k .before .if4 .left)
+    page-passes (standing (measured k)) (measured k .before .before .if3 .left) (k .before .if4 .left)
     (sym (n .nodes .ensures) ∙ not-false (n .nodes .result) (c .if5 .left))
 
 pub page-test-spec : {M : Type 1} → statement M
@@ -145,7 +139,6 @@ page-test-spec =
     add-end
     failed-requires-4
     returns-4
-    code-at-requires
     add-nodes
     nodes-requires
     failed-requires-5

@@ -6,7 +6,6 @@ use borrow.Author.Tests.{not-true, not-false}
 use Rattle.image.specs.Read.{pagesOf}
 use Rattle.image.specs.Test.{pagesFrom}
 use Rattle.image.proofs.CheckLaws.{pages-done, pages-on, pages-short, pages-stop}
-use Rattle.image.proofs.HeadLaws.{plain}
 use Rattle.image.proofs.check.pages_pass.Statement.{statement}
 use Rattle.image.proofs.check.pages_pass.Tie as tie
 
@@ -16,26 +15,19 @@ Inv-loop s h n p₀ end₀ root₀ p end root = (p ≤ n) × (end ≤ h .bits) �
 abbrev μ-loop : tie.MeasureT-loop
 μ-loop s h n p₀ end₀ root₀ p end root = n - p
 
-pages-of-requires : tie.Need-pages-of-requires Inv-loop μ-loop
-pages-of-requires c κs =
-    let a = c .before in
-    let f = plain (a .args .s .now) (a .args .h) (a .pre) in
-    (f .e-high, omega (arith, f .hours-high))
-
 loop-holds : tie.Need-loop-holds Inv-loop μ-loop
 loop-holds c =
-    let a = c .before .before in
+    let a = c .before in
     let s = a .args .s .now in
-    let n : pagesOf s ≡ c .pages-of .result - 0 = omega (arith, c .pages-of .ensures .0, plain s (a .args .h) (a .pre) .pages-are) in
+    let n : pagesOf s ≡ a .args .h .pages - 0 = omega (arith, a .pre .head .pages-are) in
     (omega arith, omega arith, ap (λ (k : ℕ). pagesFrom s k 0 0 0) n)
 
 page-test-requires : tie.Need-page-test-requires Inv-loop μ-loop
 page-test-requires c κs =
     let c1 = c .before in
-    let c2 = c1 .before in
-    let a = c2 .before .before in (
+    let a = c1 .before .before in (
       a .pre,
-      omega (arith, c .loop-test .taken, c2 .pages-of .ensures .0, plain (a .args .s .now) (a .args .h) (a .pre) .pages-are),
+      omega (arith, c .loop-test .taken, a .pre .head .pages-are),
       c1 .loop .inv .1,
     )
 
@@ -44,9 +36,8 @@ returns c =
     let c2 = c .before .before in
     let c3 = c2 .before in
     let c4 = c3 .before in
-    let c5 = c4 .before in
     let t = c2 .page-test in
-    sym (c4 .loop .inv .2 ∙ pages-stop (t .ensures) (c5 .pages-of .result) (c3 .loop-test .taken) (not-true (t .result .ok) (c .if1 .taken)))
+    sym (c4 .loop .inv .2 ∙ pages-stop (t .ensures) (c4 .before .before .args .h .pages) (c3 .loop-test .taken) (not-true (t .result .ok) (c .if1 .taken)))
 
 add-p : tie.Need-add-p Inv-loop μ-loop
 add-p c = omega arith
@@ -59,23 +50,21 @@ loop-again c =
     let c2 = c .before .before in
     let c3 = c2 .before in
     let c4 = c3 .before in
-    let c5 = c4 .before in
-    let c7 = c5 .before .before in
+    let a = c4 .before .before in
     let t = c2 .page-test in
     let ok = not-false (t .result .ok) (c .if1 .left) in (
       omega (arith, c3 .loop-test .taken),
-      omega (arith, t .ensures .end-le ok, c7 .pre .head .bits-is),
-      c4 .loop .inv .2 ∙ pages-on (t .ensures) (c5 .pages-of .result) (c3 .loop-test .taken) ok,
+      omega (arith, t .ensures .end-le ok, a .pre .head .bits-is),
+      c4 .loop .inv .2 ∙ pages-on (t .ensures) (a .args .h .pages) (c3 .loop-test .taken) ok,
     )
 
 returns-2 : tie.Need-returns-2 Inv-loop μ-loop
 returns-2 c =
     let c2 = c .before .before in
     let c3 = c2 .before in
-    let c4 = c3 .before in
-    let a = c4 .before .before in
+    let a = c3 .before .before in
     let l = c3 .loop in
-    sym (l .inv .2 ∙ pages-short (a .args .s .now) (a .args .h) (a .pre) (c4 .pages-of .result) (l .p) (l .end) (l .root)
+    sym (l .inv .2 ∙ pages-short (a .args .s .now) (a .args .h) (a .pre) (a .args .h .pages) (l .p) (l .end) (l .root)
     (c2 .loop-test .left) (c .if2 .taken))
 
 returns-3 : tie.Need-returns-3 Inv-loop μ-loop
@@ -83,10 +72,9 @@ returns-3 c =
     let c1 = c .before in
     let c3 = c1 .before .before in
     let c4 = c3 .before in
-    let c5 = c4 .before in
-    let a = c5 .before .before in
+    let a = c4 .before .before in
     let l = c4 .loop in
-    pages-done (a .args .s .now) (a .args .h) (a .pre) (c5 .pages-of .result) (l .p) (l .end) (l .root) (c3 .loop-test .left) (c1 .if2 .left)
+    pages-done (a .args .s .now) (a .args .h) (a .pre) (a .args .h .pages) (l .p) (l .end) (l .root) (c3 .loop-test .left) (c1 .if2 .left)
     ∙ sym (l .inv .2)
 
 pub pages-pass-spec : {M : Type 1} → statement M
@@ -95,7 +83,6 @@ pages-pass-spec =
     (tie.spec
     Inv-loop
     μ-loop
-    pages-of-requires
     loop-holds
     page-test-requires
     returns

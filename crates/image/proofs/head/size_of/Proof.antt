@@ -3,12 +3,14 @@ use borrow.Author.Needs.{needs}
 use Rattle.image.proofs.HeadLaws.{size-of-is}
 use Rattle.image.proofs.head.size_of.Statement.{statement}
 use Rattle.image.proofs.head.size_of.Tie as tie
+use Rattle.image.proofs.head.pages_of.Reads as pages-of-reads
+use Rattle.image.proofs.head.table_at.Reads as table-at-reads
 
 pages-of-requires : tie.Need-pages-of-requires
 pages-of-requires c κs = search needs
 
-mul-result : tie.Need-mul-result
-mul-result c = search needs
+table-at-requires : tie.Need-table-at-requires
+table-at-requires c κs = search needs
 
 add-result : tie.Need-add-result
 add-result c = search needs
@@ -16,12 +18,11 @@ add-result c = search needs
 add-result-2 : tie.Need-add-result-2
 add-result-2 c = search needs
 
-add-result-3 : tie.Need-add-result-3
-add-result-3 c = search needs
-
 returns : tie.Need-returns
-returns c = size-of-is (c .before .args .e) (c .before .args .n) (c .before .args .l) (c .pages-of .result) (c .pages-of .ensures .0)
+returns c =
+    let a = c .before .before .args in
+    size-of-is (a .e) (a .n) (a .l) (c .table-at .result) (c .before .pages-of .result) (c .before .pages-of .ensures .0) (c .table-at .ensures)
 
 pub size-of-spec : {M : Type 1} → statement M
 size-of-spec =
-    tie.close (tie.spec pages-of-requires mul-result add-result add-result-2 add-result-3 returns)
+    tie.close (tie.spec pages-of-requires table-at-requires add-result add-result-2 returns)

@@ -3,7 +3,7 @@ use mathlib.Core.Path.{sym, _∙_}
 use native.Mathlib.Omega.{arith}
 use borrow.Author.Tests.{not-true, not-false}
 use borrow.Author.Needs.{needs}
-use Rattle.image.proofs.HeadLaws.{plain}
+use Rattle.image.proofs.HeadLaws.{bounds}
 use Rattle.image.proofs.RootLaws.{Roots, above-total, below-before, own-within, page-bad, page-good, tree-most, tree-passes}
 use Rattle.image.proofs.page.page_of.Statement.{statement}
 use Rattle.image.proofs.page.page_of.Tie as tie
@@ -74,7 +74,7 @@ returns-4 c =
 reserve-of-requires : tie.Need-reserve-of-requires
 reserve-of-requires c κs =
     let a = entry (both-read (below-total (c .before .before))) in
-    (plain (a .args .s .now) (a .args .h) (a .pre .0) .e-high, omega (arith, a .pre .0 .head .total-small))
+    (bounds (a .args .s .now) (a .args .h) (a .pre .0) .e-high, omega (arith, a .pre .0 .head .total-small))
 
 add-if5 : tie.Need-add-if5
 add-if5 c =
@@ -91,24 +91,18 @@ returns-5 c =
     let r = c .before .before .before .before in
     page-bad 5 (c .damaged5 .ensures) (tree-passes (roots (both-read (below-total (ordered r)))) (r .reserve-of .ensures) (c .before .if5 .taken))
 
-code-at-requires : tie.Need-code-at-requires
-code-at-requires c κs =
-    let g = roots (both-read (below-total (ordered (c .before .before .before)))) in
-    let f = plain _ _ (g .opened) in
-    (f .e-high, f .hours-high)
-
 add-at : tie.Need-add-at
 add-at c =
     let g = roots (both-read (below-total (ordered (c .before .before .before .before)))) in
-    let f = plain _ _ (g .opened) in
-    omega (arith, own-within g, g .opened .head .bits-small, c .code-at .ensures, f .pages-are, f .few)
+    let f = bounds _ _ (g .opened) in
+    omega (arith, own-within g, g .opened .head .bits-small, g .opened .head .code-is, f .code-at, f .few)
 
 returns-6 : tie.Need-returns-6
 returns-6 c =
     let r = c .before .before .before .before in
     let i4 = ordered r in
     let i3 = below-total i4 in
-    page-good (roots (both-read i3)) (r .reserve-of .ensures) (c .code-at .ensures) (i3 .if3 .left) (i4 .if4 .left) (c .before .if5 .left)
+    page-good (roots (both-read i3)) (r .reserve-of .ensures) (i3 .if3 .left) (i4 .if4 .left) (c .before .if5 .left)
 
 pub page-of-spec : {M : Type 1} → statement M
 page-of-spec =
@@ -128,6 +122,5 @@ page-of-spec =
     add-if5
     damaged-requires-5
     returns-5
-    code-at-requires
     add-at
     returns-6)

@@ -1,32 +1,30 @@
 -- `image::page::root_of` meets its contract. Assumes nothing.
-use mathlib.Core.Path.{ap, _∙_}
-use Prim.Native.Nat.{ℕ, _+_}
+use mathlib.Core.Path.{_≡_, ap, _∙_}
+use Prim.Native.Nat.{ℕ}
 use native.Mathlib.Omega.{arith}
-use lib.ListN.{take, drop}
 use borrow.Author.Needs.{needs}
-use Rattle.bits.specs.Bits.{bits, value}
-use Rattle.image.proofs.HeadLaws.{plain}
+use Rattle.bits.specs.Numbers.{numberAt}
+use Rattle.image.specs.Image.{tableAt}
+use Rattle.image.proofs.HeadLaws.{bounds}
 use Rattle.image.proofs.RootLaws.{root-bad, root-good}
 use Rattle.image.proofs.page.root_of.Statement.{statement}
 use Rattle.image.proofs.page.root_of.Tie as tie
 
-mul-get4 : tie.Need-mul-get4
-mul-get4 c =
-    let a = c .before in
-    let f = plain (a .args .s .now) (a .args .h) (a .pre .0) in
-    omega (arith, f .few, a .pre .1)
+-- page p's start bit stands in the table
+start-is : (c : tie.After-get4)
+    → c .get4 .result ≡ numberAt (c .before .before .before .args .s .now) (tableAt (c .before .before .before .args .p)) 4
+start-is c =
+    c .get4 .ensures .is ∙ ap (λ (z : ℕ). numberAt (c .before .before .before .args .s .now) z 4) (c .before .table-at .ensures)
 
-add-get4 : tie.Need-add-get4
-add-get4 c =
+table-at-requires : tie.Need-table-at-requires
+table-at-requires c κs =
     let a = c .before in
-    let f = plain (a .args .s .now) (a .args .h) (a .pre .0) in
-    omega (arith, f .few, a .pre .1)
+    (a .pre .0 .head .table-is, omega (arith, bounds (a .args .s .now) (a .args .h) (a .pre .0) .few, a .pre .1))
 
 get4-requires : tie.Need-get4-requires
 get4-requires c κs =
-    let a = c .before in
-    let f = plain (a .args .s .now) (a .args .h) (a .pre .0) in
-    omega (arith, f .long, a .pre .1)
+    let a = c .before .before in
+    omega (arith, bounds (a .args .s .now) (a .args .h) (a .pre .0) .long, a .pre .1, c .table-at .ensures)
 
 digits-of-requires : tie.Need-digits-of-requires
 digits-of-requires c κs = search needs
@@ -39,40 +37,26 @@ add-end c = search needs
 
 returns : tie.Need-returns
 returns c =
-    let a = c .before .before .before .before .before in
-    root-bad (a .args .s .now) (a .args .h) (a .pre .0) (a .args .p) _ _ (c .before .before .before .get4 .ensures .is)
-    (c .before .before .digits-of .ensures) (c .if1 .taken)
-
-code-at-requires : tie.Need-code-at-requires
-code-at-requires c κs =
-    let a = c .before .before .before .before .before in
-    let f = plain (a .args .s .now) (a .args .h) (a .pre .0) in
-    (f .e-high, f .hours-high)
+    let a = c .before .before .before .before .before .before in
+    root-bad (a .args .s .now) (a .args .h) (a .pre .0) (a .args .p) _ _ (start-is (c .before .before .before)) (c .before .before .digits-of .ensures)
+    (c .if1 .taken)
 
 add-get-field : tie.Need-add-get-field
 add-get-field c =
-    let a = c .before .before .before .before .before .before in
-    let f = plain (a .args .s .now) (a .args .h) (a .pre .0) in
-    omega (arith, f .few, f .pages-are, c .code-at .ensures, c .before .before .before .before .get4 .ensures .small)
+    let a = c .before .before .before .before .before .before .before in
+    let f = bounds (a .args .s .now) (a .args .h) (a .pre .0) in
+    omega (arith, f .few, f .code-at, a .pre .0 .head .code-is, c .before .before .before .before .get4 .ensures .small)
 
 get-field-requires : tie.Need-get-field-requires
 get-field-requires c κs =
-    let a = c .before .before .before .before .before .before in
-    let f = plain (a .args .s .now) (a .args .h) (a .pre .0) in
-    let w = c .before .before .before .digits-of .ensures in (
+    let a = c .before .before .before .before .before .before .before in
+    let q = a .pre .0 .head in
+    let f = bounds (a .args .s .now) (a .args .h) (a .pre .0) in
+    let w = c .before .before .before .digits-of .ensures in
+    let g = c .before .before .before .before .get4 .ensures .small in (
       (
-        omega (arith, f .code-is, f .code-at, f .long, c .code-at .ensures),
-        omega (
-          arith,
-          f .code-is,
-          f .code-at,
-          f .few,
-          f .narrow,
-          f .width,
-          w,
-          c .code-at .ensures,
-          c .before .before .before .before .get4 .ensures .small,
-        ),
+        omega (arith, q .code-is, f .code-at, f .long),
+        omega (arith, q .code-is, f .code-at, f .few, f .narrow, f .width, w, g),
         omega (arith, w, f .width, f .narrow),
       ),
       omega (arith, f .long),
@@ -80,24 +64,20 @@ get-field-requires c κs =
 
 returns-2 : tie.Need-returns-2
 returns-2 c =
-    let a = c .before .before .before .before .before .before .before in
-    root-good (a .args .s .now) (a .args .h) (a .pre .0) (a .args .p) _ _ (c .before .before .before .before .before .get4 .ensures .is)
-    (c .before .before .before .before .digits-of .ensures) (c .get-field .result) (c .before .before .if1 .left)
-    (c .get-field .ensures ∙ ap (λ (z : ℕ). value (take (c .before .before .before .before .digits-of .result)
-    (drop (z + c .before .before .before .before .before .get4 .result) (bits (a .args .s .now))))) (c .before .code-at .ensures))
+    let a = c .before .before .before .before .before .before .before .before in
+    root-good (a .args .s .now) (a .args .h) (a .pre .0) (a .args .p) _ _ (start-is (c .before .before .before .before .before))
+    (c .before .before .before .before .digits-of .ensures) (c .get-field .result) (c .before .before .if1 .left) (c .get-field .ensures)
 
 pub root-of-spec : {M : Type 1} → statement M
 root-of-spec =
     tie.close
     (tie.spec
-    mul-get4
-    add-get4
+    table-at-requires
     get4-requires
     digits-of-requires
     cast-end
     add-end
     returns
-    code-at-requires
     add-get-field
     get-field-requires
     returns-2)

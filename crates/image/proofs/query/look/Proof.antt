@@ -6,7 +6,7 @@ use lib.Pow.{pow-pos}
 use borrow.Author.Tests.{not-true, not-false}
 use Rattle.tree.specs.Code.Node.{Lies}
 use Rattle.tree_walk.proofs.WalkSteps.{kept}
-use Rattle.image.proofs.HeadLaws.{plain}
+use Rattle.image.proofs.HeadLaws.{bounds}
 use Rattle.image.proofs.QueryLaws.{look-bad, look-good, look-page}
 use Rattle.image.proofs.query.look.Statement.{statement}
 use Rattle.image.proofs.query.look.Tie as tie
@@ -15,7 +15,7 @@ power-requires : tie.Need-power-requires
 power-requires c κs =
     let a = c .before in
     let o = a .pre .0 in
-    let f = plain (a .args .s .now) (a .args .h) o in
+    let f = bounds (a .args .s .now) (a .args .h) o in
     omega (arith, f .e-high)
 
 div-page-of : tie.Need-div-page-of

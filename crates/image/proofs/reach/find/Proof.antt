@@ -5,7 +5,7 @@ use Prim.Native.Nat.{_+_, _-_, _≤_}
 use native.Mathlib.Omega.{arith}
 use borrow.Author.Tests.{not-true, not-false}
 use Rattle.image.specs.Searching.{Between}
-use Rattle.image.proofs.HeadLaws.{plain}
+use Rattle.image.proofs.HeadLaws.{bounds}
 use Rattle.image.proofs.ReachLaws.{hit-none, hit-one, no-pages, whole}
 use Rattle.image.proofs.reach.find.Statement.{statement}
 use Rattle.image.proofs.reach.find.Tie as tie
@@ -16,44 +16,36 @@ Inv-loop s h q n at₀ turn₀ at turn = (at .ok ≡ true) × Between s q at × 
 abbrev μ-loop : tie.MeasureT-loop
 μ-loop s h q n at₀ turn₀ at turn = at .hi - at .lo
 
-pages-of-requires : tie.Need-pages-of-requires Inv-loop μ-loop
-pages-of-requires c κs =
-    let a = c .before in
-    let f = plain (a .args .s .now) (a .args .h) (a .pre .0) in
-    (f .e-high, omega (arith, f .hours-high))
-
 nowhere-requires : tie.Need-nowhere-requires Inv-loop μ-loop
 nowhere-requires c κs = tt
 
 returns : tie.Need-returns Inv-loop μ-loop
 returns c =
     let c1 = c .before in
-    let c2 = c1 .before in
-    let a = c2 .before .before in
+    let a = c1 .before .before in
     let s = a .args .s .now in
     let o = a .pre .0 in
     hit-none (c .nowhere .ensures) (no-pages s (a .args .q) (a .pre .1) (omega (arith, a .pre .2, o .head .total-is))
-    (sym (c2 .pages-of .ensures .0 ∙ plain s (a .args .h) o .pages-are) ∙ c1 .if1 .taken))
+    (sym (o .head .pages-are) ∙ c1 .if1 .taken))
 
 sub-t8 : tie.Need-sub-t8 Inv-loop μ-loop
 sub-t8 c = omega (arith, c .if1 .left)
 
 loop-holds : tie.Need-loop-holds Inv-loop μ-loop
 loop-holds c =
-    let c1 = c .before in
-    let a = c1 .before .before in
+    let a = c .before .before in
     let s = a .args .s .now in
     let o = a .pre .0 in (
       refl,
-      whole s (a .args .q) (c1 .pages-of .result) (a .args .h .total) (a .pre .1) (a .pre .2) (o .head .total-small)
-          (c1 .pages-of .ensures .0 ∙ plain s (a .args .h) o .pages-are) (c .if1 .left),
+      whole s (a .args .q) (a .args .h .pages) (a .args .h .total) (a .pre .1) (a .pre .2) (omega (arith, o .head .total-small))
+          (o .head .pages-are) (c .if1 .left),
       omega arith,
     )
 
 narrow-requires : tie.Need-narrow-requires Inv-loop μ-loop
 narrow-requires c κs =
     let c2 = c .before .before in
-    let c6 = c2 .before .before .before .before in
+    let c6 = c2 .before .before .before in
     (c6 .pre .0, c2 .loop .inv .1, c .if2 .taken)
 
 returns-2 : tie.Need-returns-2 Inv-loop μ-loop
@@ -66,8 +58,8 @@ returns-2 c =
 add-turn : tie.Need-add-turn Inv-loop μ-loop
 add-turn c =
     let c5 = c .before .before .before .before .before in
-    let c7 = c5 .before .before in
-    omega (arith, c5 .loop .inv .2, c7 .pages-of .ensures .1)
+    let a = c5 .before .before .before in
+    omega (arith, c5 .loop .inv .2, a .pre .0 .head .pages-are, bounds (a .args .s .now) (a .args .h) (a .pre .0) .few)
 
 loop-less : tie.Need-loop-less Inv-loop μ-loop
 loop-less c =
@@ -94,7 +86,6 @@ find-spec =
     (tie.spec
     Inv-loop
     μ-loop
-    pages-of-requires
     nowhere-requires
     returns
     sub-t8

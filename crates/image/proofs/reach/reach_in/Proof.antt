@@ -8,7 +8,7 @@ use Rattle.tree.specs.Code.Node.{Lies}
 use Rattle.image.specs.Answers.{told}
 use Rattle.image.specs.Reach.{Reach}
 use Rattle.image.specs.Reply.{given, refused}
-use Rattle.image.proofs.HeadLaws.{plain}
+use Rattle.image.proofs.HeadLaws.{bounds}
 use Rattle.image.proofs.ReachLaws.{AtPage, above, before-small, found-six, index, last-six, page-in, page-six}
 use Rattle.image.proofs.reach.reach_in.Statement.{statement}
 use Rattle.image.proofs.reach.reach_in.Tie as tie
@@ -39,7 +39,7 @@ first-small : (c : tie.After-power)
     → c .power .result * entry (read (fine c)) .args .at .lo + 2 ^ (entry (read (fine c)) .args .h .e) ≤ 16777472
 first-small c =
     let a = entry (read (fine c)) in
-    let f = plain (a .args .s .now) (a .args .h) (a .pre .0) in
+    let f = bounds (a .args .s .now) (a .args .h) (a .pre .0) in
     before-small (a .args .h .e) (a .args .at .lo) (c .power .result) (f .e-high)
     (omega (arith, page-in (at-page (read (fine c)) .between), f .few)) (c .power .ensures)
 
@@ -93,7 +93,7 @@ sub-search c =
 power-requires : tie.Need-power-requires
 power-requires c κs =
     let a = entry (read (c .before .before .before)) in
-    omega (arith, plain (a .args .s .now) (a .args .h) (a .pre .0) .e-high)
+    omega (arith, bounds (a .args .s .now) (a .args .h) (a .pre .0) .e-high)
 
 mul-search : tie.Need-mul-search
 mul-search c = record { fits = omega (arith, first-small (c .before)) }
