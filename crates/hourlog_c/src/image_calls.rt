@@ -33,26 +33,26 @@ pub extern "C" fn hourlog_image_write(counts: &[u32], e: u32, image: &mut [u8]) 
 pub extern "C" fn hourlog_image_check(image: &[u8]) -> u64
     ensures { λ r. ⌜ (r ≡ verdictWord (checkOf (now (image .entry)))) × (now (image .exit) ≡ now (image .entry)) ⌝ }
 {
-    of_check(image::check::check(image))
+    of_check(image_check::check(image))
 }
 
 #[no_mangle]
 pub extern "C" fn hourlog_image_count(image: &[u8], hour: u32) -> u64
     ensures { λ r. ⌜ (r ≡ replyWord (countOf (now (image .entry)) hour)) × (now (image .exit) ≡ now (image .entry)) ⌝ }
 {
-    of_image(image::query::count(image, hour as u64))
+    of_image(image_query::count(image, hour as u64))
 }
 
 #[no_mangle]
 pub extern "C" fn hourlog_image_reading(image: &[u8], hour: u32) -> u64
     ensures { λ r. ⌜ (r ≡ replyWord (readingOf (now (image .entry)) hour)) × (now (image .exit) ≡ now (image .entry)) ⌝ }
 {
-    of_image(image::query::reading(image, hour as u64))
+    of_image(image_query::reading(image, hour as u64))
 }
 
 #[no_mangle]
 pub extern "C" fn hourlog_image_reach(image: &[u8], figure: u64) -> u64
     ensures { λ r. ⌜ Reaches (now (image .entry)) figure r × (now (image .exit) ≡ now (image .entry)) ⌝ }
 {
-    of_image(image::reach::reach(image, figure))
+    of_image(image_reach::reach(image, figure))
 }

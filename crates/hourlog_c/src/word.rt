@@ -4,8 +4,7 @@ use std::num::wrapping_sub_u64;
 ghost use mathlib.Core.Path.{_≡_};
 ghost use Prim.Native.Nat.{_<_};
 ghost use Rattle.store.specs.Answers.{told};
-ghost use Rattle.image.specs.Answers.{told as replied};
-ghost use Rattle.image.specs.Checking.{ruled};
+ghost use Rattle.image.specs.Answers.{ruled, told as replied};
 ghost use Rattle.hourlog_c.specs.Words.{minus as minusWord, pair as pairWord, wordOf, replyWord, verdictWord};
 
 fn minus(k: u32) -> u64
@@ -40,11 +39,11 @@ pub(crate) fn of_image(a: image::answer::Answer) -> u64
     }
 }
 
-pub(crate) fn of_check(v: image::check::Verdict) -> u64
+pub(crate) fn of_check(v: image::answer::Verdict) -> u64
     ensures { λ r. ⌜ r ≡ verdictWord (ruled v) ⌝ }
 {
     match v {
-        image::check::Verdict::Holds(hours, total) => pair(40, total, hours),
-        image::check::Verdict::Refused(k) => minus(k),
+        image::answer::Verdict::Holds(hours, total) => pair(40, total, hours),
+        image::answer::Verdict::Refused(k) => minus(k),
     }
 }

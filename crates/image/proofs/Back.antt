@@ -6,7 +6,7 @@ use Prim.Native.Nat.{ℕ, zero, suc, _+_, _*_, _^_, _≤_, _<_}
 use native.Mathlib.Nat.{add-zero, mul-zero}
 use native.Mathlib.Omega.{arith}
 use lib.ListN.{length, take, drop, length-append}
-use lib.Seq.{take-at, drop-at, drop-drop}
+use lib.Seq.{take-at, drop-at, drop-drop, take-all}
 use lib.Dec.{leb}
 use borrow.Author.Tests.{le-leb, eq-eqb}
 use Rattle.lists.specs.Lists.{concat, part, sum, tabulate}
@@ -27,7 +27,7 @@ use Rattle.image.specs.Image.{Limits, code, codeStart, header, headerLen
 use Rattle.image.specs.Image.{tableAt}
 use Rattle.image.specs.Read.{beforeOf, codeAt, eOf, lOf, nOf, pagesOf, rootOf, sOf, startOf, sumOf, treeAt, widthOf}
 use Rattle.image.proofs.Packed.{bits-packed, drop-bits, length-packed, tail}
-use Rattle.image.proofs.PageLaws.{code-most, length-pageCode, page-sum, root-le, start-within}
+use Rattle.image.proofs.PageLaws.{code-most, length-pageCode, page-sum, pages-cover, root-le, start-within}
 
 bits-concat : (k : ℕ) (f : ℕ → List ℕ) → ((j : ℕ) → Bits (f j)) → Bits (concat (tabulate k f))
 unfolding tabulate concat
@@ -47,6 +47,9 @@ length-header e n s l = refl
 length-table : (e : ℕ) (xs : List ℕ) → length (table e xs) ≡ 4 * pages e (length xs)
 unfolding table
 length-table e xs = concat-each (pages e (length xs)) 4 (λ p. little 4 (start e xs p)) (λ j _. length-little 4 (start e xs j))
+
+total-take : (e : ℕ) (xs : List ℕ) → sum (take (2 ^ e * pages e (length xs)) xs) ≡ sum xs
+total-take e xs = ap sum (take-all (2 ^ e * pages e (length xs)) xs (pages-cover e (length xs)))
 
 module _ (e : ℕ) (xs : List ℕ) where
   abbrev S : List ℕ
@@ -149,6 +152,12 @@ module _ (e : ℕ) (xs : List ℕ) where
     unfolding beforeOf root sum
     before-is zero l = sym (ap (λ (z : ℕ). sum (take z xs)) (mul-zero (2 ^ e)))
     before-is (suc p) l = root-is p (omega arith)
+
+    -- the root of the last page is S
+    pub last-root : (p : ℕ) → p ≡ P → beforeOf S p ≡ sum xs
+    unfolding beforeOf root sum
+    last-root zero q = ap (λ (z : ℕ). sum (take z xs)) (sym (mul-zero (2 ^ e)) ∙ ap (λ (z : ℕ). 2 ^ e * z) q) ∙ total-take e xs
+    last-root (suc p) q = root-is p (omega arith) ∙ ap (λ (z : ℕ). sum (take (2 ^ e * z) xs)) q ∙ total-take e xs
 
     pub sum-is : (p : ℕ) → p < P → sumOf S p ≡ sum (page e xs p)
     unfolding sumOf

@@ -11,13 +11,15 @@ use lib.Seq.{drop-cons}
 use lib.Pow.{pow-pos}
 use lib.Dec.{eqb, leb}
 use borrow.Author.Tests.{le-leb, lt-leb, leb-true, eq-eqb, ne-eqb, eqb-true}
-use Rattle.lists.specs.Lists.{every}
+use Rattle.lists.specs.Lists.{every, part}
+use Rattle.lists.proofs.Parts.{length-part}
 use Rattle.lists.proofs.Tests.{both, each, every-last, every-no}
-use Rattle.bits.specs.Numbers.{Number}
+use Rattle.bits.specs.Numbers.{Number, numberAt}
+use Rattle.bits.proofs.Little.{bytes-part, number-small}
 use Rattle.reserve.specs.Reserve.{digits}
 use Rattle.reserve.proofs.Exact.{digits-le}
 use Rattle.image.specs.Check.{fieldTests, headTests, headed}
-use Rattle.image.specs.Code.{FieldsRead, HeadOf, Opened}
+use Rattle.image.specs.Code.Head.{FieldsRead, HeadOf, Opened}
 use Rattle.image.specs.Image.{bytesFor, codeStart, headerLength, maxHours, pages, size, tableAt, totalWidth}
 use Rattle.image.specs.Read.{codeAt, eOf, lOf, nOf, pagesOf, sOf, widthOf}
 use Rattle.image.proofs.PageLaws.{pages-tight}
@@ -130,6 +132,10 @@ opened {s} q l w e z = record {
 pub headed-long : (s : List ℕ) → headed s ≡ true → headerLength ≤ length s
 unfolding headed
 headed-long s e = leb-true headerLength (length s) (each _ e .0)
+
+-- four bytes are a small number
+pub word-most : (s : List ℕ) → ((i : ℕ) → getD s i 0 < 256) → (a : ℕ) → a + 4 ≤ length s → numberAt s a 4 ≤ 4294967295
+word-most s h a l = omega (arith, number-small (part s a 4) (bytes-part s h a 4), ap (λ (k : ℕ). 256 ^ k) (length-part s a 4 l))
 
 -- ---- past refusal 5: all that the code needs to know of the numbers
 pub record Bounds (s : List ℕ) (h : Head) : Type 0 where

@@ -1,21 +1,22 @@
--- What a look into the image of a list finds at an hour. Assumes nothing.
+-- What a look finds: at an hour of a list's image, and on any bytes. Assumes nothing.
 use mathlib.Core.Path.{_≡_, refl, sym, ap, ap₂, _∙_}
-use mathlib.Core.Bool.{true}
+use mathlib.Core.Bool.{Bool, true, false}
 use mathlib.Core.List.{List, [], _∷_}
-use Prim.Native.Nat.{ℕ, zero, suc, _+_, _*_, _/_, _%_, _^_, _≤_, _<_}
+use Prim.Native.Nat.{ℕ, zero, suc, _+_, _-_, _*_, _/_, _%_, _^_, _≤_, _<_}
 use native.Mathlib.Omega.{arith}
 use lib.ListN.{length, getD, take}
 use lib.Seq.{take-suc}
-use borrow.Author.Tests.{le-leb}
+use lib.Dec.{leb, ltb}
+use borrow.Author.Tests.{le-leb, leb-true}
 use Rattle.lists.specs.Lists.{pick, sum}
 use Rattle.lists.proofs.Sums.{sum-append}
-use Rattle.lists.proofs.Tests.{every-of}
+use Rattle.lists.proofs.Tests.{each, every-of}
 use Rattle.bits.specs.Bits.{bits}
 use Rattle.reserve.specs.Reserve.{reserve}
-use Rattle.tree.specs.Read.{found, later, walk}
+use Rattle.tree.specs.Read.{Found, damaged, found, later, leftAt, leftOf, rightAt, walk}
 use Rattle.tree.proofs.WalkLaws.{shift, walk-tree}
 use Rattle.image.specs.Image.{Limits, image, page, pages}
-use Rattle.image.specs.Query.{beforeFits, look, lookIn, pageFine, readingAt, theReading}
+use Rattle.image.specs.Query.{beforeFits, look, lookIn, pageFine, pageTests, readingAt, theReading}
 use Rattle.image.specs.Read.{beforeOf, eOf, lOf, rootOf, sOf, startOf, sumOf, treeAt, widthOf}
 use Rattle.image.specs.Reply.{given}
 use Rattle.image.proofs.Back.{before-is, e-is, l-is, root-is, s-is, start-is, sum-is, tree-is}
@@ -87,3 +88,50 @@ module _ (e : ℕ) (xs : List ℕ) (m : Limits e xs) where
   reading-at zero l = refl
   reading-at (suc i) l =
       ap theReading (look-is i l) ∙ ap given (sym (ap sum (take-suc xs i 0 l) ∙ sum-append (take i xs) (getD xs i 0 ∷ []) ∙ omega arith))
+
+-- ---- what is found is no more than the sum
+abbrev pub Most : ℕ → Found → Type 0
+Most s damaged = Unit {0}
+Most s (found x c) = x + c ≤ s
+
+most-later : (l s : ℕ) (f : Found) → l ≤ s → Most (s - l) f → Most s (later l f)
+unfolding later
+most-later l s damaged i m = tt
+most-later l s (found x c) i m = omega arith
+
+most-up : (l s : ℕ) (f : Found) → l ≤ s → Most l f → Most s f
+most-up l s damaged i m = tt
+most-up l s (found x c) i m = omega arith
+
+walk-node : (h s l : ℕ) (b : List ℕ) (a j : ℕ) (t u : Bool) → leb l s ≡ t → Most l (walk h l b (leftAt s a) j)
+    → Most (s - l) (walk h (s - l) b (rightAt h s l a) (j - 2 ^ h))
+    → Most s (pick t (pick u (walk h l b (leftAt s a) j) (later l (walk h (s - l) b (rightAt h s l a) (j - 2 ^ h)))) damaged)
+unfolding pick
+walk-node h s l b a j true true e m n = most-up l s (walk h l b (leftAt s a) j) (leb-true l s e) m
+walk-node h s l b a j true false e m n = most-later l s (walk h (s - l) b (rightAt h s l a) (j - 2 ^ h)) (leb-true l s e) n
+walk-node h s l b a j false u e m n = tt
+
+pub walk-most : (h s : ℕ) (b : List ℕ) (a j : ℕ) → Most s (walk h s b a j)
+unfolding walk
+walk-most zero s b a j = omega arith
+walk-most (suc h) s b a j =
+    let l : ℕ = leftOf s b a in
+    walk-node h s l b a j (leb l s) (ltb j (2 ^ h)) refl (walk-most h l b (leftAt s a) j) (walk-most h (s - l) b (rightAt h s l a) (j - 2 ^ h))
+
+in-page : (s : List ℕ) (p j : ℕ) (t : Bool) → pageFine s p ≡ t → Most (sOf s) (lookIn s p j)
+unfolding lookIn pick pageFine sumOf
+in-page s p j true e =
+    let w = each (pageTests s p) e in
+    let f : leb (beforeOf s p) (rootOf s p) ≡ true = w .1 .1 .1 .1 .0 in
+    let g : rootOf s p ≤ sOf s = leb-true (rootOf s p) (sOf s) (w .1 .1 .0) in
+    rw e (most-up (rootOf s p) (sOf s) (later (beforeOf s p) (walk (eOf s) (sumOf s p) (bits s) (treeAt s p) j)) g
+    (most-later (beforeOf s p) (rootOf s p) (walk (eOf s) (sumOf s p) (bits s) (treeAt s p) j)
+    (leb-true (beforeOf s p) (rootOf s p) f) (walk-most (eOf s) (sumOf s p) (bits s) (treeAt s p) j)))
+in-page s p j false e = rw e tt
+
+pub look-most : (s : List ℕ) (i : ℕ) → Most (sOf s) (look s i)
+unfolding look
+look-most s i = go (i / 2 ^ eOf s) (i % 2 ^ eOf s)
+  where
+    go : (p j : ℕ) → Most (sOf s) (lookIn s p j)
+    go p j = in-page s p j (pageFine s p) refl

@@ -4,18 +4,21 @@ use mathlib.Core.Bool.{true, false}
 use mathlib.Core.List.{List}
 use Prim.Native.Nat.{ℕ, zero, suc, _+_, _-_, _≤_, _<_}
 use native.Mathlib.Omega.{arith}
-use lib.ListN.{getD, take, drop}
+use lib.ListN.{getD, length, take, drop, length-take}
+use lib.Pow.{pow-mono}
 use lib.Dec.{leb}
 use borrow.Author.Tests.{le-leb, lt-leb}
 use Rattle.lists.specs.Lists.{part}
 use Rattle.lists.proofs.Tests.{every-no, every-of}
 use Rattle.bits.specs.Bits.{bits, value}
 use Rattle.bits.specs.Numbers.{numberAt}
+use Rattle.bits.proofs.Packing.{Bits, bits-bytes, bits-drop, bits-take, value-lt}
 use Rattle.reserve.specs.Reserve.{digits, reserve}
-use Rattle.image.specs.Code.{BeforeAt, Opened, PageAt, RootAt}
+use Rattle.image.specs.Code.Head.{Opened}
+use Rattle.image.specs.Code.Page.{BeforeAt, PageAt, RootAt}
 use Rattle.image.specs.Image.{tableAt}
 use Rattle.image.specs.Query.{beforeFits, fits, pageFine, pageTests}
-use Rattle.image.specs.Read.{beforeOf, eOf, lOf, rootOf, sOf, startOf, sumOf, treeAt, widthOf}
+use Rattle.image.specs.Read.{beforeOf, codeAt, eOf, lOf, rootOf, sOf, startOf, sumOf, treeAt, widthOf}
 use Rattle.image.proofs.HeadLaws.{bounds, never}
 use Rattle.image.proofs.PageLaws.{reserve-most}
 use Rattle.image.specs.declared.head.Head.{Head}
@@ -45,6 +48,15 @@ module _ (s : List ℕ) (h : Head) (o : Opened s h) (p a w : ℕ) (ea : a ≡ nu
     end-is = λ _. ap₂ _+_ ea width;
     end-le = λ _. omega (arith, width, o .head .bits-is);
   }
+
+-- ---- the number of a few bits is small
+pub root-small : (s : List ℕ) (p : ℕ) → widthOf s ≤ 32 → rootOf s p < 4294967296
+unfolding rootOf
+root-small s p l =
+    let f : List ℕ = part (bits s) (codeAt s + startOf s p) (widthOf s) in
+    let n : length f ≤ 32 = omega (arith, length-take (widthOf s) (drop (codeAt s + startOf s p) (bits s))) in
+    let g : Bits f = bits-take (widthOf s) _ (bits-drop (codeAt s + startOf s p) (bits s) (bits-bytes s)) in
+    omega (arith, value-lt f 0 g, pow-mono {i = length f} {j = 32} n)
 
 -- ---- the root before
 pub before-first : (s : List ℕ) (p : ℕ) → p ≡ 0 → BeforeAt s p (record { ok = true; value = 0; end = 0 })

@@ -6,9 +6,5 @@ pub mod Check
 pub mod Query
 pub mod Reach
 pub mod Calls
-pub mod Test
-pub mod Steps
-pub mod Code
 pub mod Answers
-pub mod Checking
-pub mod Searching
+pub mod Code

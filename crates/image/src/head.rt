@@ -6,7 +6,7 @@ ghost use lib.ListN.{length};
 ghost use Rattle.lists.specs.Lists.{every};
 ghost use Rattle.image.specs.Image.{headerLength, maxHours, pages, size, tableAt};
 ghost use Rattle.image.specs.Check.{fieldTests};
-ghost use Rattle.image.specs.Code.{FieldsRead, HeadOf, Opens};
+ghost use Rattle.image.specs.Code.Head.{FieldsRead, HeadOf, Opens};
 
 // The header's fields e, N, S and L; how many pages there are, at which byte the table of their start bits stands, and where the code starts
 // among the bits of all the bytes.

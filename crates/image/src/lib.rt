@@ -1,8 +1,6 @@
-// The frozen image: a list of counts as bytes that a laptop reads. What is read of an image is read by its address among the bits of all
-// the bytes, so that a field is one load of eight bytes. The writer stands in the crate above, image_write.
+// The frozen image: a list of counts as bytes that a laptop reads. Here is what it is, and how its header and its pages are read; the crates
+// above answer of it: image_query, image_check and image_reach. What is read of an image is read by its address among the bits of all the
+// bytes, so that a field is one load of eight bytes. image_write writes it.
 pub mod answer;
-pub mod check;
 pub mod head;
-mod page;
-pub mod query;
-pub mod reach;
+pub mod page;

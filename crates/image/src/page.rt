@@ -6,7 +6,8 @@ ghost use mathlib.Core.Bool.{false};
 ghost use mathlib.Core.Path.{_≡_};
 ghost use Prim.Native.Nat.{_+_, _<_};
 ghost use Rattle.image.specs.Read.{pagesOf};
-ghost use Rattle.image.specs.Code.{Opened, RootAt, BeforeAt, PageAt};
+ghost use Rattle.image.specs.Code.Head.{Opened};
+ghost use Rattle.image.specs.Code.Page.{BeforeAt, PageAt, RootAt};
 
 // A root that was read: its number, and where it ends in the code. Where it passes L, ok is false and the rest says nothing.
 pub struct Root {
@@ -16,7 +17,7 @@ pub struct Root {
 }
 
 // Page p's root.
-pub(crate) fn root_of(s: &[u8], h: Head, p: u64) -> Root
+pub fn root_of(s: &[u8], h: Head, p: u64) -> Root
     requires { ⌜ Opened (now s) h × (p < pagesOf (now s)) ⌝ }
     ensures { λ r. ⌜ RootAt (now (s .entry)) p r ⌝ }
 {
@@ -39,7 +40,7 @@ pub(crate) fn root_of(s: &[u8], h: Head, p: u64) -> Root
 }
 
 // The root of the page before page p: 0 before page 0.
-pub(crate) fn root_before(s: &[u8], h: Head, p: u64) -> Root
+pub fn root_before(s: &[u8], h: Head, p: u64) -> Root
     requires { ⌜ Opened (now s) h × (p < pagesOf (now s)) ⌝ }
     ensures { λ r. ⌜ BeforeAt (now (s .entry)) p r ⌝ }
 {
@@ -74,7 +75,7 @@ fn damaged() -> Page
 }
 
 // Page p, tested.
-pub(crate) fn page_of(s: &[u8], h: Head, p: u64) -> Page
+pub fn page_of(s: &[u8], h: Head, p: u64) -> Page
     requires { ⌜ Opened (now s) h × (p < pagesOf (now s)) ⌝ }
     ensures { λ r. ⌜ PageAt (now (s .entry)) p r ⌝ }
 {

@@ -1,6 +1,6 @@
 -- `hourlog_c::word::of_check` meets its contract. Assumes nothing.
 use mathlib.Core.Path.{sym, ap, _∙_}
-use Rattle.image.specs.Checking.{ruled}
+use Rattle.image.specs.Answers.{ruled}
 use Rattle.hourlog_c.specs.Words.{verdictWord}
 use borrow.Author.Needs.{needs}
 use Rattle.hourlog_c.proofs.word.of_check.Statement.{statement}

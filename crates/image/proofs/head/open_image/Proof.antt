@@ -6,7 +6,7 @@ use borrow.Author.Needs.{needs}
 use borrow.Author.Tests.{not-true, not-false}
 use Rattle.lists.specs.Lists.{every}
 use Rattle.image.specs.Check.{fieldTests}
-use Rattle.image.specs.Code.{FieldsRead}
+use Rattle.image.specs.Code.Head.{FieldsRead}
 use Rattle.image.specs.Read.{eOf, nOf}
 use Rattle.image.proofs.HeadLaws.{field-wrong, fields-right, length-wrong, opened, too-short}
 use Rattle.image.proofs.head.open_image.Statement.{statement}

@@ -1,0 +1,4 @@
+-- Laws of the definitions.
+pub mod Passing
+pub mod TestLaws
+pub mod CheckSteps

@@ -1,0 +1,3 @@
+-- What one function of src/ hands the next.
+pub mod Step
+pub mod Span

@@ -1,0 +1,161 @@
+// Reach: the least index whose reading is a figure or more.
+use image::answer::Answer;
+use image::head::Head;
+use image::head::Opening;
+use image::head::open_image;
+use image::page::page_of;
+use image::page::root_of;
+ghost use mathlib.Core.Bool.{false};
+ghost use mathlib.Core.Path.{_≡_};
+ghost use Prim.Native.Nat.{_+_, _≤_, _<_};
+ghost use Rattle.image.specs.Reach.{Reach};
+ghost use Rattle.image.specs.Code.Head.{Opened};
+ghost use Rattle.image.specs.Answers.{told};
+ghost use Rattle.image_reach.specs.Code.Span.{Narrowable, Between, Narrowed, Hit};
+
+// Pages among which a figure is reached, lo to hi, with the root before the first and the root of the last. Where damage was met, ok is
+// false and the rest says nothing.
+pub struct Span {
+    pub ok: bool,
+    pub lo: u64,
+    pub hi: u64,
+    pub below: u64,
+    pub above: u64,
+}
+
+fn nowhere() -> Span
+    ensures { λ r. ⌜ r .ok ≡ false ⌝ }
+{
+    Span {
+        ok: false,
+        lo: 0,
+        hi: 0,
+        below: 0,
+        above: 0,
+    }
+}
+
+// Interpolation: the page where figure q is if all pages of the span have the same sum. Never the last, whose root is known.
+fn guess(q: u64, at: Span) -> u64
+    requires { ⌜ Narrowable q at ⌝ }
+    ensures { λ r. ⌜ (at .lo ≤ r) × (r < at .hi) ⌝ }
+{
+    let k = (q - 1 - at.below) * (at.hi - at.lo + 1) / (at.above - at.below);
+    let most = at.hi - at.lo - 1;
+    if k < most {
+        return at.lo + k;
+    }
+    at.lo + most
+}
+
+// The page to look at next. Four turns of interpolation find the page, or a near one, where counts are spread evenly; halving bounds the
+// search where they are not.
+fn probe(q: u64, at: Span, turn: u64) -> u64
+    requires { ⌜ Narrowable q at ⌝ }
+    ensures { λ r. ⌜ (at .lo ≤ r) × (r < at .hi) ⌝ }
+{
+    if turn < 4 {
+        return guess(q, at);
+    }
+    at.lo + (at.hi - at.lo) / 2
+}
+
+// The pages that are left after a look at one of them. A root that equals q is reached in its page or before.
+fn narrow(s: &[u8], h: Head, q: u64, at: Span, turn: u64) -> Span
+    requires { ⌜ Opened (now s) h × Between (now s) q at × (at .lo < at .hi) ⌝ }
+    ensures { λ r. ⌜ Narrowed (now (s .entry)) q at r ⌝ }
+{
+    let mid = probe(q, at, turn);
+    let r = root_of(s, h, mid);
+    if !r.ok {
+        return nowhere();
+    }
+    if q <= r.value {
+        return Span {
+            ok: true,
+            lo: at.lo,
+            hi: mid,
+            below: at.below,
+            above: r.value,
+        };
+    }
+    Span {
+        ok: true,
+        lo: mid + 1,
+        hi: at.hi,
+        below: r.value,
+        above: at.above,
+    }
+}
+
+// The page where figure q is reached. The last page's root is taken to be S.
+fn find(s: &[u8], h: Head, q: u64) -> Span
+    requires { ⌜ Opened (now s) h × (1 ≤ q) × (q ≤ h .total) ⌝ }
+    ensures { λ r. ⌜ Hit (now (s .entry)) q r ⌝ }
+{
+    let n = h.pages;
+    if n == 0 {
+        return nowhere();
+    }
+    let mut at = Span {
+        ok: true,
+        lo: 0,
+        hi: n - 1,
+        below: 0,
+        above: h.total,
+    };
+    let mut turn = 0;
+    while at.lo < at.hi {
+        at = narrow(s, h, q, at, turn);
+        if !at.ok {
+            return at;
+        }
+        turn = turn + 1;
+    }
+    at
+}
+
+// The answer from the page that was found.
+fn reach_in(s: &[u8], h: Head, q: u64, at: Span) -> Answer
+    requires { ⌜ Opened (now s) h × (q ≤ h .total) × Hit (now s) q at ⌝ }
+    ensures { λ r. ⌜ Reach (now (s .entry)) q (told r) ⌝ }
+{
+    if !at.ok {
+        return Answer::Refused(6);
+    }
+    let r = page_of(s, h, at.lo);
+    if !r.ok {
+        return Answer::Refused(6);
+    }
+    if r.before + r.sum < q {
+        return Answer::Refused(6);
+    }
+    let i = tree_walk::search(
+        s,
+        r.at,
+        h.e,
+        r.sum,
+        q - r.before,
+        reserve::power(h.e) * at.lo,
+    );
+    if h.hours < i {
+        return Answer::Refused(6);
+    }
+    Answer::Number(i)
+}
+
+// The least index whose reading is p or more.
+pub fn reach(s: &[u8], p: u64) -> Answer
+    ensures { λ r. ⌜ Reach (now (s .entry)) p (told r) ⌝ }
+{
+    let Opening::Image(h) = open_image(s) else {
+        return Answer::Refused(5);
+    };
+    if h.total < p {
+        return Answer::Refused(8);
+    }
+    if p == 0 {
+        return Answer::Number(0);
+    }
+    reach_in(s, h, p, find(s, h, p))
+}
