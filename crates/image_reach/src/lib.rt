@@ -13,14 +13,15 @@ ghost use Rattle.image.specs.Code.Head.{Opened};
 ghost use Rattle.image.specs.Answers.{told};
 ghost use Rattle.image_reach.specs.Code.Span.{Narrowable, Between, Narrowed, Hit};
 
-// Pages among which a figure is reached, lo to hi, with the root before the first and the root of the last. Where damage was met, ok is
-// false and the rest says nothing.
+// Pages among which a figure is reached, lo to hi, with the root before the first and the root of the last; up, if the page that was looked
+// at last lies before them. Where damage was met, ok is false and the rest says nothing.
 pub struct Span {
     pub ok: bool,
     pub lo: u64,
     pub hi: u64,
     pub below: u64,
     pub above: u64,
+    pub up: bool,
 }
 
 fn nowhere() -> Span
@@ -32,6 +33,7 @@ fn nowhere() -> Span
         hi: 0,
         below: 0,
         above: 0,
+        up: false,
     }
 }
 
@@ -48,14 +50,20 @@ fn guess(q: u64, at: Span) -> u64
     at.lo + most
 }
 
-// The page to look at next. Four turns of interpolation find the page, or a near one, where counts are spread evenly; halving bounds the
-// search where they are not.
+// The page to look at next. Where counts are spread evenly the guess finds the page or a near one, and then the next page on the side that it
+// missed is the best to look at; halving bounds the search where they are not.
 fn probe(q: u64, at: Span, turn: u64) -> u64
     requires { ⌜ Narrowable q at ⌝ }
     ensures { λ r. ⌜ (at .lo ≤ r) × (r < at .hi) ⌝ }
 {
-    if turn < 4 {
+    if turn == 0 {
         return guess(q, at);
+    }
+    if turn < 16 {
+        if at.up {
+            return at.lo;
+        }
+        return at.hi - 1;
     }
     at.lo + (at.hi - at.lo) / 2
 }
@@ -77,6 +85,7 @@ fn narrow(s: &[u8], h: Head, q: u64, at: Span, turn: u64) -> Span
             hi: mid,
             below: at.below,
             above: r.value,
+            up: false,
         };
     }
     Span {
@@ -85,6 +94,7 @@ fn narrow(s: &[u8], h: Head, q: u64, at: Span, turn: u64) -> Span
         hi: at.hi,
         below: r.value,
         above: at.above,
+        up: true,
     }
 }
 
@@ -103,6 +113,7 @@ fn find(s: &[u8], h: Head, q: u64) -> Span
         hi: n - 1,
         below: 0,
         above: h.total,
+        up: false,
     };
     let mut turn = 0;
     while at.lo < at.hi {
