@@ -13,10 +13,11 @@ use Rattle.tree.specs.Tree.{tree}
 use Rattle.image.specs.Calls.{lengthCall}
 use Rattle.image.specs.Check.{accepted, check, fails, headed, holds}
 use Rattle.image.specs.Image.{bytesFor, code, header, image, packed, page, pageCode, pages, root, size, start, table}
-use Rattle.image.specs.Query.{beforeFits, count, look, lookIn, pageFine, reading, readingAt, theCount, theReading}
+use Rattle.image.specs.Query.{beforePassing, count, look, lookIn, pageFine, reading, readingAt, theCount, theReading}
 use Rattle.image.specs.Reach.{Reach}
 use Rattle.image.specs.Read.{beforeOf, codeAt, eOf, lOf, listOf, nOf, pageOf, pagesOf, rootOf, sOf, startOf, sumOf, treeAt, widthOf}
 use Rattle.image.specs.Reply.{Reply, given, refused}
+use Rattle.demand_2.proofs.Theorems.{reach-accepted}
 
 -- 'e = 2, counts 1,0,2,0,5: ..'
 abbrev printed : List ℕ
@@ -72,7 +73,7 @@ abbrev Short : Type 0
 Short = (check (but 12 0x13) ≡ fails 6) × (count (but 12 0x13) 4 ≡ refused 6) × (reading (but 12 0x13) 4 ≡ given 3)
 
 pub samples : Answers × Edition × Root × Start × Left × Stray × Short
-unfolding check accepted count reading readingAt look lookIn theCount theReading pageFine beforeFits walk later headed every same pick eOf nOf sOf
+unfolding check accepted count reading readingAt look lookIn theCount theReading pageFine beforePassing walk later headed every same pick eOf nOf sOf
     lOf number pagesOf widthOf startOf codeAt rootOf beforeOf sumOf treeAt pageOf listOf bits counts leftOf size image header table packed code
     start pageCode root page pages window tabulate concat little pack bytesFor valueFrom tree fill field sum digits reserve dense sparse
 samples = (
@@ -93,4 +94,4 @@ pub reaches : Only 3 (given 3) × Only 4 (given 5) × Only 0 (given 0) × Only 9
 unfolding accepted headed every same pick least reached eOf nOf sOf lOf number pagesOf widthOf startOf codeAt rootOf beforeOf sumOf treeAt pageOf
     listOf bits counts leftOf size image header table packed code start pageCode root page pages window tabulate concat little pack bytesFor
     valueFrom tree fill field sum digits reserve dense sparse
-reaches = ((λ r h. h), (λ r h. h), (λ r h. h), (λ r h. h))
+reaches = (reach-accepted printed refl 3, reach-accepted printed refl 4, reach-accepted printed refl 0, reach-accepted printed refl 9)

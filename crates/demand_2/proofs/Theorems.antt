@@ -6,16 +6,17 @@ use Prim.Native.Nat.{ℕ}
 use native.Mathlib.Omega.{arith}
 use lib.ListN.{length, getD, take}
 use lib.Dec.{leb, ltb}
-use borrow.Author.Tests.{leb-false, ltb-false}
+use borrow.Author.Tests.{le-ltb, leb-false, lt-ltb, ltb-false}
 use Rattle.lists.specs.Lists.{pick, reached, sum}
 use Rattle.image.specs.Check.{accepted, check, fails, headed, holds}
 use Rattle.image.specs.Image.{IsImage, Limits, image}
 use Rattle.image.specs.Query.{count, look, reading, readingAt, theCount}
-use Rattle.image.specs.Reach.{Free, If, Reach}
+use Rattle.image.specs.Reach.{Reach, above-total, any-index, damage, header-wrong, smallest}
 use Rattle.image.specs.Read.{eOf, listOf, nOf, sOf}
 use Rattle.image.specs.Reply.{Reply, given, refused}
 use Rattle.image.proofs.Back.{e-is, headed-image, n-is, s-is}
 use Rattle.image.proofs.Accepted.{accepted-only, length-list}
+use Rattle.image.proofs.HeadLaws.{never}
 use Rattle.image.proofs.Looks.{look-is, reading-at}
 use Rattle.demand_2.proofs.ListBack.{accepted-image, list-is}
 
@@ -77,19 +78,16 @@ module _ (e : ℕ) (xs : List ℕ) (m : Limits e xs) where
 
   pub reach-is : (q : ℕ) (r : Reply) → Reach S q r → r ≡ pick (ltb (sum xs) q) (refused 8) (given (reached q xs))
   unfolding pick
-  reach-is q r h =
-      go (ltb (sum xs) q) (subst (λ (z : ℕ). Within (ltb z q)) (s-is e xs m)
-      (subst (λ (b : Bool). If b (Within (ltb (sOf S) q)) (r ≡ refused 5)) (headed-image e xs m) h))
+  reach-is q r = go
     where
-      Within : Bool → Type 0
-      Within b = If b (r ≡ refused 8) (If (accepted S) (r ≡ given (reached q (listOf S))) (Free (nOf S) r))
-
-      go : (b : Bool) → If b (r ≡ refused 8) (If (accepted S) (r ≡ given (reached q (listOf S))) (Free (nOf S) r))
-          → r ≡ pick b (refused 8) (given (reached q xs))
-      go true w = w
-      go false w =
-          subst (λ (b : Bool). If b (r ≡ given (reached q (listOf S))) (Free (nOf S) r)) (accepted-image e xs m) w
-          ∙ ap (λ (z : List ℕ). given (reached q z)) (list-is e xs m)
+      go : {r : Reply} → Reach S q r → r ≡ pick (ltb (sum xs) q) (refused 8) (given (reached q xs))
+      go (header-wrong w) = absurd (never (sym w ∙ headed-image e xs m))
+      go (above-total w l) = sym (ap (λ (b : Bool). pick b (refused 8) (given (reached q xs))) (lt-ltb (sum xs) q (omega (arith, s-is e xs m))))
+      go (smallest a l) =
+          ap (λ (z : List ℕ). given (reached q z)) (list-is e xs m)
+          ∙ sym (ap (λ (b : Bool). pick b (refused 8) (given (reached q xs))) (le-ltb (sum xs) q (omega (arith, s-is e xs m))))
+      go (damage w l a) = absurd (never (sym a ∙ accepted-image e xs m))
+      go (any-index w l a i k) = absurd (never (sym a ∙ accepted-image e xs m))
 
 -- ---- the same for bytes that check accepts: xs is the list that they say
 module _ (s : List ℕ) (a : accepted s ≡ true) where

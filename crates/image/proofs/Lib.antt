@@ -3,6 +3,7 @@ pub mod Packed
 pub mod PageLaws
 pub mod Back
 pub mod Accepted
+pub mod DamageLaws
 pub mod Looks
 pub mod HeadLaws
 pub mod RootLaws

@@ -1,13 +1,13 @@
 -- What a look finds: at an hour of a list's image, and on any bytes. Assumes nothing.
 use mathlib.Core.Path.{_≡_, refl, sym, ap, ap₂, _∙_}
-use mathlib.Core.Bool.{Bool, true, false}
+use mathlib.Core.Bool.{Bool, true, false, not}
 use mathlib.Core.List.{List, [], _∷_}
 use Prim.Native.Nat.{ℕ, zero, suc, _+_, _-_, _*_, _/_, _%_, _^_, _≤_, _<_}
 use native.Mathlib.Omega.{arith}
 use lib.ListN.{length, getD, take}
 use lib.Seq.{take-suc}
 use lib.Dec.{leb, ltb}
-use borrow.Author.Tests.{le-leb, leb-true}
+use borrow.Author.Tests.{leb-true}
 use Rattle.lists.specs.Lists.{pick, sum}
 use Rattle.lists.proofs.Sums.{sum-append}
 use Rattle.lists.proofs.Tests.{each, every-of}
@@ -16,11 +16,12 @@ use Rattle.reserve.specs.Reserve.{reserve}
 use Rattle.tree.specs.Read.{Found, damaged, found, later, leftAt, leftOf, rightAt, walk}
 use Rattle.tree.proofs.WalkLaws.{shift, walk-tree}
 use Rattle.image.specs.Image.{Limits, image, page, pages}
-use Rattle.image.specs.Query.{beforeFits, look, lookIn, pageFine, pageTests, readingAt, theReading}
+use Rattle.image.specs.Query.{beforePassing, look, lookIn, pageFine, pageTests, readingAt, theReading}
 use Rattle.image.specs.Read.{beforeOf, eOf, lOf, rootOf, sOf, startOf, sumOf, treeAt, widthOf}
 use Rattle.image.specs.Reply.{given}
 use Rattle.image.proofs.Back.{before-is, e-is, l-is, root-is, s-is, start-is, sum-is, tree-is}
 use Rattle.image.proofs.Back.{width-is}
+use Rattle.image.proofs.DamageLaws.{is-within, within}
 use Rattle.image.proofs.PageLaws.{getD-page, hour-low, hour-page, hour-split, length-page, page-sum, root-le, start-within}
 use Rattle.image.proofs.PageLaws.{sum-page}
 
@@ -31,11 +32,11 @@ module _ (e : ℕ) (xs : List ℕ) (m : Limits e xs) where
   abbrev P : ℕ
   P = pages e (length xs)
 
-  before-fits : (p : ℕ) → p < P → beforeFits S p ≡ true
-  unfolding beforeFits
+  before-fits : (p : ℕ) → p < P → not (beforePassing S p) ≡ true
+  unfolding beforePassing
   before-fits zero l = refl
   before-fits (suc p) l =
-      le-leb (startOf S p + widthOf S) (lOf S) (omega (
+      within (startOf S p + widthOf S) (lOf S) (omega (
         arith,
         start-is e xs m p (omega arith),
         width-is e xs m,
@@ -47,17 +48,17 @@ module _ (e : ℕ) (xs : List ℕ) (m : Limits e xs) where
   unfolding pageFine
   page-fine p l =
       every-of _ (
-        le-leb (startOf S p + widthOf S) (lOf S) (omega (arith, start-is e xs m p l, width-is e xs m, l-is e xs m, start-within e xs p l)),
+        within (startOf S p + widthOf S) (lOf S) (omega (arith, start-is e xs m p l, width-is e xs m, l-is e xs m, start-within e xs p l)),
         (
           before-fits p l,
           (
-            le-leb (rootOf S p) (sOf S) (omega (arith, root-is e xs m p l, s-is e xs m, root-le e xs p)),
+            within (rootOf S p) (sOf S) (omega (arith, root-is e xs m p l, s-is e xs m, root-le e xs p)),
             (
-              le-leb (beforeOf S p) (sOf S) (omega (arith, before-is e xs m p l, page-sum e xs p, s-is e xs m, root-le e xs p)),
+              within (beforeOf S p) (sOf S) (omega (arith, before-is e xs m p l, page-sum e xs p, s-is e xs m, root-le e xs p)),
               (
-                le-leb (beforeOf S p) (rootOf S p) (omega (arith, before-is e xs m p l, page-sum e xs p, root-is e xs m p l)),
+                within (beforeOf S p) (rootOf S p) (omega (arith, before-is e xs m p l, page-sum e xs p, root-is e xs m p l)),
                 (
-                  le-leb (startOf S p + widthOf S + reserve (eOf S) (sumOf S p)) (lOf S)
+                  within (startOf S p + widthOf S + reserve (eOf S) (sumOf S p)) (lOf S)
                       (omega (arith, start-is e xs m p l, width-is e xs m, l-is e xs m, start-within e xs p l, ap₂ reserve (e-is e xs) (sum-is e xs m p l))),
                   tt,
                 ),
@@ -122,11 +123,11 @@ in-page : (s : List ℕ) (p j : ℕ) (t : Bool) → pageFine s p ≡ t → Most 
 unfolding lookIn pick pageFine sumOf
 in-page s p j true e =
     let w = each (pageTests s p) e in
-    let f : leb (beforeOf s p) (rootOf s p) ≡ true = w .1 .1 .1 .1 .0 in
-    let g : rootOf s p ≤ sOf s = leb-true (rootOf s p) (sOf s) (w .1 .1 .0) in
+    let f : beforeOf s p ≤ rootOf s p = is-within (beforeOf s p) (rootOf s p) (w .1 .1 .1 .1 .0) in
+    let g : rootOf s p ≤ sOf s = is-within (rootOf s p) (sOf s) (w .1 .1 .0) in
     rw e (most-up (rootOf s p) (sOf s) (later (beforeOf s p) (walk (eOf s) (sumOf s p) (bits s) (treeAt s p) j)) g
     (most-later (beforeOf s p) (rootOf s p) (walk (eOf s) (sumOf s p) (bits s) (treeAt s p) j)
-    (leb-true (beforeOf s p) (rootOf s p) f) (walk-most (eOf s) (sumOf s p) (bits s) (treeAt s p) j)))
+    f (walk-most (eOf s) (sumOf s p) (bits s) (treeAt s p) j)))
 in-page s p j false e = rw e tt
 
 pub look-most : (s : List ℕ) (i : ℕ) → Most (sOf s) (look s i)

@@ -1,13 +1,12 @@
 -- A page's roots and tests, over plain numbers. Assumes nothing.
 use mathlib.Core.Path.{_≡_, refl, sym, ap, ap₂, _∙_}
-use mathlib.Core.Bool.{true, false}
+use mathlib.Core.Bool.{true, false, not}
 use mathlib.Core.List.{List}
 use Prim.Native.Nat.{ℕ, zero, suc, _+_, _-_, _≤_, _<_}
 use native.Mathlib.Omega.{arith}
 use lib.ListN.{getD, length, take, drop, length-take}
 use lib.Pow.{pow-mono}
-use lib.Dec.{leb}
-use borrow.Author.Tests.{le-leb, lt-leb}
+use lib.Dec.{ltb}
 use Rattle.lists.specs.Lists.{part}
 use Rattle.lists.proofs.Tests.{every-no, every-of}
 use Rattle.bits.specs.Bits.{bits, value}
@@ -17,8 +16,9 @@ use Rattle.reserve.specs.Reserve.{digits, reserve}
 use Rattle.image.specs.Code.Head.{Opened}
 use Rattle.image.specs.Code.Page.{BeforeAt, PageAt, RootAt}
 use Rattle.image.specs.Image.{tableAt}
-use Rattle.image.specs.Query.{beforeFits, fits, pageFine, pageTests}
+use Rattle.image.specs.Query.{beforePassing, pageFine, pageTests, passing}
 use Rattle.image.specs.Read.{beforeOf, codeAt, eOf, lOf, rootOf, sOf, startOf, sumOf, treeAt, widthOf}
+use Rattle.image.proofs.DamageLaws.{beyond, within}
 use Rattle.image.proofs.HeadLaws.{bounds, never}
 use Rattle.image.proofs.PageLaws.{reserve-most}
 use Rattle.image.specs.declared.head.Head.{Head}
@@ -33,7 +33,7 @@ module _ (s : List ℕ) (h : Head) (o : Opened s h) (p a w : ℕ) (ea : a ≡ nu
   pub root-bad : h .bits < a + w → RootAt s p (record { ok = false; value = 0; end = 0 })
   unfolding startOf
   root-bad l = record {
-    ok-is = sym (lt-leb (startOf s p + widthOf s) (lOf s) (omega (arith, width, o .head .bits-is)));
+    ok-is = sym (beyond (startOf s p + widthOf s) (lOf s) (omega (arith, width, o .head .bits-is)));
     value-is = λ n. absurd (never n);
     end-is = λ n. absurd (never n);
     end-le = λ n. absurd (never n);
@@ -43,7 +43,7 @@ module _ (s : List ℕ) (h : Head) (o : Opened s h) (p a w : ℕ) (ea : a ≡ nu
       → RootAt s p (record { ok = true; value = v; end = a + w })
   unfolding startOf rootOf
   root-good v l e = record {
-    ok-is = sym (le-leb (startOf s p + widthOf s) (lOf s) (omega (arith, width, o .head .bits-is)));
+    ok-is = sym (within (startOf s p + widthOf s) (lOf s) (omega (arith, width, o .head .bits-is)));
     value-is = λ _. e ∙ ap₂ (λ (x y : ℕ). value (part (bits s) x y)) (ap₂ _+_ (o .head .code-is) ea) width;
     end-is = λ _. ap₂ _+_ ea width;
     end-le = λ _. omega (arith, width, o .head .bits-is);
@@ -60,12 +60,12 @@ root-small s p l =
 
 -- ---- the root before
 pub before-first : (s : List ℕ) (p : ℕ) → p ≡ 0 → BeforeAt s p (record { ok = true; value = 0; end = 0 })
-unfolding beforeFits beforeOf
+unfolding beforePassing beforeOf
 before-first s zero e = record { ok-is = refl; value-is = λ _. refl }
 before-first s (suc p) e = absurd (omega (arith, e))
 
 pub before-next : (s : List ℕ) (p : ℕ) (r : Root) → 1 ≤ p → RootAt s (p - 1) r → BeforeAt s p r
-unfolding beforeFits beforeOf
+unfolding beforePassing beforeOf
 before-next s zero r l m = absurd (omega arith)
 before-next s (suc p) r l m =
     let e : suc p - 1 ≡ p = omega arith in
@@ -112,11 +112,11 @@ module _ {s : List ℕ} {h : Head} {p : ℕ} {t x : Root} (g : Roots s h p t x) 
   pub own-within : t .end ≤ h .bits
   own-within = omega (arith, g .own-at .end-le (g .own-ok), o .head .bits-is)
 
-  pub above-total : h .total < t .value → leb (rootOf s p) (sOf s) ≡ false
-  above-total l = lt-leb (rootOf s p) (sOf s) (omega (arith, own, o .head .total-is))
+  pub above-total : h .total < t .value → not (ltb (sOf s) (rootOf s p)) ≡ false
+  above-total l = beyond (rootOf s p) (sOf s) (omega (arith, own, o .head .total-is))
 
-  pub below-before : t .value < x .value → leb (beforeOf s p) (rootOf s p) ≡ false
-  below-before l = lt-leb (beforeOf s p) (rootOf s p) (omega (arith, own, last))
+  pub below-before : t .value < x .value → not (ltb (rootOf s p) (beforeOf s p)) ≡ false
+  below-before l = beyond (beforeOf s p) (rootOf s p) (omega (arith, own, last))
 
   reserves : (v : ℕ) → v ≡ reserve (h .e) (t .value - x .value) → v ≡ reserve (eOf s) (sumOf s p)
   reserves v e = e ∙ ap₂ reserve (o .head .e-is) sums
@@ -125,9 +125,9 @@ module _ {s : List ℕ} {h : Head} {p : ℕ} {t x : Root} (g : Roots s h p t x) 
   tree-most l = reserve-most (h .e) (t .value - x .value) (bounds s h o .e-high) (omega (arith, o .head .total-small))
 
   pub tree-passes : {v : ℕ} → v ≡ reserve (h .e) (t .value - x .value) → h .bits < t .end + v
-      → fits s (startOf s p + widthOf s) (reserve (eOf s) (sumOf s p)) ≡ false
+      → not (passing s (startOf s p + widthOf s) (reserve (eOf s) (sumOf s p))) ≡ false
   tree-passes {v} e l =
-      lt-leb (startOf s p + widthOf s + reserve (eOf s) (sumOf s p)) (lOf s) (omega (arith, reserves v e, own-end, o .head .bits-is))
+      beyond (startOf s p + widthOf s + reserve (eOf s) (sumOf s p)) (lOf s) (omega (arith, reserves v e, own-end, o .head .bits-is))
 
   pub page-good : {v : ℕ} → v ≡ reserve (h .e) (t .value - x .value) → t .value ≤ h .total → x .value ≤ t .value → t .end + v ≤ h .bits
       → PageAt s p (record { ok = true; before = x .value; sum = t .value - x .value; at = h .code + t .end })
@@ -143,12 +143,12 @@ module _ {s : List ℕ} {h : Head} {p : ℕ} {t x : Root} (g : Roots s h p t x) 
               (
                 sym (g .last-at .ok-is) ∙ g .last-ok,
                 (
-                  le-leb (rootOf s p) (sOf s) (omega (arith, own, q .total-is)),
+                  within (rootOf s p) (sOf s) (omega (arith, own, q .total-is)),
                   (
-                    le-leb (beforeOf s p) (sOf s) (omega (arith, own, last, q .total-is)),
+                    within (beforeOf s p) (sOf s) (omega (arith, own, last, q .total-is)),
                     (
-                      le-leb (beforeOf s p) (rootOf s p) (omega (arith, own, last)),
-                      (le-leb (startOf s p + widthOf s + reserve (eOf s) (sumOf s p)) (lOf s) (omega (arith, reserves v ev, own-end, q .bits-is)), tt),
+                      within (beforeOf s p) (rootOf s p) (omega (arith, own, last)),
+                      (within (startOf s p + widthOf s + reserve (eOf s) (sumOf s p)) (lOf s) (omega (arith, reserves v ev, own-end, q .bits-is)), tt),
                     ),
                   ),
                 ),

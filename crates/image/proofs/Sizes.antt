@@ -1,13 +1,13 @@
 -- How large the answers of the image's calls are. Assumes nothing.
-use mathlib.Core.Path.{_≡_, refl, sym, ap, subst}
+use mathlib.Core.Path.{_≡_, refl, ap}
 use mathlib.Core.Bool.{Bool, true, false, _&&_}
 use mathlib.Core.List.{List, _++_}
 use Prim.Native.Nat.{ℕ, zero, suc, _+_, _≤_, _<_}
 use native.Mathlib.Omega.{arith}
 use lib.ListN.{length, getD, drop}
-use lib.Dec.{leb, ltb}
+use lib.Dec.{leb}
 use borrow.Author.Tests.{leb-true}
-use Rattle.lists.specs.Lists.{pick, reached, sum}
+use Rattle.lists.specs.Lists.{pick, sum}
 use Rattle.lists.proofs.Reach.{reached-le}
 use Rattle.lists.proofs.Tests.{each, left, right}
 use Rattle.tree.specs.Read.{Found, damaged, found}
@@ -15,7 +15,7 @@ use Rattle.image.specs.Calls.{lengthCall, put, putAfter, unwritten, writ
 use Rattle.image.specs.Check.{Verdict, accepted, check, fails, headed, holds}
 use Rattle.image.specs.Image.{Limits, bytesFor, image, maxHours, maxTotal, size}
 use Rattle.image.specs.Query.{count, look, reading, readingAt, theCount, theReading}
-use Rattle.image.specs.Reach.{Free, If, Reach, says-index, says-six}
+use Rattle.image.specs.Reach.{Reach, above-total, any-index, damage, header-wrong, smallest}
 use Rattle.image.specs.Read.{eOf, listOf, nOf, sOf}
 use Rattle.image.specs.Reply.{Reply, given, refused}
 use Rattle.image.proofs.Accepted.{accepted-only, length-list}
@@ -122,14 +122,12 @@ module _ (s : List ℕ) (bytes : (i : ℕ) → getD s i 0 < 256) where
       go e (suc i) = found-small e (look s i) (look-most s i) .1
 
 pub reach-small : (s : List ℕ) (p : ℕ) (r : Reply) → Reach s p r → Small r
-reach-small s p r = go (headed s) (ltb (sOf s) p) (accepted s) refl
+unfolding accepted
+reach-small s p r = go
   where
-    free : headed s ≡ true → {r : Reply} → Free (nOf s) r → Small r
-    free e says-six = omega arith
-    free e (says-index i l) = omega (arith, hours-most s e)
-
-    go : (a b c : Bool) → headed s ≡ a → If a (If b (r ≡ refused 8) (If c (r ≡ given (reached p (listOf s))) (Free (nOf s) r))) (r ≡ refused 5) → Small r
-    go false b c e w = subst Small (sym w) (omega arith)
-    go true true c e w = subst Small (sym w) (omega arith)
-    go true false true e w = subst Small (sym w) (omega (arith, reached-le p (listOf s), length-list s, hours-most s e))
-    go true false false e w = free e w
+    go : {r : Reply} → Reach s p r → Small r
+    go (header-wrong e) = omega arith
+    go (above-total e l) = omega arith
+    go (smallest a l) = omega (arith, reached-le p (listOf s), length-list s, hours-most s (left (headed s) _ a))
+    go (damage e l a) = omega arith
+    go (any-index e l a i k) = omega (arith, hours-most s e)

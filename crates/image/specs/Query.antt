@@ -1,6 +1,6 @@
 -- Count and reading on any bytes: 'Count and reading test only their path.' Assumes nothing.
-use mathlib.Core.Bool.{Bool, true}
-use mathlib.Core.List.{List, [], _∷_}
+use mathlib.Core.Bool.{Bool, false, not}
+use mathlib.Core.List.{List, [], _∷_, map}
 use Prim.Native.Nat.{ℕ, zero, suc, _+_, _/_, _%_, _^_}
 use lib.Dec.{leb, ltb}
 use Rattle.lists.specs.Lists.{pick, every}
@@ -11,25 +11,30 @@ use Rattle.image.specs.Reply.{Reply, given, refused}
 use Rattle.image.specs.Read.{eOf, nOf, sOf, lOf, widthOf, startOf, rootOf, beforeOf, sumOf, treeAt}
 use Rattle.image.specs.Check.{headed}
 
--- n bits of code from bit a of it on do not pass L
-abbrev pub fits : List ℕ → ℕ → ℕ → Bool
-fits s a n = leb (a + n) (lOf s)
+-- n bits of code from bit a of it on are passing L
+abbrev pub passing : List ℕ → ℕ → ℕ → Bool
+passing s a n = ltb (lOf s) (a + n)
 
--- the root of the page before page p does not
-unfoldable pub beforeFits : List ℕ → ℕ → Bool
-beforeFits s zero = true
-beforeFits s (suc p) = fits s (startOf s p) (widthOf s)
+-- the root of the page before page p is; there is none before page 0
+unfoldable pub beforePassing : List ℕ → ℕ → Bool
+beforePassing s zero = false
+beforePassing s (suc p) = passing s (startOf s p) (widthOf s)
 
--- 'Damage there: either root or that tree passing L, a root above S, the page's root below the one before': page p has none of these
-abbrev pub pageTests : List ℕ → ℕ → List Bool
-pageTests s p =
-    fits s (startOf s p) (widthOf s)
-    ∷ beforeFits s p
-    ∷ leb (rootOf s p) (sOf s)
-    ∷ leb (beforeOf s p) (sOf s)
-    ∷ leb (beforeOf s p) (rootOf s p)
-    ∷ fits s (startOf s p + widthOf s) (reserve (eOf s) (sumOf s p))
+-- 'Damage there', on the way to an hour of page p: 'either root' (two lines) 'or that tree passing L' (the last), 'a root above S' (two), 'the
+-- page's root below the one before'. The damage that is left, 'a left sum above its node on the walk', is the walk's own
+abbrev pub damages : List ℕ → ℕ → List Bool
+damages s p =
+    passing s (startOf s p) (widthOf s)
+    ∷ beforePassing s p
+    ∷ ltb (sOf s) (rootOf s p)
+    ∷ ltb (sOf s) (beforeOf s p)
+    ∷ ltb (rootOf s p) (beforeOf s p)
+    ∷ passing s (startOf s p + widthOf s) (reserve (eOf s) (sumOf s p))
     ∷ []
+
+-- page p has none of them
+abbrev pub pageTests : List ℕ → ℕ → List Bool
+pageTests s p = map not (damages s p)
 
 unfoldable pub pageFine : List ℕ → ℕ → Bool
 pageFine s p = every (pageTests s p)

@@ -1,6 +1,6 @@
 -- The check of an image, step by step, over plain numbers. Assumes nothing.
 use mathlib.Core.Path.{_≡_, sym, ap, ap₂, _∙_}
-use mathlib.Core.Bool.{Bool, true, false, _&&_}
+use mathlib.Core.Bool.{Bool, true, false, _&&_, not}
 use mathlib.Core.List.{List, [], _∷_}
 use Prim.Native.Nat.{ℕ, zero, suc, _+_, _-_, _*_, _/_, _^_, _≤_, _<_}
 use native.Mathlib.Numerals.{add-one}
@@ -8,7 +8,7 @@ use native.Mathlib.Omega.{arith}
 use native.Mathlib.Decide.{ℕ-discrete}
 use lib.ListN.{length, getD, take}
 use lib.Dec.{leb, eqb}
-use borrow.Author.Tests.{le-leb, lt-leb, eq-eqb, ne-eqb, leb-false}
+use borrow.Author.Tests.{le-leb, lt-leb, eq-eqb, ne-eqb}
 use Rattle.lists.specs.Lists.{every, pick}
 use Rattle.lists.proofs.Tests.{every-last, every-no, every-of}
 use Rattle.bits.specs.Bits.{bits, value}
@@ -22,12 +22,13 @@ use Rattle.image_check.specs.Code.Test.{Tests}
 use Rattle.image.specs.Code.Head.{Opened}
 use Rattle.image.specs.Code.Page.{RootAt}
 use Rattle.image.specs.Image.{bytesFor}
-use Rattle.image.specs.Query.{fits, look, readingAt, theReading}
+use Rattle.image.specs.Query.{look, passing, readingAt, theReading}
 use Rattle.image.specs.Read.{codeAt, eOf, lOf, nOf, pagesOf, rootOf, sOf, startOf, widthOf}
 use Rattle.image.specs.Reply.{Reply}
-use Rattle.image_check.specs.Code.Test.{checked, pagesFrom, says}
+use Rattle.image_check.specs.Code.Test.{passesTest, pagesFrom, says}
+use Rattle.image.proofs.DamageLaws.{beyond, is-beyond, within}
 use Rattle.image.proofs.HeadLaws.{Bounds, bounds, never}
-use Rattle.image_check.proofs.TestLaws.{checked-is}
+use Rattle.image_check.proofs.TestLaws.{test-is}
 use Rattle.image.proofs.PageLaws.{reserve-most}
 use Rattle.image.proofs.RootLaws.{root-small}
 use Rattle.image_check.specs.declared.Tested.{Tested}
@@ -39,7 +40,7 @@ abbrev five : List ℕ → ℕ → ℕ → ℕ → ℕ → List Bool
 five s k p a x =
     eqb (startOf s p) a
     ∷ leb x (rootOf s p)
-    ∷ fits s (a + widthOf s) (reserve (eOf s) (rootOf s p - x))
+    ∷ not (passing s (a + widthOf s) (reserve (eOf s) (rootOf s p - x)))
     ∷ exact (eOf s) (rootOf s p - x) (bits s) (codeAt s + a + widthOf s)
     ∷ pagesFrom s k (suc p) (a + widthOf s + reserve (eOf s) (rootOf s p - x)) (rootOf s p)
     ∷ []
@@ -61,7 +62,7 @@ unfolding pagesFrom every
 pages-yes s k p a x f g h t =
     every-last (take 4 (five s k p a x)) _ (every-of (take 4 (five s k p a x)) (
       eq-eqb (startOf s p) a f,
-      (le-leb x (rootOf s p) g, (le-leb (a + widthOf s + reserve (eOf s) (rootOf s p - x)) (lOf s) h, (t, tt))),
+      (le-leb x (rootOf s p) g, (within (a + widthOf s + reserve (eOf s) (rootOf s p - x)) (lOf s) h, (t, tt))),
     ))
 
 -- the root passes L: it stands elsewhere, or the tree passes L too
@@ -70,8 +71,8 @@ root-passes {s} {p} {a} {x} {t} {r} rt n e = go (ℕ-discrete (startOf s p) a)
   where
     go : Dec (startOf s p ≡ a) → Tests s p a x r
     go (yes q) =
-        tests-bad n 2 (λ _. lt-leb (a + widthOf s + reserve (eOf s) (rootOf s p - x)) (lOf s)
-        (omega (arith, q, leb-false (startOf s p + widthOf s) (lOf s) (sym (rt .ok-is) ∙ e))))
+        tests-bad n 2 (λ _. beyond (a + widthOf s + reserve (eOf s) (rootOf s p - x)) (lOf s)
+        (omega (arith, q, is-beyond (startOf s p + widthOf s) (lOf s) (sym (rt .ok-is) ∙ e))))
     go (no q) = tests-bad n 0 (λ _. ne-eqb (startOf s p) a q)
 
 -- page p's root t was read
@@ -128,7 +129,7 @@ module _ {s : List ℕ} {h : Head} {p : ℕ} {t : Root} {a x v : ℕ} (g : Stand
 
   pub tree-over : {r : Tested} → r .ok ≡ false → h .bits < t .end + v → Tests s p a x r
   tree-over n l =
-      tests-bad n 2 (λ _. lt-leb (a + widthOf s + reserve (eOf s) (rootOf s p - x)) (lOf s) (omega (arith, end-is, reserve-is, o .head .bits-is)))
+      tests-bad n 2 (λ _. beyond (a + widthOf s + reserve (eOf s) (rootOf s p - x)) (lOf s) (omega (arith, end-is, reserve-is, o .head .bits-is)))
 
   at-is : h .code + t .end ≡ codeAt s + a + widthOf s
   at-is = omega (arith, o .head .code-is, end-is)
@@ -242,8 +243,8 @@ check-five s e = rw e
 
 module _ {s : List ℕ} {h : Head} (o : Opened s h) (bytes : (i : ℕ) → getD s i 0 < 256) where
   accepts : every (three s) ≡ accepted s
-  unfolding checked
-  accepts = sym (ap (λ (z : Bool). z && every (three s)) (o .passed)) ∙ checked-is s bytes
+  unfolding passesTest
+  accepts = sym (ap (λ (z : Bool). z && every (three s)) (o .passed)) ∙ test-is s bytes
 
   pub check-six : (i : ℕ) → getD (three s) i true ≡ false → fails 6 ≡ check s
   unfolding check pick

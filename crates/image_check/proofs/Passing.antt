@@ -1,6 +1,6 @@
 -- The pages that pass the code's test, one after another. Assumes nothing.
 use mathlib.Core.Path.{_≡_, refl, sym, ap, ap₂, _∙_, subst}
-use mathlib.Core.Bool.{true}
+use mathlib.Core.Bool.{true, not}
 use mathlib.Core.List.{List, [], _∷_, _++_, append-nil}
 use Prim.Native.Nat.{ℕ, zero, suc, _+_, _-_, _*_, _/_, _%_, _^_, _≤_, _<_}
 use native.Mathlib.Nat.{add-zero, mul-zero, mul-suc}
@@ -27,10 +27,11 @@ use Rattle.tree.proofs.Shape.{length-counts}
 use Rattle.tree.proofs.WalkLaws.{shift, walk-tree}
 use Rattle.image.specs.Check.{headed}
 use Rattle.image.specs.Image.{bytesFor, code, size, tableAt}
-use Rattle.image.specs.Query.{beforeFits, look, lookIn, pageFine, readingAt, theReading}
+use Rattle.image.specs.Query.{beforePassing, look, lookIn, pageFine, readingAt, theReading}
 use Rattle.image.specs.Read.{beforeOf, codeAt, eOf, lOf, nOf, pageOf, pagesOf, rootOf, sOf, startOf, sumOf, treeAt, widthOf}
 use Rattle.image.specs.Reply.{given}
 use Rattle.image_check.specs.Code.Test.{pagesFrom}
+use Rattle.image.proofs.DamageLaws.{is-within, within}
 use Rattle.image.proofs.PageLaws.{hour-low, hour-page, hour-split}
 
 -- where page p is to start, by the pages before it
@@ -65,7 +66,7 @@ from-all s (suc k) p e =
     record {
       place = eqb-true (startOf s p) (placeOf s p) (w .0);
       rises = leb-true (beforeOf s p) (rootOf s p) (w .1 .0);
-      fits = leb-true _ (lOf s)
+      fits = is-within _ (lOf s)
           (w .1 .1 .0);
       tree = w .1 .1 .1 .0;
     } in
@@ -98,7 +99,7 @@ all-from s (suc k) p w =
       eq-eqb (startOf s p) (placeOf s p) (h .place),
       (
         le-leb (beforeOf s p) (rootOf s p) (h .rises),
-        (le-leb _ (lOf s) (h .fits), (h .tree, (all-from s k (suc p) r, tt))),
+        (within _ (lOf s) (h .fits), (h .tree, (all-from s k (suc p) r, tt))),
       ),
     )
 
@@ -193,25 +194,25 @@ module _ (s : List ℕ) (hd : headed s ≡ true) (all : All s (pagesOf s) 0) whe
   before-top zero p q = omega (arith, top, ap (beforeOf s) {x = p} {y = K} (omega (arith, q)))
   before-top (suc d) p q = omega (arith, passes p (omega (arith, q)) .rises, before-top d (suc p) (omega (arith, q)))
 
-  before-fits : (p : ℕ) → p < K → beforeFits s p ≡ true
-  unfolding beforeFits placeOf
+  before-fits : (p : ℕ) → p < K → not (beforePassing s p) ≡ true
+  unfolding beforePassing placeOf
   before-fits zero l = refl
-  before-fits (suc p) l = le-leb (startOf s p + w) (lOf s) (omega (arith, passes p (omega arith) .place, passes p (omega arith) .fits))
+  before-fits (suc p) l = within (startOf s p + w) (lOf s) (omega (arith, passes p (omega arith) .place, passes p (omega arith) .fits))
 
   pub page-fine : (p : ℕ) → p < K → pageFine s p ≡ true
   unfolding pageFine placeOf beforeOf
   page-fine p l =
       every-of _ (
-        le-leb (startOf s p + w) (lOf s) (omega (arith, passes p l .place, passes p l .fits)),
+        within (startOf s p + w) (lOf s) (omega (arith, passes p l .place, passes p l .fits)),
         (
           before-fits p l,
           (
-            le-leb (rootOf s p) (sOf s) (before-top (K - suc p) (suc p) (omega arith)),
+            within (rootOf s p) (sOf s) (before-top (K - suc p) (suc p) (omega arith)),
             (
-              le-leb (beforeOf s p) (sOf s) (before-top (K - p) p (omega arith)),
+              within (beforeOf s p) (sOf s) (before-top (K - p) p (omega arith)),
               (
-                le-leb (beforeOf s p) (rootOf s p) (passes p l .rises),
-                (le-leb (startOf s p + w + reserve e (sumOf s p)) (lOf s) (omega (arith, passes p l .place, passes p l .fits)), tt),
+                within (beforeOf s p) (rootOf s p) (passes p l .rises),
+                (within (startOf s p + w + reserve e (sumOf s p)) (lOf s) (omega (arith, passes p l .place, passes p l .fits)), tt),
               ),
             ),
           ),

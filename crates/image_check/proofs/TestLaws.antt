@@ -27,10 +27,10 @@ use Rattle.tree.proofs.Exacts.{field-part, tree-exact}
 use Rattle.image.specs.Check.{accepted, headed}
 use Rattle.image.specs.Image.{Limits, bytesFor, code, header, headerLength, image, maxTotal, packed, page, pageCode, pages, root, size, start, table}
 use Rattle.image.specs.Image.{tableAt}
-use Rattle.image.specs.Query.{fits, readingAt}
+use Rattle.image.specs.Query.{readingAt}
 use Rattle.image.specs.Read.{beforeOf, codeAt, eOf, lOf, listOf, nOf, pageOf, pagesOf, rootOf, sOf, startOf, sumOf, treeAt, widthOf}
 use Rattle.image.specs.Reply.{Reply, given}
-use Rattle.image_check.specs.Code.Test.{checked, pagesFrom, says}
+use Rattle.image_check.specs.Code.Test.{passesTest, pagesFrom, says}
 use Rattle.image.proofs.Back.{before-is, bits-is, e-is, headed-image, l-is, last-root, n-is, pages-is, root-is, s-is, start-is, sum-is, tree-is, width-is}
 use Rattle.image.proofs.Packed.{drop-bits, tail}
 use Rattle.image.proofs.HeadLaws.{word-most}
@@ -107,9 +107,9 @@ module _ (e : ℕ) (xs : List ℕ) (m : Limits e xs) where
       ∙ ap (λ (z : List ℕ). same z Z) (take-all (8 * bytesFor n - n) Z (omega (arith, length-replicate {A = ℕ} (8 * bytesFor n - n) 0)))
       ∙ same-refl Z
 
-  pub checked-image : checked S ≡ true
-  unfolding checked placeOf beforeOf says
-  checked-image =
+  pub image-passes-test : passesTest S ≡ true
+  unfolding passesTest placeOf beforeOf says
+  image-passes-test =
       both (headed-image e xs m)
       (every-of _ (
         ap (λ (z : ℕ). pagesFrom S z 0 0 0) (pages-is e xs m) ∙ all-from S P 0 image-all,
@@ -121,7 +121,7 @@ module _ (e : ℕ) (xs : List ℕ) (m : Limits e xs) where
       ))
 
 -- ---- bytes that pass are an image
-module _ (s : List ℕ) (bytes : (i : ℕ) → getD s i 0 < 256) (h : checked s ≡ true) where
+module _ (s : List ℕ) (bytes : (i : ℕ) → getD s i 0 < 256) (h : passesTest s ≡ true) where
   abbrev e : ℕ
   e = eOf s
 
@@ -141,24 +141,24 @@ module _ (s : List ℕ) (bytes : (i : ℕ) → getD s i 0 < 256) (h : checked s 
   w = widthOf s
 
   header-ok : headed s ≡ true
-  unfolding checked
+  unfolding passesTest
   header-ok = left (headed s) _ h
 
   all : All s K 0
-  unfolding checked placeOf beforeOf
+  unfolding passesTest placeOf beforeOf
   all = from-all s K 0 (each _ (right (headed s) _ h) .0)
 
   pass : (p : ℕ) → p < K → Passes s p
   pass = passes s header-ok all
 
   total : sum xs ≡ sOf s
-  unfolding checked listOf says
+  unfolding passesTest listOf says
   total =
       eqb-true (sum xs) (sOf s) (ap (λ (z : Reply). says z (sOf s)) (sym (reading-all s header-ok all (nOf s) (omega arith)))
       ∙ each _ (right (headed s) _ h) .1 .0)
 
   rest-clear : part b (c + lOf s) (8 * bytesFor (lOf s) - lOf s) ≡ replicate (8 * bytesFor (lOf s) - lOf s) 0
-  unfolding checked clear
+  unfolding passesTest clear
   rest-clear = same-is _ _ (each _ (right (headed s) _ h) .1 .1 .0)
 
   abbrev Y : List ℕ
@@ -277,14 +277,14 @@ module _ (s : List ℕ) (bytes : (i : ℕ) → getD s i 0 < 256) (h : checked s 
       ∙ ap (λ (z : List ℕ). take headerLength s ++ z) (take-append-drop (4 * K) (drop headerLength s))
       ∙ take-append-drop headerLength s
 
-  pub checked-accepted : accepted s ≡ true
+  pub passing-accepted : accepted s ≡ true
   unfolding accepted sOf
-  checked-accepted =
+  passing-accepted =
       both header-ok (both (le-leb (sum xs) maxTotal (omega (arith, total, word-most s bytes 8 (omega (arith, long)))))
       (ap (same s) image-same ∙ same-refl s))
 
 -- the code's test is the statement
-pub checked-is : (s : List ℕ) → ((i : ℕ) → getD s i 0 < 256) → checked s ≡ accepted s
-checked-is s bytes =
-    agree (checked s) (accepted s) (checked-accepted s bytes)
-    (λ a. ap checked (accepted-only s a .bytes) ∙ checked-image (eOf s) (listOf s) (accepted-only s a .limits))
+pub test-is : (s : List ℕ) → ((i : ℕ) → getD s i 0 < 256) → passesTest s ≡ accepted s
+test-is s bytes =
+    agree (passesTest s) (accepted s) (passing-accepted s bytes)
+    (λ a. ap passesTest (accepted-only s a .bytes) ∙ image-passes-test (eOf s) (listOf s) (accepted-only s a .limits))

@@ -5,8 +5,8 @@ use mathlib.Core.List.{List}
 use Prim.Native.Nat.{ℕ, _+_, _-_, _*_, _^_, _≤_, _<_}
 use native.Mathlib.Omega.{arith}
 use lib.ListN.{length, take}
-use lib.Dec.{leb, ltb}
-use borrow.Author.Tests.{le-leb, leb-true, le-ltb}
+use lib.Dec.{leb}
+use borrow.Author.Tests.{le-leb, leb-true}
 use Rattle.lists.specs.Lists.{pick, reached, sum, window}
 use Rattle.lists.proofs.Pages.{reached-within}
 use Rattle.lists.proofs.Reach.{reached-le, reached-zero}
@@ -16,9 +16,9 @@ use Rattle.tree.proofs.SearchLaws.{seek-tree}
 use Rattle.image.specs.Check.{accepted, headed}
 use Rattle.image.specs.Image.{Limits, image, page, pages, root}
 use Rattle.image.specs.Query.{pageFine}
-use Rattle.image.specs.Reach.{Free, If, Reach, says-index, says-six}
+use Rattle.image.specs.Reach.{Reach, any-index, damage, smallest}
 use Rattle.image.specs.Read.{beforeOf, eOf, listOf, nOf, pagesOf, rootOf, sOf, sumOf, treeAt}
-use Rattle.image.specs.Reply.{Reply, given, refused}
+use Rattle.image.specs.Reply.{given, refused}
 use Rattle.image_reach.specs.Code.Step.{placed, reachFrom}
 use Rattle.image.proofs.Back.{before-is, e-is, n-is, root-is, sum-is, tree-is}
 use Rattle.image.proofs.PageLaws.{length-page, page-sum}
@@ -57,29 +57,6 @@ module _ (e : ℕ) (xs : List ℕ) (m : Limits e xs) where
       last : (f n i j : ℕ) → f + i ≡ j → j ≤ n → placed f n (place i) ≡ given j
       last f n i j a b = rw (a, le-leb j n b)
 
--- on any bytes
-free-of : (s : List ℕ) (q p : ℕ) → Free (nOf s) (reachFrom s q p)
-unfolding reachFrom pick placed
-free-of s q p = go (pageFine s p) (seek (eOf s) (sumOf s p) (bits s) (treeAt s p) (q - beforeOf s p))
-  where
-    inner : (f n i : ℕ) (b : Bool) → leb (f + i) n ≡ b → Free n (pick b (given (f + i)) (refused 6))
-    inner f n i true h = says-index (f + i) (leb-true (f + i) n h)
-    inner f n i false h = says-six
-
-    go : (b : Bool) (d : Place) → Free (nOf s) (pick b (placed (2 ^ eOf s * p) (nOf s) d) (refused 6))
-    go false d = says-six
-    go true nowhere = says-six
-    go true (place i) = inner (2 ^ eOf s * p) (nOf s) i (leb (2 ^ eOf s * p + i) (nOf s)) refl
-
--- past refusals 5 and 8: what is left to say
-abbrev Past : Bool → List ℕ → ℕ → Reply → Type 0
-Past b s q r = If b (r ≡ given (reached q (listOf s))) (Free (nOf s) r)
-
-may : (s : List ℕ) (q : ℕ) (r : Reply) → headed s ≡ true → q ≤ sOf s → Past (accepted s) s q r → Reach s q r
-may s q r h l w =
-    subst (λ (b : Bool). If b (If (ltb (sOf s) q) (r ≡ refused 8) (Past (accepted s) s q r)) (r ≡ refused 5)) (sym h)
-    (subst (λ (b : Bool). If b (r ≡ refused 8) (Past (accepted s) s q r)) (sym (le-ltb (sOf s) q l)) w)
-
 accepted-page : (s : List ℕ) (q p : ℕ) → accepted s ≡ true → p < pagesOf s → beforeOf s p < q → q ≤ rootOf s p
     → reachFrom s q p ≡ given (reached q (listOf s))
 unfolding pagesOf
@@ -91,23 +68,33 @@ accepted-page s q p a k l r =
     ∙ reach-image e xs (I .limits) q p (subst (λ (z : ℕ). p < pages e z) (sym (length-list s)) k)
     (subst (λ (z : List ℕ). beforeOf z p < q) (I .bytes) l) (subst (λ (z : List ℕ). q ≤ rootOf z p) (I .bytes) r)
 
+-- on bytes that check does not accept
+loose : (s : List ℕ) (q p : ℕ) → headed s ≡ true → q ≤ sOf s → accepted s ≡ false → Reach s q (reachFrom s q p)
+unfolding reachFrom pick placed
+loose s q p h m a = go (pageFine s p) (seek (eOf s) (sumOf s p) (bits s) (treeAt s p) (q - beforeOf s p))
+  where
+    inner : (i : ℕ) (b : Bool) → leb i (nOf s) ≡ b → Reach s q (pick b (given i) (refused 6))
+    inner i true e = any-index h m a i (leb-true i (nOf s) e)
+    inner i false e = damage h m a
+
+    go : (b : Bool) (d : Place) → Reach s q (pick b (placed (2 ^ eOf s * p) (nOf s) d) (refused 6))
+    go false d = damage h m a
+    go true nowhere = damage h m a
+    go true (place i) = inner (2 ^ eOf s * p + i) (leb (2 ^ eOf s * p + i) (nOf s)) refl
+
 -- the answer from a page with its root q or more and the one before it below q is one that reach may give, on any bytes
 pub reach-found : (s : List ℕ) (q p : ℕ) → headed s ≡ true → q ≤ sOf s → p < pagesOf s → beforeOf s p < q → q ≤ rootOf s p
     → Reach s q (reachFrom s q p)
-reach-found s q p h m k l r = may s q (reachFrom s q p) h m (go (accepted s) refl)
+reach-found s q p h m k l r = go (accepted s) refl
   where
-    go : (b : Bool) → accepted s ≡ b → Past b s q (reachFrom s q p)
-    go true a = accepted-page s q p a k l r
-    go false a = free-of s q p
+    go : (b : Bool) → accepted s ≡ b → Reach s q (reachFrom s q p)
+    go true a = subst (Reach s q) (sym (accepted-page s q p a k l r)) (smallest a m)
+    go false a = loose s q p h m a
 
 -- reach 0 is 0
 pub reach-zero : (s : List ℕ) → headed s ≡ true → Reach s 0 (given 0)
-reach-zero s h = may s 0 (given 0) h (omega arith) (go (accepted s) refl)
+reach-zero s h = go (accepted s) refl
   where
-    go : (b : Bool) → accepted s ≡ b → Past b s 0 (given 0)
-    go true a = ap given (sym (reached-zero (listOf s)))
-    go false a = says-index 0 (omega arith)
-
--- refusal 6 is one that reach may give, where check does not accept
-pub reach-six : (s : List ℕ) (q : ℕ) → headed s ≡ true → q ≤ sOf s → accepted s ≡ false → Reach s q (refused 6)
-reach-six s q h l a = may s q (refused 6) h l (subst (λ (b : Bool). Past b s q (refused 6)) (sym a) says-six)
+    go : (b : Bool) → accepted s ≡ b → Reach s 0 (given 0)
+    go true a = subst (λ (n : ℕ). Reach s 0 (given n)) (reached-zero (listOf s)) (smallest a (omega arith))
+    go false a = any-index h (omega arith) a 0 (omega arith)

@@ -9,7 +9,7 @@ use native.Mathlib.Omega.{arith}
 use native.Mathlib.Decide.{decLe}
 use lib.ListN.{length}
 use lib.Pow.{pow-mono}
-use borrow.Author.Tests.{le-leb, leb-true, lt-leb, lt-ltb}
+use borrow.Author.Tests.{le-leb, lt-leb}
 use Rattle.lists.specs.Lists.{pick}
 use Rattle.lists.proofs.Tests.{each}
 use Rattle.bits.specs.Bits.{bits}
@@ -20,14 +20,15 @@ use Rattle.image.specs.Image.{IsImage, pages}
 use Rattle.image.specs.Code.Head.{Opened}
 use Rattle.image.specs.Code.Page.{PageAt, RootAt}
 use Rattle.image.specs.Query.{pageFine, pageTests}
-use Rattle.image.specs.Reach.{Reach}
+use Rattle.image.specs.Reach.{Reach, above-total, damage, header-wrong}
 use Rattle.image.specs.Read.{beforeOf, eOf, listOf, nOf, pagesOf, rootOf, sOf, sumOf, treeAt}
 use Rattle.image.specs.Reply.{given, refused}
 use Rattle.image_reach.specs.Code.Span.{Between, Hit, Narrowable, Narrowed}
 use Rattle.image_reach.specs.Code.Step.{placed, reachFrom}
+use Rattle.image.proofs.DamageLaws.{is-within}
 use Rattle.image.proofs.HeadLaws.{bounds, never}
 use Rattle.image.proofs.RootLaws.{root-small}
-use Rattle.image_reach.proofs.ReachLaws.{reach-found, reach-six}
+use Rattle.image_reach.proofs.ReachLaws.{reach-found}
 use Rattle.image.proofs.Accepted.{accepted-only, length-list}
 use Rattle.image.proofs.Back.{last-root as root-of-last, s-is}
 use Rattle.image.proofs.Looks.{page-fine}
@@ -152,7 +153,7 @@ spot f n i (place j) l e = (
 )
 
 pub found-six : (s : List ℕ) (h : Head) → Opened s h → (q : ℕ) → q ≤ h .total → accepted s ≡ false → Reach s q (refused 6)
-found-six s h o q w a = reach-six s q (o .passed) (omega (arith, o .head .total-is)) a
+found-six s h o q w a = damage (o .passed) (omega (arith, o .head .total-is)) a
 
 pub page-in : {s : List ℕ} {q : ℕ} {at : Span} → Between s q at → at .lo < pagesOf s
 page-in b = omega (arith, b .inside, b .ordered)
@@ -190,7 +191,7 @@ module _ {s : List ℕ} {h : Head} {q : ℕ} {at : Span} {r : Page} (g : AtPage 
     root-is =
         omega (
           arith,
-          leb-true (beforeOf s p) (rootOf s p) (each (pageTests s p) (sym (pr .ok-is) ∙ ok) .1 .1 .1 .1 .0),
+          is-within (beforeOf s p) (rootOf s p) (each (pageTests s p) (sym (pr .ok-is) ∙ ok) .1 .1 .1 .1 .0),
           pr .before-is ok,
           pr .sum-is ok,
         )
@@ -248,7 +249,7 @@ module _ {s : List ℕ} {h : Head} {q : ℕ} {at : Span} {r : Page} (g : AtPage 
 
 -- ---- the refusals before
 pub reach-five : (s : List ℕ) (q : ℕ) → headed s ≡ false → Reach s q (refused 5)
-reach-five s q e = rw e refl
+reach-five s q = header-wrong
 
 pub reach-eight : {s : List ℕ} {h : Head} → Opened s h → (q : ℕ) → h .total < q → Reach s q (refused 8)
-reach-eight {s} o q l = rw (o .passed, lt-ltb (sOf s) q (omega (arith, o .head .total-is))) refl
+reach-eight o q l = above-total (o .passed) (omega (arith, o .head .total-is))

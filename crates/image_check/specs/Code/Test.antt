@@ -1,6 +1,6 @@
 -- The test of an image as the code makes it, page by page. What it means is `accepted`: proofs/TestLaws.antt shows them equal.
 -- Assumes nothing.
-use mathlib.Core.Bool.{Bool, true, false, _&&_}
+use mathlib.Core.Bool.{Bool, true, false, _&&_, not}
 use mathlib.Core.List.{List, [], _∷_}
 use mathlib.Core.Path.{_≡_}
 use Prim.Native.Nat.{ℕ, zero, suc, _+_, _-_, _*_, _≤_}
@@ -13,7 +13,7 @@ use Rattle.image.specs.Image.{bytesFor}
 use Rattle.image.specs.Reply.{Reply, given, refused}
 use Rattle.image.specs.Read.{eOf, nOf, sOf, lOf, pagesOf, widthOf, startOf, codeAt, rootOf}
 use Rattle.image.specs.Check.{headed}
-use Rattle.image.specs.Query.{fits, readingAt}
+use Rattle.image.specs.Query.{passing, readingAt}
 use Rattle.image_check.specs.declared.Tested.{Tested}
 
 -- k pages from page p on, which is to start at bit a of the code, the root before it being x; at the end all L bits are used, and the
@@ -25,7 +25,7 @@ pagesFrom s (suc k) p a x =
     every
     (eqb (startOf s p) a
     ∷ leb x t
-    ∷ fits s (a + widthOf s) (reserve (eOf s) (t - x))
+    ∷ not (passing s (a + widthOf s) (reserve (eOf s) (t - x)))
     ∷ exact (eOf s) (t - x) (bits s) (codeAt s + a + widthOf s)
     ∷ pagesFrom s k (suc p) (a + widthOf s + reserve (eOf s) (t - x)) t
     ∷ [])
@@ -36,8 +36,8 @@ says (given n) t = eqb n t
 says (refused k) t = false
 
 -- the pages; the reading at N is S, so that the hours from N on are 0; the last byte's other bits are 0
-unfoldable pub checked : List ℕ → Bool
-checked s =
+unfoldable pub passesTest : List ℕ → Bool
+passesTest s =
     headed s
     && every
     (pagesFrom s (pagesOf s) 0 0 0
