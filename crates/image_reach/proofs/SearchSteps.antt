@@ -86,7 +86,7 @@ module _ {s : List ℕ} {h : Head} {q : ℕ} {at : Span} (o : Opened s h) (b : B
       value-small : t .value < 4294967296
       value-small = omega (arith, rt .value-is ok, root-small s m (bounds s h o .narrow))
 
-      pub narrow-left : q ≤ t .value → Narrowed s q at (record { ok = true; lo = at .lo; hi = m; below = at .below; above = t .value; up = false })
+      pub narrow-left : q ≤ t .value → Narrowed s q at (record { ok = true; lo = at .lo; hi = m; below = at .below; above = t .value })
       narrow-left k = record {
         damage = λ n. absurd (never (sym n));
         between = λ _. record {
@@ -101,7 +101,7 @@ module _ {s : List ℕ} {h : Head} {q : ℕ} {at : Span} (o : Opened s h) (b : B
         fewer = λ _. omega arith;
       }
 
-      pub narrow-right : t .value < q → Narrowed s q at (record { ok = true; lo = m + 1; hi = at .hi; below = t .value; above = at .above; up = true })
+      pub narrow-right : t .value < q → Narrowed s q at (record { ok = true; lo = m + 1; hi = at .hi; below = t .value; above = at .above })
       unfolding beforeOf
       narrow-right k = record {
         damage = λ n. absurd (never (sym n));
@@ -125,7 +125,7 @@ pub hit-one : {s : List ℕ} {q : ℕ} {r : Span} → r .ok ≡ true → Between
 hit-one e b l = record { damage = λ n. absurd (never (sym n ∙ e)); between = λ _. b; one = λ _. l }
 
 pub whole : (s : List ℕ) (q n t : ℕ) → 1 ≤ q → q ≤ t → t < 4294967296 → n ≡ pagesOf s → (n ≡ 0 → ⊥)
-    → Between s q (record { ok = true; lo = 0; hi = n - 1; below = 0; above = t; up = false })
+    → Between s q (record { ok = true; lo = 0; hi = n - 1; below = 0; above = t })
 unfolding beforeOf
 whole s q n t l m u e f = record {
   ordered = omega arith;

@@ -13,15 +13,14 @@ ghost use Rattle.image.specs.Code.Head.{Opened};
 ghost use Rattle.image.specs.Answers.{told};
 ghost use Rattle.image_reach.specs.Code.Span.{Narrowable, Between, Narrowed, Hit};
 
-// Pages among which a figure is reached, lo to hi, with the root before the first and the root of the last; up, if the page that was looked
-// at last lies before them. Where damage was met, ok is false and the rest says nothing.
+// Pages among which a figure is reached, lo to hi, with the root before the first and the root of the last. Where damage was met, ok is
+// false and the rest says nothing.
 pub struct Span {
     pub ok: bool,
     pub lo: u64,
     pub hi: u64,
     pub below: u64,
     pub above: u64,
-    pub up: bool,
 }
 
 fn nowhere() -> Span
@@ -33,7 +32,6 @@ fn nowhere() -> Span
         hi: 0,
         below: 0,
         above: 0,
-        up: false,
     }
 }
 
@@ -51,8 +49,8 @@ fn guess(q: u64, at: Span) -> u64
 }
 
 // The page to look at next. Where counts are spread evenly the guess finds the page or a near one, and then the next page on the side that it
-// missed is the best to look at; halving bounds the search where they are not.
-fn probe(q: u64, at: Span, turn: u64) -> u64
+// missed, up or down, is the best to look at; halving bounds the search where they are not.
+fn probe(q: u64, at: Span, turn: u64, up: bool) -> u64
     requires { ⌜ Narrowable q at ⌝ }
     ensures { λ r. ⌜ (at .lo ≤ r) × (r < at .hi) ⌝ }
 {
@@ -60,7 +58,7 @@ fn probe(q: u64, at: Span, turn: u64) -> u64
         return guess(q, at);
     }
     if turn < 16 {
-        if at.up {
+        if up {
             return at.lo;
         }
         return at.hi - 1;
@@ -68,12 +66,20 @@ fn probe(q: u64, at: Span, turn: u64) -> u64
     at.lo + (at.hi - at.lo) / 2
 }
 
-// The pages that are left after a look at one of them. A root that equals q is reached in its page or before.
-fn narrow(s: &[u8], h: Head, q: u64, at: Span, turn: u64) -> Span
-    requires { ⌜ Opened (now s) h × Between (now s) q at × (at .lo < at .hi) ⌝ }
+// Whether the guess missed the figure upwards, once it was looked at; risen says so of the last look. Kept from then on: a side that followed
+// each look would make the next load wait for it.
+fn side(turn: u64, up: bool, risen: bool) -> bool {
+    if turn == 0 {
+        return risen;
+    }
+    up
+}
+
+// The pages that are left after a look at page mid of them. A root that equals q is reached in its page or before.
+fn narrow(s: &[u8], h: Head, q: u64, at: Span, mid: u64) -> Span
+    requires { ⌜ Opened (now s) h × Between (now s) q at × (at .lo ≤ mid) × (mid < at .hi) ⌝ }
     ensures { λ r. ⌜ Narrowed (now (s .entry)) q at r ⌝ }
 {
-    let mid = probe(q, at, turn);
     let r = root_of(s, h, mid);
     if !r.ok {
         return nowhere();
@@ -85,7 +91,6 @@ fn narrow(s: &[u8], h: Head, q: u64, at: Span, turn: u64) -> Span
             hi: mid,
             below: at.below,
             above: r.value,
-            up: false,
         };
     }
     Span {
@@ -94,7 +99,6 @@ fn narrow(s: &[u8], h: Head, q: u64, at: Span, turn: u64) -> Span
         hi: at.hi,
         below: r.value,
         above: at.above,
-        up: true,
     }
 }
 
@@ -113,14 +117,16 @@ fn find(s: &[u8], h: Head, q: u64) -> Span
         hi: n - 1,
         below: 0,
         above: h.total,
-        up: false,
     };
     let mut turn = 0;
+    let mut up = false;
     while at.lo < at.hi {
-        at = narrow(s, h, q, at, turn);
-        if !at.ok {
-            return at;
+        let next = narrow(s, h, q, at, probe(q, at, turn, up));
+        if !next.ok {
+            return next;
         }
+        up = side(turn, up, at.lo < next.lo);
+        at = next;
         turn = turn + 1;
     }
     at

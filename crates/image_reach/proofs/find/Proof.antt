@@ -6,15 +6,22 @@ use native.Mathlib.Omega.{arith}
 use borrow.Author.Tests.{not-true, not-false}
 use Rattle.image_reach.specs.Code.Span.{Between}
 use Rattle.image.proofs.HeadLaws.{bounds}
-use Rattle.image_reach.proofs.SearchSteps.{hit-none, hit-one, no-pages, whole}
+use Rattle.image_reach.proofs.SearchSteps.{hit-none, hit-one, narrowable, no-pages, whole}
 use Rattle.image_reach.proofs.find.Statement.{statement}
 use Rattle.image_reach.proofs.find.Tie as tie
 
 abbrev Inv-loop : tie.InvT-loop
-Inv-loop s h q n at₀ turn₀ at turn = (at .ok ≡ true) × Between s q at × (turn + (at .hi - at .lo) ≤ n)
+Inv-loop s h q n at₀ turn₀ up₀ at turn up = (at .ok ≡ true) × Between s q at × (turn + (at .hi - at .lo) ≤ n)
 
 abbrev μ-loop : tie.MeasureT-loop
-μ-loop s h q n at₀ turn₀ at turn = at .hi - at .lo
+μ-loop s h q n at₀ turn₀ up₀ at turn up = at .hi - at .lo
+
+-- a turn's look at a page
+abbrev looked : tie.After-side Inv-loop μ-loop → tie.After-narrow Inv-loop μ-loop
+looked c = c .before .before .before .before .before
+
+next-ok : (c : tie.After-side Inv-loop μ-loop) → looked c .narrow .result .ok ≡ true
+next-ok c = not-false (looked c .narrow .result .ok) (c .before .before .before .if3 .left)
 
 nowhere-requires : tie.Need-nowhere-requires Inv-loop μ-loop
 nowhere-requires c κs = tt
@@ -28,8 +35,8 @@ returns c =
     hit-none (c .nowhere .ensures) (no-pages s (a .args .q) (a .pre .1) (omega (arith, a .pre .2, o .head .total-is))
     (sym (o .head .pages-are) ∙ c1 .if1 .taken))
 
-sub-t8 : tie.Need-sub-t8 Inv-loop μ-loop
-sub-t8 c = omega (arith, c .if1 .left)
+sub-t10 : tie.Need-sub-t10 Inv-loop μ-loop
+sub-t10 c = omega (arith, c .if1 .left)
 
 loop-holds : tie.Need-loop-holds Inv-loop μ-loop
 loop-holds c =
@@ -42,38 +49,41 @@ loop-holds c =
       omega arith,
     )
 
+probe-requires : tie.Need-probe-requires Inv-loop μ-loop
+probe-requires c κs =
+    let c2 = c .before .before in
+    let a = c2 .before .before .before in
+    narrowable (a .pre .0) (c2 .loop .inv .1) (c .if2 .taken)
+
 narrow-requires : tie.Need-narrow-requires Inv-loop μ-loop
 narrow-requires c κs =
-    let c2 = c .before .before in
-    let c6 = c2 .before .before .before in
-    (c6 .pre .0, c2 .loop .inv .1, c .if2 .taken)
+    let c3 = c .before .before .before in
+    let a = c3 .before .before .before in
+    (a .pre .0, c3 .loop .inv .1, c .probe .ensures .0, c .probe .ensures .1)
 
 returns-2 : tie.Need-returns-2 Inv-loop μ-loop
 returns-2 c =
-    let c2 = c .before .before in
-    let r = c2 .narrow in
+    let r = c .before .before .narrow in
     let e = not-true (r .result .ok) (c .if3 .taken) in
     hit-none e (r .ensures .damage e)
 
+side-requires : tie.Need-side-requires Inv-loop μ-loop
+side-requires c κs = tt
+
 add-turn : tie.Need-add-turn Inv-loop μ-loop
 add-turn c =
-    let c5 = c .before .before .before .before .before in
-    let a = c5 .before .before .before in
-    omega (arith, c5 .loop .inv .2, a .pre .0 .head .pages-are, bounds (a .args .s .now) (a .args .h) (a .pre .0) .few)
+    let l = looked c .before .before .before .before in
+    let a = l .before .before .before in
+    omega (arith, l .loop .inv .2, a .pre .0 .head .pages-are, bounds (a .args .s .now) (a .args .h) (a .pre .0) .few)
 
 loop-less : tie.Need-loop-less Inv-loop μ-loop
-loop-less c =
-    let c2 = c .before .before in
-    let r = c2 .narrow in
-    r .ensures .fewer (not-false (r .result .ok) (c .if3 .left))
+loop-less c = looked c .narrow .ensures .fewer (next-ok c)
 
 loop-again : tie.Need-loop-again Inv-loop μ-loop
 loop-again c =
-    let c2 = c .before .before in
-    let c5 = c2 .before .before .before in
-    let r = c2 .narrow in
-    let e = not-false (r .result .ok) (c .if3 .left) in
-    (e, r .ensures .between e, omega (arith, r .ensures .fewer e, c5 .loop .inv .2))
+    let n = looked c .narrow .ensures in
+    let e = next-ok c in
+    (e, n .between e, omega (arith, n .fewer e, looked c .before .before .before .before .loop .inv .2))
 
 returns-3 : tie.Need-returns-3 Inv-loop μ-loop
 returns-3 c =
@@ -88,10 +98,12 @@ find-spec =
     μ-loop
     nowhere-requires
     returns
-    sub-t8
+    sub-t10
     loop-holds
+    probe-requires
     narrow-requires
     returns-2
+    side-requires
     add-turn
     loop-less
     loop-again
