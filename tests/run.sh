@@ -1,8 +1,8 @@
 #!/bin/sh
-# The tests outside the proofs: the library against the second implementation,
-# the C example as C and as C++, the header and its figures, the library installed
-# and used from there, and comparison and example once more in a build with
-# AddressSanitizer.
+# The tests outside the proofs: the library and the session program against the
+# second implementation, how the program reads and writes, the C example as C and
+# as C++, the header and its figures, the library installed and used from there,
+# and comparison and example once more in a build with AddressSanitizer.
 #
 # usage: tests/run.sh
 #   HOURLOG_LIB     the folder that holds libhourlog_c.a (else it is built); the
@@ -70,6 +70,7 @@ compare() {
     $program
     if [ -n "$HOURLOG_PROGRAM" ]; then
         $program program "$HOURLOG_PROGRAM"
+        tests/sessions "$HOURLOG_PROGRAM" $program
     fi
 }
 

@@ -5,16 +5,14 @@ use Prim.Native.Nat.{ℕ, _+_, _≤_, _<_}
 use native.Mathlib.Omega.{arith}
 use native.Mathlib.Numerals.{add-one}
 use lib.ListN.{length, getD, take, drop, set, length-append}
-use lib.Seq.{paste, paste-suc, length-paste, take-all}
-use Rattle.io.specs.Counts.{Counts}
-use Rattle.io.proofs.Counting.{counts}
+use lib.Seq.{paste, paste-suc, length-paste, take-all, take-at, length-take-le}
 use Rattle.lists.specs.Lists.{splice}
 use Rattle.session.specs.Ascii.{bytes}
 use Rattle.session.specs.Printed.{decimal, printed, Prints}
 use Rattle.session.specs.declared.output.Reply.{Reply}
 use Rattle.session.specs.declared.output.Reply.the-variants.{Number, Done, Refused, Unknown}
 use Rattle.session.proofs.DecimalLaws.{decimal-length}
-use Rattle.lists.proofs.Parts.{splice-then, length-splice}
+use Rattle.lists.proofs.Parts.{splice-then}
 
 -- a turn of the copying loop
 module _ (out : List ℕ) (at : ℕ) (text : List ℕ) (h : at + length text ≤ length out) (now : List ℕ) (i : ℕ) (e : now ≡ paste out at text i) where
@@ -42,18 +40,18 @@ number-put out at n text mid fin end r h e p q f g = (
 )
 
 -- a word in front of a number's line
-pub refused-put : (out : List ℕ) (k : ℕ) (mid fin : List ℕ) (end r : ℕ) → 32 ≤ length out → mid ≡ splice out 0 (bytes "refused ") → end ≡ 0 + 8
-    → fin ≡ splice mid end (decimal k ++ (10 ∷ [])) → r ≡ end + length (decimal k ++ (10 ∷ []))
-    → (r ≡ 0 + length (bytes "refused " ++ (decimal k ++ (10 ∷ [])))) × (fin ≡ splice out 0 (bytes "refused " ++ (decimal k ++ (10 ∷ []))))
-refused-put out k mid fin end r h p q f g =
+pub refused-put : (out : List ℕ) (at k : ℕ) (mid fin : List ℕ) (end r : ℕ) → at + 32 ≤ length out → mid ≡ splice out at (bytes "refused ")
+    → end ≡ at + 8 → fin ≡ splice mid end (decimal k ++ (10 ∷ [])) → r ≡ end + length (decimal k ++ (10 ∷ []))
+    → (r ≡ at + length (bytes "refused " ++ (decimal k ++ (10 ∷ [])))) × (fin ≡ splice out at (bytes "refused " ++ (decimal k ++ (10 ∷ []))))
+refused-put out at k mid fin end r h p q f g =
     let w = length-append (bytes "refused ") (decimal k ++ (10 ∷ [])) in
     let l = length-append (decimal k) (10 ∷ []) in (
       omega (arith, w, g, q),
-      splice-then out mid fin (bytes "refused ") (decimal k ++ (10 ∷ [])) 0 end p f q (omega (arith, l, decimal-length 20 k)),
+      splice-then out mid fin (bytes "refused ") (decimal k ++ (10 ∷ [])) at end p f q (omega (arith, l, decimal-length 20 k)),
     )
 
 -- no reply's line is longer
-printed-length : (reply : Reply) → length (printed reply) ≤ 32
+pub printed-length : (reply : Reply) → length (printed reply) ≤ 32
 unfolding printed
 printed-length (Number n) = rw length-append (omega (arith, decimal-length 20 n))
 printed-length Done = omega arith
@@ -62,11 +60,19 @@ printed-length (Refused k) =
 printed-length Unknown = omega arith
 
 -- a reply's line is this text
-pub prints : {reply : Reply} {text out fin : List ℕ} {r : ℕ} → printed reply ≡ text → 32 ≤ length out
-    → (r ≡ 0 + length text) × (fin ≡ splice out 0 text) → Prints reply out r fin × Counts r fin
-prints {reply} {text} {out} {fin} {r} e h w =
-    let l : r ≡ length (printed reply) = omega (arith, ap length e, w .0) in
-    let f : fin ≡ splice out 0 (printed reply) = w .1 ∙ ap (splice out 0) (sym e) in
-    let room = printed-length reply in
-    let k = ap length f ∙ length-splice out 0 (printed reply) (omega arith) in
-    (record { long = l; bytes = f }, counts r fin (omega (arith, k)))
+pub prints : {reply : Reply} {text out fin : List ℕ} {at r : ℕ} → printed reply ≡ text → (r ≡ at + length text) × (fin ≡ splice out at text)
+    → Prints reply out at r fin
+prints {reply} {text} {out} {fin} {at} {r} e w = record {
+  end = w .0 ∙ ap (λ (z : List ℕ). at + length z) (sym e);
+  bytes = w .1 ∙ ap (splice out at) (sym e);
+}
+
+-- and stands behind what stood there
+pub printed-behind : {reply : Reply} {out fin : List ℕ} {at r : ℕ} → at + 32 ≤ length out → Prints reply out at r fin
+    → take r fin ≡ take at out ++ printed reply
+unfolding splice
+printed-behind {reply} {out} {fin} {at} {r} h w =
+    let rest = drop (at + length (printed reply)) out in
+    ap (take r) (w .bytes ∙ sym (append-assoc (take at out) (printed reply) rest))
+    ∙ take-at (take at out ++ printed reply) rest r
+    (length-append (take at out) (printed reply) ∙ ap (λ (k : ℕ). k + length (printed reply)) (length-take-le at out (omega arith)) ∙ sym (w .end))

@@ -25,7 +25,7 @@ printed Done = bytes "ok\n"
 printed (Refused k) = bytes "refused " ++ (decimal k ++ bytes "\n")
 printed Unknown = bytes "line?\n"
 
--- the line stands at the start of the buffer, and is all that has changed
-pub record Prints (reply : Reply) (before : List ℕ) (r : ℕ) (after : List ℕ) : Type 0 where
-  pub long : r ≡ length (printed reply)
-  pub bytes : after ≡ splice before 0 (printed reply)
+-- the line stands at a place of the buffer, up to r, and is all that has changed
+pub record Prints (reply : Reply) (before : List ℕ) (at r : ℕ) (after : List ℕ) : Type 0 where
+  pub end : r ≡ at + length (printed reply)
+  pub bytes : after ≡ splice before at (printed reply)

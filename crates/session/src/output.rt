@@ -4,7 +4,6 @@ ghost use mathlib.Core.List.{[], _∷_, _++_};
 ghost use Prim.Native.Nat.{_+_, _≤_};
 ghost use lib.ListN.{length};
 ghost use Rattle.lists.specs.Lists.{splice};
-ghost use Rattle.io.specs.Counts.{Counts};
 ghost use Rattle.session.specs.Printed.{decimal, Prints};
 
 pub enum Reply {
@@ -40,19 +39,18 @@ fn put_number(out: &mut [u8], at: usize, n: u64) -> usize
     put(out, end, b"\n")
 }
 
-// Puts the reply's line at the start of out, and answers its length.
-pub fn print(reply: Reply, out: &mut [u8]) -> usize
-    requires { ⌜ 32 ≤ length (now out) ⌝ }
-    ensures { λ r. ⌜ Prints reply (now (out .entry)) r (now (out .exit)) ⌝ }
-    ensures { λ r. ⌜ Counts r (now (out .exit)) ⌝ }
+// Puts the reply's line at a place of out, and answers the place behind it.
+pub fn print(out: &mut [u8], at: usize, reply: Reply) -> usize
+    requires { ⌜ at + 32 ≤ length (now out) ⌝ }
+    ensures { λ r. ⌜ Prints reply (now (out .entry)) at r (now (out .exit)) ⌝ }
 {
     match reply {
-        Reply::Number(n) => put_number(out, 0, n),
-        Reply::Done => put(out, 0, b"ok\n"),
+        Reply::Number(n) => put_number(out, at, n),
+        Reply::Done => put(out, at, b"ok\n"),
         Reply::Refused(k) => {
-            let at = put(out, 0, b"refused ");
-            put_number(out, at, k as u64)
+            let end = put(out, at, b"refused ");
+            put_number(out, end, k as u64)
         }
-        Reply::Unknown => put(out, 0, b"line?\n"),
+        Reply::Unknown => put(out, at, b"line?\n"),
     }
 }

@@ -4,9 +4,10 @@
 //! `second` runs the comparison; `second self-test` spoils the library's
 //! answers and bytes and sees that the comparison notices; `second outside`
 //! lends it buffers that are too short and sees that each step outside is
-//! seen; `second program PATH` compares the session program. HOURLOG_ROUNDS
-//! makes the run so many times as long, HOURLOG_SHARE=n plays one seed in n,
-//! HOURLOG_SEED one seed alone.
+//! seen; `second program PATH` compares the session program, `second answers`
+//! prints what it must print for the input. HOURLOG_ROUNDS makes the run so
+//! many times as long, HOURLOG_SHARE=n plays one seed in n, HOURLOG_SEED one
+//! seed alone.
 
 mod bits;
 mod draw;
@@ -44,8 +45,9 @@ fn main() -> ExitCode {
         ["outside"] => outside::play(),
         ["step", ref numbers @ ..] => outside::step(numbers),
         ["program", path] => program::play(path),
+        ["answers"] => program::print_answers(),
         _ => {
-            eprintln!("usage: second [self-test | outside | program PATH]");
+            eprintln!("usage: second [self-test | outside | program PATH | answers]");
             false
         }
     };

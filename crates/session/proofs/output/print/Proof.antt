@@ -51,8 +51,7 @@ same-length c = search needs
 returns : tie.Need-returns
 unfolding printed
 returns c =
-    let r = c .before .before .before .before .before in
-    prints (ap printed (r .reply .given .1)) (r .before .before .before .pre) (c .before .before .put-number .ensures)
+    prints (ap printed (c .before .before .before .before .before .reply .given .1)) (c .before .before .put-number .ensures)
 
 same-length-2 : tie.Need-same-length-2
 same-length-2 c = search needs
@@ -60,8 +59,7 @@ same-length-2 c = search needs
 returns-2 : tie.Need-returns-2
 unfolding printed
 returns-2 c =
-    let r = c .before .before .before .before .before in
-    prints (ap printed (r .enum-told .given .1)) (r .before .before .before .pre) (c .before .before .put .ensures)
+    prints (ap printed (c .before .before .before .before .before .enum-told .given .1)) (c .before .before .put .ensures)
 
 same-length-3 : tie.Need-same-length-3
 same-length-3 c = search needs
@@ -72,8 +70,8 @@ returns-3 c =
     let h = c .before .before .before .before .before .before .before .before .before .before .before .before .before .pre in
     let p = c .before .before .before .before .before .before .put2 in
     let q = c .before .before .put-number2 in
-    prints (ap printed (c .before .before .before .before .before .before .before .before .before .before .reply2 .given .1)) h
-    (refused-put _ _ (p .last .0) (q .last .0) (p .result) (q .result) h (p .ensures .1) (p .ensures .0) (q .ensures .1) (q .ensures .0))
+    prints (ap printed (c .before .before .before .before .before .before .before .before .before .before .reply2 .given .1))
+    (refused-put _ _ _ (p .last .0) (q .last .0) (p .result) (q .result) h (p .ensures .1) (p .ensures .0) (q .ensures .1) (q .ensures .0))
 
 same-length-4 : tie.Need-same-length-4
 same-length-4 c = search needs
@@ -81,8 +79,7 @@ same-length-4 c = search needs
 returns-4 : tie.Need-returns-4
 unfolding printed
 returns-4 c =
-    let r = c .before .before .before .before .before in
-    prints (ap printed (r .enum-told2 .given .1)) (r .before .before .before .pre) (c .before .before .put3 .ensures)
+    prints (ap printed (c .before .before .before .before .before .enum-told2 .given .1)) (c .before .before .put3 .ensures)
 
 pub print-spec : {M : Type 1} → statement M
 print-spec =

@@ -1,0 +1,4 @@
+-- Definitions of the crate.
+pub mod Dialogue
+pub mod Feed
+pub mod Code

@@ -1,4 +1,0 @@
--- Definitions of the crate.
-pub mod Session
-pub mod PlainSession
-pub mod Respond

@@ -1,0 +1,4 @@
+-- Definitions of the crate.
+pub mod Session
+pub mod PlainSession
+pub mod Code

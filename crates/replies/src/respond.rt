@@ -1,0 +1,97 @@
+// What a command prints, and what it does to the store. The store is the first bytes of a buffer.
+use session::Command;
+use session::Reply;
+use store::answer::Answer;
+use store::fresh::fresh;
+use store::header::Header;
+ghost use mathlib.Core.Bool.{_&&_};
+ghost use mathlib.Core.Path.{_≡_};
+ghost use Prim.Native.Nat.{_≤_};
+ghost use lib.ListN.{length};
+ghost use lib.Dec.{leb};
+ghost use Rattle.lists.specs.Lists.{pick};
+ghost use Rattle.store.specs.Answers.{told};
+ghost use Rattle.store.specs.Layout.{size};
+ghost use Rattle.session.specs.declared.line.Command.the-variants.{Fresh};
+ghost use Rattle.replies.specs.Session.{replyTo};
+ghost use Rattle.replies.specs.Code.Respond.{Responds};
+
+// The reply, and how many of the buffer's bytes are the store.
+pub struct Response {
+    pub used: usize,
+    pub reply: Reply,
+}
+
+fn reply_to(answer: Answer) -> Reply
+    ensures { λ r. ⌜ r ≡ replyTo (told answer) ⌝ }
+{
+    match answer {
+        Answer::Changed(_, _) => Reply::Done,
+        Answer::Number(n) => Reply::Number(n),
+        Answer::Refused(k) => Reply::Refused(k),
+    }
+}
+
+// What a call on the store that is there answers.
+fn kept(used: usize, answer: Answer) -> Response
+    ensures { λ r. ⌜ (r .used ≡ used) × (r .reply ≡ replyTo (told answer)) ⌝ }
+{
+    let reply = reply_to(answer);
+    Response { used, reply }
+}
+
+// How many bytes a store of so many pages and cells has, 0 if no store has so many.
+fn size_of(pages: u32, cells: u32) -> usize
+    ensures { λ r. ⌜ r ≡ pick (leb pages 1024 && leb cells 1800) (size pages cells) 0 ⌝ }
+    ensures { λ r. ⌜ r ≤ 63760 ⌝ }
+{
+    let p = pages as usize;
+    let c = cells as usize;
+    if p <= Header::MAX_PAGES {
+        if c <= Header::MAX_CELLS {
+            return Header::SIZE + Header::ENTRY * p + Header::CELL * c;
+        }
+    }
+    0
+}
+
+// A fresh store in the place of the one that is there, which a refusal keeps.
+fn renew(store: &mut [u8], used: usize, pages: u32, cells: u32) -> Response
+    requires { ⌜ 63760 ≤ length (now store) ⌝ }
+    ensures { λ r. ⌜ Responds (Fresh pages cells) (now (store .entry)) used r (now (store .exit)) ⌝ }
+{
+    let n = size_of(pages, cells);
+    let answer = fresh(&mut store[..n], pages, cells);
+    match answer {
+        Answer::Refused(k) => Response {
+            used,
+            reply: Reply::Refused(k),
+        },
+        _ => Response {
+            used: n,
+            reply: Reply::Done,
+        },
+    }
+}
+
+// Answers a command.
+pub fn respond(store: &mut [u8], used: usize, command: Command) -> Response
+    requires { ⌜ 63760 ≤ length (now store) ⌝ }
+    ensures { λ r. ⌜ Responds command (now (store .entry)) used r (now (store .exit)) ⌝ }
+{
+    let n = lists::smaller(used, store.len());
+    match command {
+        Command::Fresh(p, c) => renew(store, n, p, c),
+        Command::Append(v) => kept(n, live::append(&mut store[..n], v)),
+        Command::Set(i, v) => kept(n, live::set(&mut store[..n], i, v)),
+        Command::Count(i) => kept(n, live::count(&store[..n], i)),
+        Command::Reading(i) => kept(n, live::reading(&store[..n], i)),
+        Command::Reach(p) => kept(n, live::reach(&store[..n], p)),
+        Command::Day(d) => kept(n, live::day(&store[..n], d)),
+        Command::Free => kept(n, live::free(&store[..n])),
+        Command::Unknown => Response {
+            used: n,
+            reply: Reply::Unknown,
+        },
+    }
+}
