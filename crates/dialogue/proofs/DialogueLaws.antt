@@ -1,16 +1,18 @@
 -- A session prints the same byte by byte, chunk by chunk and line by line. Assumes nothing.
 use mathlib.Core.Path.{_≡_, refl, sym, ap, ap₂, _∙_}
-use mathlib.Core.List.{List, [], _∷_, _++_, map, append-assoc}
+use mathlib.Core.List.{List, [], _∷_, _++_, append-assoc}
 use Prim.Native.Nat.{ℕ}
 use native.Mathlib.Omega.{arith}
 use Rattle.lists.specs.Lists.{concat}
-use Rattle.session.specs.Lines.{holds, completes, ends, gathered}
+use Rattle.session.specs.Lines.{holds, completes, gathered}
 use Rattle.session.specs.Printed.{printed}
 use Rattle.session.specs.declared.line.Command.{Command}
 use Rattle.session.proofs.GatherLaws.{one-for-each-line}
 use Rattle.replies.specs.Session.{turn, replies, output}
+use Rattle.replies.specs.PlainSession.{plainOutput}
+use Rattle.replies.proofs.SessionLaws.{session-is-plain}
 use Rattle.dialogue.specs.Dialogue.{State, start, prints, leaves, next, fed, said, last}
-use Rattle.dialogue.specs.Feed.{Feeds, Closes, Runs, at-end, reads}
+use Rattle.dialogue.specs.Feed.{Runs, at-end, reads}
 
 -- commands in two parts
 prints-append : (cs ds : List Command) (s : List ℕ) → prints (cs ++ ds) s ≡ prints cs s ++ prints ds (leaves cs s)
@@ -66,3 +68,7 @@ runs-said {p} (reads {q = q} {chunk} {chunks = chunks} {rest} w r) =
 -- However the input is cut into chunks, the loop writes what the session prints
 pub runs-output : {chunks : List (List ℕ)} {text : List ℕ} → Runs start chunks text → text ≡ output (concat chunks)
 runs-output {chunks} r = runs-said r ∙ byte-by-byte (concat chunks)
+
+-- and that is what the plain list answers to its lines
+pub runs-plain : {chunks : List (List ℕ)} {text : List ℕ} → Runs start chunks text → text ≡ plainOutput (concat chunks)
+runs-plain {chunks} r = runs-output r ∙ session-is-plain (concat chunks)
