@@ -9,7 +9,7 @@ use Rattle.hourlog.proofs.run.Tie as tie
 
 abbrev Inv-loop : tie.InvT-loop
 Inv-loop store₀ line₀ chunk₀ out₀ place₀ turns₀ t11 store line chunk out place turns =
-    (length store ≡ length store₀) × (length line ≡ 41) × (length chunk ≡ 4096) × (length out ≡ 131072)
+    (length store ≡ length store₀) × (length line ≡ length line₀) × (length chunk ≡ length chunk₀) × (length out ≡ length out₀)
 
 abbrev μ-loop : tie.MeasureT-loop
 μ-loop store₀ line₀ chunk₀ out₀ place₀ turns₀ t11 store line chunk out place turns = turns
@@ -84,7 +84,7 @@ loop-less : tie.Need-loop-less Inv-loop μ-loop
 loop-less c = search needs
 
 loop-again : tie.Need-loop-again Inv-loop μ-loop
-loop-again c = search needs
+loop-again c = (search needs, search needs, search needs, search needs)
 
 slice-aggregate-close : tie.Need-slice-aggregate-close Inv-loop μ-loop
 slice-aggregate-close c = search needs
