@@ -100,6 +100,10 @@ extern "C" {
 #define HOURLOG_MUST_USE
 #endif
 
+/* A length that is handed over: 64 bits wide on every processor, as the library
+ * takes it.  C widens a size_t to it by itself. */
+typedef uint64_t hourlog_size;
+
 /* ---- limits ------------------------------------------------------------ */
 
 #define HOURLOG_PAGES_MAX 1024u        /* pages P of a store: 1 to this       */
@@ -233,52 +237,52 @@ static inline const char *hourlog_refusal_text(int number)
  * HOURLOG_STORE_LENGTH(P, C) bytes, whatever it held before.
  * Answers 0.  Refuses: 9. */
 HOURLOG_MUST_USE
-int64_t hourlog_fresh(uint8_t *store, size_t len, uint32_t pages, uint32_t cells);
+int64_t hourlog_fresh(uint8_t *store, hourlog_size len, uint32_t pages, uint32_t cells);
 
 /* Logs the next hour.  Answers how many cells the store took and how many it
  * gave back, as a pair (see hourlog_taken, hourlog_returned); one of the two
  * is 0.  Refuses: 10, 11, 3, 12. */
 HOURLOG_MUST_USE
-int64_t hourlog_append(uint8_t *store, size_t len, uint32_t count);
+int64_t hourlog_append(uint8_t *store, hourlog_size len, uint32_t count);
 
 /* Changes the count of a logged hour.  Answers as append does.
  * Refuses: 10, 7 (hour >= N), 3, 12. */
 HOURLOG_MUST_USE
-int64_t hourlog_set(uint8_t *store, size_t len, uint32_t hour, uint32_t count);
+int64_t hourlog_set(uint8_t *store, hourlog_size len, uint32_t hour, uint32_t count);
 
 /* The count of an hour.  Refuses: 10, 7 (hour >= N). */
 HOURLOG_MUST_USE
-int64_t hourlog_count(const uint8_t *store, size_t len, uint32_t hour);
+int64_t hourlog_count(const uint8_t *store, hourlog_size len, uint32_t hour);
 
 /* The sum of the counts before an hour.  Refuses: 10, 7 (hour > N). */
 HOURLOG_MUST_USE
-int64_t hourlog_reading(const uint8_t *store, size_t len, uint32_t hour);
+int64_t hourlog_reading(const uint8_t *store, hourlog_size len, uint32_t hour);
 
 /* The smallest i whose reading is the figure or more; 0 for figure 0.  So coin
  * number p, counted from 1, fell in the hour BEFORE it: a cash slip that says p
  * belongs to hour i - 1.
  * Refuses: 10, 8 (figure above the total). */
 HOURLOG_MUST_USE
-int64_t hourlog_reach(const uint8_t *store, size_t len, uint32_t figure);
+int64_t hourlog_reach(const uint8_t *store, hourlog_size len, uint32_t figure);
 
 /* The sum of hours 24*day to 24*day + 23.
  * Refuses: 10, 7 (24*day + 24 > N). */
 HOURLOG_MUST_USE
-int64_t hourlog_day(const uint8_t *store, size_t len, uint32_t day);
+int64_t hourlog_day(const uint8_t *store, hourlog_size len, uint32_t day);
 
 /* How many cells are free; also the way to ask whether a store is sound.  It is
  * a question like those above, not the end of the store: it releases nothing
  * and changes no byte.  Refuses: 10. */
 HOURLOG_MUST_USE
-int64_t hourlog_free(const uint8_t *store, size_t len);
+int64_t hourlog_free(const uint8_t *store, hourlog_size len);
 
 /* Writes the image of all logged counts, pages of 2^e counts, and answers its
  * length in bytes.  Bytes of the buffer beyond the image are left unchanged.
  * A smaller e makes the image longer and its queries faster.
  * Refuses: 10, 1, 4. */
 HOURLOG_MUST_USE
-int64_t hourlog_freeze(const uint8_t *store, size_t len, uint32_t e,
-                       uint8_t *image, size_t image_len);
+int64_t hourlog_freeze(const uint8_t *store, hourlog_size len, uint32_t e,
+                       uint8_t *image, hourlog_size image_len);
 
 /* Cells taken, and cells given back, by an accepted append or set. */
 static inline uint32_t hourlog_taken(int64_t answer)
@@ -341,13 +345,13 @@ static inline uint32_t hourlog_total(const uint8_t *store)
 
 /* The length in bytes of the image of n counts.  Refuses: 1, 2, 3. */
 HOURLOG_MUST_USE
-int64_t hourlog_image_length(const uint32_t *counts, size_t n, uint32_t e);
+int64_t hourlog_image_length(const uint32_t *counts, hourlog_size n, uint32_t e);
 
 /* Writes that image and answers its length in bytes.  Bytes of the buffer
  * beyond the image are left unchanged.  Refuses: 1, 2, 3, 4. */
 HOURLOG_MUST_USE
-int64_t hourlog_image_write(const uint32_t *counts, size_t n, uint32_t e,
-                            uint8_t *image, size_t image_len);
+int64_t hourlog_image_write(const uint32_t *counts, hourlog_size n, uint32_t e,
+                            uint8_t *image, hourlog_size image_len);
 
 /*
  * The calls below read an image of exactly len bytes: one byte more or less is
@@ -358,24 +362,24 @@ int64_t hourlog_image_write(const uint32_t *counts, size_t n, uint32_t e,
  * its N and its total as a pair (see hourlog_checked_hours,
  * hourlog_checked_total).  Refuses: 5, 6. */
 HOURLOG_MUST_USE
-int64_t hourlog_image_check(const uint8_t *image, size_t len);
+int64_t hourlog_image_check(const uint8_t *image, hourlog_size len);
 
 /* The count of an hour; tests only the path to it.
  * Refuses: 5, 7 (hour >= N), 6. */
 HOURLOG_MUST_USE
-int64_t hourlog_image_count(const uint8_t *image, size_t len, uint32_t hour);
+int64_t hourlog_image_count(const uint8_t *image, hourlog_size len, uint32_t hour);
 
 /* The sum of the counts before an hour; tests only the path to it.
  * Refuses: 5, 7 (hour > N), 6.  At hour 0 it is 0, whatever the body holds. */
 HOURLOG_MUST_USE
-int64_t hourlog_image_reading(const uint8_t *image, size_t len, uint32_t hour);
+int64_t hourlog_image_reading(const uint8_t *image, hourlog_size len, uint32_t hour);
 
 /* The smallest i whose reading is the figure or more: coin number p fell in
  * hour i - 1, as in hourlog_reach.
  * Refuses: 5, 8 (figure above the total), 6.  On an image that check refuses
  * with 6 it answers refusal 6 or some index from 0 to N: check first. */
 HOURLOG_MUST_USE
-int64_t hourlog_image_reach(const uint8_t *image, size_t len, uint64_t figure);
+int64_t hourlog_image_reach(const uint8_t *image, hourlog_size len, uint64_t figure);
 
 /* N, and the total, of an image that check accepted. */
 static inline uint32_t hourlog_checked_hours(int64_t answer)

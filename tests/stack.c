@@ -1,21 +1,21 @@
 /*
  * stack.c - how much stack each call takes, held to what the header says.
  *
- * A call runs on a stack of its own, painted before; what is no longer paint
- * afterwards was used.  Stores and images are as large as they come and have
- * coins in every hour, so that no recursion ends early.
+ * The stack below is painted before a call; what is no longer paint afterwards
+ * was used.  Stores and images are as large as they come and have coins in every
+ * hour, so that no recursion ends early.  Nothing here depends on a processor but
+ * that its stack grows downwards: boards run it too (boards/run).
  */
 #include "hourlog.h"
 
 #include <stdio.h>
 #include <stdlib.h>
-#include <string.h>
-#include <ucontext.h>
 
 #define PAINT 0xC5
+#define PAINTED 524288u
+#define OWN 256u /* bytes below a local of used_by that are its own frame */
 #define IMAGE_E HOURLOG_E_MAX
 
-static uint8_t stack[1024 * 1024];
 static uint8_t store[HOURLOG_STORE_LENGTH(HOURLOG_PAGES_MAX, HOURLOG_CELLS_MAX)];
 static uint32_t counts[HOURLOG_IMAGE_HOURS_MAX];
 static uint8_t image[HOURLOG_IMAGE_LENGTH_MAX(HOURLOG_IMAGE_HOURS_MAX, IMAGE_E)];
@@ -68,31 +68,23 @@ static const struct measured all[] = {
     {"fresh", fresh, HOURLOG_STACK},
 };
 
-static int64_t (*call)(void);
 static int64_t answer;
 
-static void make_call(void)
+/* The bytes that are no longer painted after a call, this function's own among
+ * them. */
+static size_t used_by(int64_t (*call)(void))
 {
-    answer = call();
-}
-
-/* The bytes that are no longer painted after a call. */
-static size_t used_by(int64_t (*wanted)(void))
-{
-    static ucontext_t here, there;
-    memset(stack, PAINT, sizeof stack);
-    call = wanted;
-    getcontext(&there);
-    there.uc_stack.ss_sp = stack;
-    there.uc_stack.ss_size = sizeof stack;
-    there.uc_link = &here;
-    makecontext(&there, make_call, 0);
-    swapcontext(&here, &there);
-    size_t painted = 0;
-    while (painted < sizeof stack && stack[painted] == PAINT) {
-        painted++;
+    volatile uint8_t here;
+    const uintptr_t top = (uintptr_t)&here - OWN;
+    for (uintptr_t k = top - PAINTED; k < top; k++) {
+        *(volatile uint8_t *)k = PAINT;
     }
-    return sizeof stack - painted;
+    answer = call();
+    uintptr_t lowest = top - PAINTED;
+    while (lowest < top && *(volatile uint8_t *)lowest == PAINT) {
+        lowest++;
+    }
+    return (uintptr_t)&here - lowest;
 }
 
 /* Whether a call takes no more than it may, beyond what any call takes. */
@@ -100,7 +92,7 @@ static int holds(struct measured m)
 {
     size_t used = used_by(m.call);
     int good = !hourlog_is_refused(answer) && used <= m.most + used_by(nothing);
-    printf("%s%s %zu", good ? "" : " FAILED:", m.name, used);
+    printf("%s%s %lu", good ? "" : " FAILED:", m.name, (unsigned long)used);
     return good;
 }
 
@@ -116,9 +108,10 @@ static void fill(void)
     image_len = (size_t)write_image();
 }
 
-int main(void)
+int main(int argc, char **argv)
 {
     int good = 1;
+    (void)argc, (void)argv;
     fill();
     printf("bytes of stack:");
     for (size_t k = 0; k < sizeof all / sizeof *all; k++) {
