@@ -118,6 +118,12 @@ static void damage(struct lent l)
     }
 }
 
+/* A figure to reach: a reading, at which the search has to stop, or one behind. */
+static uint32_t figure_at(int64_t reading, uint32_t hour)
+{
+    return (hourlog_is_refused(reading) ? hour : (uint32_t)reading) + hour % 2;
+}
+
 /* ---- calls on a store: the first buffer; freeze writes to the second -------- */
 
 static void store_call(uint64_t length)
@@ -136,7 +142,8 @@ static void store_call(uint64_t length)
     case 6: say("count", length, hour, 0, hourlog_count(store, length, hour)); break;
     case 7: say("reading", length, hour, 0, hourlog_reading(store, length, hour)); break;
     case 8: say("reach", length, number, 0, hourlog_reach(store, length, number)); break;
-    case 9: say("reach", length, hour, 0, hourlog_reach(store, length, hour)); break;
+    case 9: number = figure_at(hourlog_reading(store, length, hour), hour);
+        say("reach", length, number, 0, hourlog_reach(store, length, number)); break;
     case 10: say("day", length, hour / 24, 0, hourlog_day(store, length, hour / 24)); break;
     case 11: say("free", length, 0, 0, hourlog_free(store, length)); break;
     case 12: case 13:
@@ -215,7 +222,7 @@ static void image_call(uint64_t length, uint32_t hours)
     case 1: case 2: say("image count", length, hour, 0, hourlog_image_count(image, length, hour)); break;
     case 3: case 4: say("image reading", length, hour, 0, hourlog_image_reading(image, length, hour)); break;
     default:
-        figure = figure % 16 == 0 ? figure << 32 | hour : figure;
+        figure = figure % 16 == 0 ? figure << 32 | hour : figure % 2 == 0 ? figure_at(hourlog_image_reading(image, length, hour), hour) : figure;
         say("image reach", length, (uint32_t)figure, (uint32_t)(figure >> 32), hourlog_image_reach(image, length, figure));
         break;
     }

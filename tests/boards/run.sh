@@ -58,12 +58,13 @@ same() {
     fi
 }
 
-# on_board WHAT EXPECTED SOURCE..: what a program prints on the board.
+# on_board WHAT EXPECTED SETTINGS SOURCE..: what a program prints on the board; SETTINGS are NAME=VALUE for boards/run, or none.
 on_board() {
     what=$1
     expected=$2
-    shift 2
-    timeout 300 boards/run "$target" "$folder" "$@" >"$folder/$what.txt" 2>"$folder/$what.said" || {
+    settings=$3
+    shift 3
+    env $settings timeout 300 boards/run "$target" "$folder" "$@" >"$folder/$what.txt" 2>"$folder/$what.said" || {
         tail -n 5 "$folder/$what.txt" "$folder/$what.said" >&2
         fail "$target: $what did not run to its end"
     }
@@ -73,22 +74,18 @@ on_board() {
 # A program that steps outside the lent memory must fault.
 faults_outside() {
     for step in "$@"; do
-        if HOURLOG_CFLAGS="-Itests/boards -DSTEP_OUTSIDE=$step" timeout 60 boards/run "$target" "$folder" tests/boards/calls.c >"$folder/outside.txt" 2>&1; then
+        if HOURLOG_CFLAGS=-DSTEP_OUTSIDE="$step" timeout 60 boards/run "$target" "$folder" tests/boards/calls.c >"$folder/outside.txt" 2>&1; then
             fail "$target: a step outside the lent memory did not fault"
         fi
         grep -q 'the board faulted' "$folder/outside.txt" || fail "$target: a step outside the lent memory ended in: $(tail -n 1 "$folder/outside.txt")"
     done
 }
 
-all_calls() {
-    HOURLOG_CFLAGS=-Itests/boards on_board "$1" "$out/calls.expected" tests/boards/calls.c
-}
-
 run_all() {
-    on_board session tests/boards/session.out tests/boards/session.c "$out/session_document.c"
-    on_board lines crates/hourlog/stdout tests/boards/session.c "$out/session_lines.c"
-    on_board example examples/board.expected examples/board.c -- "$folder/board.image"
-    all_calls calls
+    on_board session tests/boards/session.out "" tests/boards/session.c "$out/session_document.c"
+    on_board lines crates/hourlog/stdout "" tests/boards/session.c "$out/session_lines.c"
+    on_board example examples/board.expected "" examples/board.c -- "$folder/board.image"
+    on_board calls "$out/calls.expected" "" tests/boards/calls.c
     case $target in
     cortex-m*)
         same image "$out/board.image" "$folder/board.image"
@@ -98,10 +95,10 @@ run_all() {
     esac
     case $target in
     cortex-m0plus)
-        HOURLOG_MACHINE=microbit HOURLOG_CFLAGS=-DSTORE_BYTES=2048 \
-            on_board session-in-16-KiB tests/boards/session.out tests/boards/session.c "$out/session_document.c"
+        on_board session-in-16-KiB tests/boards/session.out "HOURLOG_MACHINE=microbit HOURLOG_CFLAGS=-DSTORE_BYTES=2048" \
+            tests/boards/session.c "$out/session_document.c"
         ;;
-    wasm32) HOURLOG_MEMORY=4294967296 all_calls calls-at-4-GiB ;;
+    wasm32) on_board calls-at-4-GiB "$out/calls.expected" HOURLOG_MEMORY=4294967296 tests/boards/calls.c ;;
     esac
 }
 
@@ -134,10 +131,14 @@ expect() {
     library=$(tests/library.sh)
     as_c tests/boards/session.in >"$out/session_document.c"
     as_c crates/hourlog/stdin >"$out/session_lines.c"
-    gcc -std=c99 -O2 -Iinclude -Itests/boards tests/boards/calls.c -L"$library" -lhourlog_c -o "$out/calls"
+    gcc -std=c99 -O2 -Iinclude tests/boards/calls.c -L"$library" -lhourlog_c -o "$out/calls"
     "$out/calls" >"$out/calls.expected"
     gcc -std=c99 -O2 -Iinclude examples/board.c -L"$library" -lhourlog_c -o "$out/board"
     "$out/board" "$out/board.image" >/dev/null
+    for call in $(nm "$library/libhourlog_c.a" | awk '$2 == "T" { print $3 }'); do
+        grep -q "$call(" tests/boards/calls.c || fail "tests/boards/calls.c does not make the call $call"
+        grep -q "$call(" tests/stack.c || fail "tests/stack.c does not measure the call $call"
+    done
     if grep -n '\<size_t [a-z_]*[,)]' include/hourlog.h >&2; then
         fail "include/hourlog.h: a call takes a size_t, which has 32 bits on a board; it is to take an hourlog_size"
     fi
