@@ -1,8 +1,7 @@
 /*
  * tiny.c - the little of C's library that the programs here use, for emulated
  * boards for which none is at hand.  There is one file, in memory, whatever its
- * path, and calloc gives one block.  A firmware engineer's own C library takes
- * its place.
+ * path.  A firmware engineer's own C library takes its place.
  */
 #include <stdarg.h>
 #include <stdint.h>
@@ -176,11 +175,11 @@ void exit(int status)
     tiny_exit(status);
 }
 
-/* ---- one file, one block ------------------------------------------------- */
+/* ---- one file -------------------------------------------------------------- */
 
 struct tiny_file {
     uint8_t bytes[4096];
-    size_t length, at;
+    size_t length;
 };
 
 static struct tiny_file only;
@@ -189,7 +188,6 @@ FILE *const stderr = 0;
 FILE *fopen(const char *path, const char *mode)
 {
     (void)path;
-    only.at = 0;
     if (mode[0] == 'w') {
         only.length = 0;
     }
@@ -217,15 +215,4 @@ size_t fread(void *to, size_t size, size_t n, FILE *file)
     size_t most = file->length < size * n ? file->length : size * n;
     memcpy(to, file->bytes, most);
     return most / size;
-}
-
-void *calloc(size_t n, size_t size)
-{
-    static uint32_t block[65537];
-    return n * size <= sizeof block ? memset(block, 0, sizeof block) : NULL;
-}
-
-void free(void *block)
-{
-    (void)block;
 }

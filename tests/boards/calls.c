@@ -164,13 +164,15 @@ static void store_calls(uint64_t length, unsigned n)
     }
 }
 
-/* Hours that are logged without a line for each. */
+/* Hours that are logged with one line for all of them. */
 static void fill(uint64_t length, uint32_t hours)
 {
-    for (; hours > 0; hours--) {
+    int64_t all = 0;
+    for (uint32_t k = 0; k < hours; k++) {
         uint32_t coins = below(3) == 0 ? below(9) : 0;
-        hourlog_append(first.at, length, coins);
+        all += hourlog_append(first.at, length, coins);
     }
+    say("appends", length, hours, 0, all);
 }
 
 static void store_round(unsigned round)
