@@ -38,8 +38,9 @@
  *
  * WHAT A BOARD HAS TO GIVE
  *
- * Processor: the library is compiled for x86-64 alone.  The bytes of a store or
- * an image mean the same on every machine.
+ * Processor: x86-64; by boards/build also Cortex-M, RISC-V, AArch64 and
+ * WebAssembly, whose figures docs/BOARDS.md has: those here are of x86-64.  The
+ * bytes of a store or an image mean the same on every machine.
  * Memory: the buffers, which the macros below measure (the largest store has
  * 63,760 bytes); 14 KiB of code; memcpy and memset of the C library.
  * Stack: HOURLOG_STACK, for freeze HOURLOG_FREEZE_STACK.  A board that has not

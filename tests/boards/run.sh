@@ -45,7 +45,8 @@ install_missing() {
         { apt-get update && apt-get install -y --no-install-recommends $packages; } >"$out/install.txt" 2>&1 || true
     fi
     packages=$(missing)
-    [ -z "$packages" ] || fail "these Debian packages are missing and could not be installed here:$packages (HOURLOG_BOARDS=0 leaves the boards out)"
+    [ -z "$packages" ] ||
+        fail "these Debian packages are missing and could not be installed here:$packages (HOURLOG_BOARDS=0 leaves the boards out)"
 }
 
 # ---- one target
@@ -74,10 +75,11 @@ on_board() {
 # A program that steps outside the lent memory must fault.
 faults_outside() {
     for step in "$@"; do
-        if HOURLOG_CFLAGS=-DSTEP_OUTSIDE="$step" timeout 60 boards/run "$target" "$folder" tests/boards/calls.c >"$folder/outside.txt" 2>&1; then
+        said=$folder/outside.txt
+        if HOURLOG_CFLAGS=-DSTEP_OUTSIDE="$step" timeout 60 boards/run "$target" "$folder" tests/boards/calls.c >"$said" 2>&1; then
             fail "$target: a step outside the lent memory did not fault"
         fi
-        grep -q 'the board faulted' "$folder/outside.txt" || fail "$target: a step outside the lent memory ended in: $(tail -n 1 "$folder/outside.txt")"
+        grep -q 'the board faulted' "$said" || fail "$target: a step outside the lent memory ended in: $(tail -n 1 "$said")"
     done
 }
 
@@ -110,10 +112,11 @@ one_target() {
     [ "$target" != riscv32 ] || command -v qemu-system-riscv32 >/dev/null || runs=0
     [ $runs = 0 ] || run_all
     boards/measure "$target" "$folder" >"$folder/figures.txt" 2>&1 || { cat "$folder/figures.txt" >&2; fail "$target: boards/measure"; }
+    code=$(sed -n 's/^code: //p' "$folder/figures.txt")
     if [ $runs = 1 ]; then
-        echo "boards: $target as x86-64: session, example, $(wc -l <"$out/calls.expected") calls; $(head -n 1 "$folder/figures.txt") bytes"
+        echo "boards: $target, $code bytes of code: session, example and $(wc -l <"$out/calls.expected") calls as on x86-64"
     else
-        echo "boards: $target compiled, and not run: qemu-system-riscv32 (Debian's qemu-system-misc) is not here; $(head -n 1 "$folder/figures.txt") bytes"
+        echo "boards: $target, $code bytes of code: compiled, not run (qemu-system-riscv32, of Debian's qemu-system-misc, is not here)"
     fi
 }
 
