@@ -3,7 +3,8 @@
 # code (on the M3, made to fault at unaligned addresses as an M0+ does, and on a Cortex-M0 with 16 KiB of memory), with an AArch64 and, where
 # qemu-system-riscv32 is there, a RISC-V; as WebAssembly in node. Two minutes.
 #
-# usage: tests/boards/run.sh
+# usage: tests/boards/run.sh [tools]
+#   tools             only sees to it that the tools are there: what is missing is installed, on Debian as root
 #   HOURLOG_BOARDS=0  leaves all of it out
 #   HOURLOG_LIB       the folder that holds libhourlog_c.a of x86-64 (else it is built)
 #
@@ -148,6 +149,7 @@ expect() {
 }
 
 install_missing
+[ "${1:-}" != tools ] || exit 0
 boards/module >/dev/null
 expect
 (one_target cortex-m3 && one_target cortex-m0plus) &
