@@ -1,10 +1,10 @@
 -- Demand 2, whole. Assumes nothing.
 use Rattle.tree.proofs.RangeLaws.{apart, parts-of}
 use Rattle.image.proofs.Made.{length-only}
-use Rattle.demand_2.specs.Demand2.{Demand2}
-use Rattle.demand_2.proofs.ImageRanges.{node-holds, node-in-page, nodes-related, pages-apart}
-use Rattle.demand_2.proofs.Theorems.{accepted-exactly, check-accepted, check-holds, count-accepted, reach-accepted, reading-accepted, reads-back}
-use Rattle.demand_2.proofs.Written.{length-is, write-is}
+use Rattle.demands.specs.Demand2.{Demand2}
+use Rattle.demands.proofs.ImageRanges.{node-holds, node-in-page, nodes-related, pages-apart}
+use Rattle.demands.proofs.Theorems.{accepted-exactly, check-accepted, check-holds, count-accepted, reach-accepted, reading-accepted, reads-back}
+use Rattle.demands.proofs.Written.{length-is, write-is}
 
 pub demand-2 : Demand2
 demand-2 =

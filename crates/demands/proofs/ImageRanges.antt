@@ -15,7 +15,7 @@ use Rattle.tree.specs.Tree.{tree}
 use Rattle.tree.proofs.RangeLaws.{apart, holds-code, inside}
 use Rattle.image.specs.Image.{Limits, code, codeStart, image, page, pages, start}
 use Rattle.image.specs.Read.{codeAt, startOf, treeAt, widthOf}
-use Rattle.demand_2.specs.Demand2.{Related, around, before, behind, nodeIn, pageStart, treeStart, within}
+use Rattle.demands.specs.Demand2.{Related, around, before, behind, nodeIn, pageStart, treeStart, within}
 use Rattle.image.proofs.Back.{code-is, start-is, tree-is, width-is}
 use Rattle.image.proofs.PageLaws.{start-next, start-within}
 

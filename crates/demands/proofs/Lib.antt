@@ -1,4 +1,4 @@
--- Demand 2 of document 01, over crate image's definitions.
+-- The demands, proved.
 pub mod ListBack
 pub mod Theorems
 pub mod Written

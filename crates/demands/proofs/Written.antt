@@ -9,7 +9,7 @@ use lib.Seq.{take-at, drop-at}
 use Rattle.image.specs.Calls.{Wrote, lengthCall}
 use Rattle.image.specs.Image.{Limits, code, image, size}
 use Rattle.image.specs.Reply.{given}
-use Rattle.demand_2.specs.Demand2.{Written}
+use Rattle.demands.specs.Demand2.{Written}
 use Rattle.image.proofs.Back.{length-image}
 use Rattle.image.proofs.Made.{length-within, write-put}
 

@@ -1,2 +1,0 @@
--- What demand 2 claims of images.
-pub mod Demand2

@@ -1,0 +1,2 @@
+-- The three demands, each as one claim.
+pub mod Demand2
