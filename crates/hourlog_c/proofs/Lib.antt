@@ -1,3 +1,3 @@
 -- Laws of the crate.
 pub mod WordLaws
-pub mod ReadingBack
+pub mod Exports

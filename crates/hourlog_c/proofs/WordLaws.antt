@@ -1,14 +1,11 @@
 -- Words of 64 bits. Assumes nothing.
-use mathlib.Core.Path.{_≡_, ap, _∙_}
-use mathlib.Core.List.{List}
-use Prim.Native.Nat.{ℕ, _+_, _-_, _*_, _%_, _^_, _<_}
+use mathlib.Core.Path.{_≡_, refl, _∙_}
+use Prim.Native.Nat.{ℕ, _+_, _-_, _*_, _%_, _^_, _≤_, _<_}
 use native.Mathlib.Nat.{mod-eq-of-lt}
 use native.Mathlib.Omega.{arith}
-use Rattle.store.specs.Plain.{Answer, Call}
-use Rattle.store.specs.Call.{Called, Started}
-use Rattle.image.specs.Reply.{Reply}
-use Rattle.image.specs.Calls.{Wrote}
-use Rattle.hourlog_c.specs.Words.{minus, pair, wordOf, replyWord, Calls, Freshes, Writes}
+use Rattle.hourlog_c.specs.Public.{End, refusal, theCells, theNumber, theSums}
+use Rattle.hourlog_c.specs.Words.{minus, pair, wordOf}
+use Rattle.hourlog_c.specs.ReadBack.{Below, Reads}
 
 pub minus-is : (r k : ℕ) → k < 2 ^ 32 → r < 2 ^ 64 → (r + k) % 2 ^ 64 ≡ 0 → r ≡ minus k
 unfolding minus
@@ -26,11 +23,20 @@ pub pair-exact : (k a b : ℕ) → a + b * 2 ^ k < 2 ^ 64 → pair k a b ≡ a +
 unfolding pair
 pair-exact k a b l = mod-eq-of-lt l
 
-pub calls : (c : Call) (s t : List ℕ) (r : ℕ) (a : Answer) → r ≡ wordOf a → Called c s a t → Calls c s r t
-calls c s t r a e d = record { word = e ∙ ap wordOf (d .answer); bytes = d .bytes }
+-- ---- answers whose words lose nothing: cells are no more than a store has, N and S within their limits, refusals 1 to 12
+abbrev pub Small : End → Type 0
+Small (theNumber n) = n ≤ 4294967295
+Small (theCells t r) = (t ≤ 1800) × (r ≤ 1800)
+Small (theSums n s) = (n ≤ 65536) × (s ≤ 4294967295)
+Small (refusal k) = (1 ≤ k) × (k ≤ 12)
 
-pub freshes : (b t : List ℕ) (P C r : ℕ) (a : Answer) → r ≡ wordOf a → Started b P C a t → Freshes b P C r t
-freshes b t P C r a e d = record { word = e ∙ ap wordOf (d .answer); bytes = d .bytes }
-
-pub writes : (w : Wrote) (r : ℕ) (t : List ℕ) (a : Reply) → r ≡ replyWord a → record { reply = a; bytes = t } ≡ w → Writes w r t
-writes w r t a e d = record { word = e ∙ ap (λ (z : Wrote). replyWord (z .reply)) d; bytes = ap (λ (z : Wrote). z .bytes) d }
+pub small-reads : (a : End) → Small a → Reads a (wordOf a)
+unfolding wordOf minus
+small-reads (theNumber n) w = (omega arith, refl)
+small-reads (theCells t r) w =
+    let e : pair 16 t r ≡ t + r * 2 ^ 16 = pair-exact 16 t r (omega (arith, w .0, w .1)) in
+    rw e (omega (arith, w .0, w .1), omega (arith, w .0, w .1), omega (arith, w .0, w .1))
+small-reads (theSums n s) w =
+    let e : pair 40 s n ≡ s + n * 2 ^ 40 = pair-exact 40 s n (omega (arith, w .0, w .1)) in
+    rw e (omega (arith, w .0, w .1), omega (arith, w .0, w .1), omega (arith, w .0, w .1))
+small-reads (refusal k) w = record { sign = omega (arith, w .0, w .1); word = omega (arith, w .0, w .1); refusal = omega (arith, w .0, w .1) }

@@ -1,60 +1,62 @@
 // The live store, for C.
 use crate::word::of_store;
+ghost use mathlib.Core.List.{[], _∷_};
 ghost use Rattle.store.specs.Plain.{Append, Set, Count, Reading, Reach, Day, Free};
-ghost use Rattle.hourlog_c.specs.Words.{Calls, Freshes};
+ghost use Rattle.hourlog_c.specs.Public.{Fresh, Live};
+ghost use Rattle.hourlog_c.specs.Export.{Answers};
 
 #[no_mangle]
 pub extern "C" fn hourlog_fresh(store: &mut [u8], pages: u32, cells: u32) -> u64
-    ensures { λ r. ⌜ Freshes (now (store .entry)) pages cells r (now (store .exit)) ⌝ }
+    ensures { λ r. ⌜ Answers (Fresh (now (store .entry)) pages cells) r (now (store .exit) ∷ []) ⌝ }
 {
     of_store(store::fresh::fresh(store, pages, cells))
 }
 
 #[no_mangle]
 pub extern "C" fn hourlog_append(store: &mut [u8], count: u32) -> u64
-    ensures { λ r. ⌜ Calls (Append count) (now (store .entry)) r (now (store .exit)) ⌝ }
+    ensures { λ r. ⌜ Answers (Live (Append count) (now (store .entry))) r (now (store .exit) ∷ []) ⌝ }
 {
     of_store(live::append(store, count))
 }
 
 #[no_mangle]
 pub extern "C" fn hourlog_set(store: &mut [u8], hour: u32, count: u32) -> u64
-    ensures { λ r. ⌜ Calls (Set hour count) (now (store .entry)) r (now (store .exit)) ⌝ }
+    ensures { λ r. ⌜ Answers (Live (Set hour count) (now (store .entry))) r (now (store .exit) ∷ []) ⌝ }
 {
     of_store(live::set(store, hour, count))
 }
 
 #[no_mangle]
 pub extern "C" fn hourlog_count(store: &[u8], hour: u32) -> u64
-    ensures { λ r. ⌜ Calls (Count hour) (now (store .entry)) r (now (store .exit)) ⌝ }
+    ensures { λ r. ⌜ Answers (Live (Count hour) (now (store .entry))) r (now (store .exit) ∷ []) ⌝ }
 {
     of_store(live::count(store, hour))
 }
 
 #[no_mangle]
 pub extern "C" fn hourlog_reading(store: &[u8], hour: u32) -> u64
-    ensures { λ r. ⌜ Calls (Reading hour) (now (store .entry)) r (now (store .exit)) ⌝ }
+    ensures { λ r. ⌜ Answers (Live (Reading hour) (now (store .entry))) r (now (store .exit) ∷ []) ⌝ }
 {
     of_store(live::reading(store, hour))
 }
 
 #[no_mangle]
 pub extern "C" fn hourlog_reach(store: &[u8], figure: u32) -> u64
-    ensures { λ r. ⌜ Calls (Reach figure) (now (store .entry)) r (now (store .exit)) ⌝ }
+    ensures { λ r. ⌜ Answers (Live (Reach figure) (now (store .entry))) r (now (store .exit) ∷ []) ⌝ }
 {
     of_store(live::reach(store, figure))
 }
 
 #[no_mangle]
 pub extern "C" fn hourlog_day(store: &[u8], day: u32) -> u64
-    ensures { λ r. ⌜ Calls (Day day) (now (store .entry)) r (now (store .exit)) ⌝ }
+    ensures { λ r. ⌜ Answers (Live (Day day) (now (store .entry))) r (now (store .exit) ∷ []) ⌝ }
 {
     of_store(live::day(store, day))
 }
 
 #[no_mangle]
 pub extern "C" fn hourlog_free(store: &[u8]) -> u64
-    ensures { λ r. ⌜ Calls Free (now (store .entry)) r (now (store .exit)) ⌝ }
+    ensures { λ r. ⌜ Answers (Live Free (now (store .entry))) r (now (store .exit) ∷ []) ⌝ }
 {
     of_store(live::free(store))
 }

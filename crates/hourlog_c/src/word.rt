@@ -4,8 +4,10 @@ use std::num::wrapping_sub_u64;
 ghost use mathlib.Core.Path.{_≡_};
 ghost use Prim.Native.Nat.{_<_};
 ghost use Rattle.store.specs.Answers.{told};
-ghost use Rattle.image.specs.Answers.{ruled, told as replied};
-ghost use Rattle.hourlog_c.specs.Words.{minus as minusWord, pair as pairWord, wordOf, replyWord, verdictWord};
+ghost use Rattle.image.specs.Answers.{told as replied};
+ghost use Rattle.image.specs.Answers.{ruled};
+ghost use Rattle.hourlog_c.specs.Public.{ofCheck, ofImage, ofStore};
+ghost use Rattle.hourlog_c.specs.Words.{minus as minusWord, pair as pairWord, wordOf};
 
 fn minus(k: u32) -> u64
     ensures { λ r. ⌜ r ≡ minusWord k ⌝ }
@@ -21,7 +23,7 @@ fn pair(k: u32, a: u64, b: u64) -> u64
 }
 
 pub(crate) fn of_store(a: store::answer::Answer) -> u64
-    ensures { λ r. ⌜ r ≡ wordOf (told a) ⌝ }
+    ensures { λ r. ⌜ r ≡ wordOf (ofStore (told a)) ⌝ }
 {
     match a {
         store::answer::Answer::Changed(taken, returned) => pair(16, taken, returned),
@@ -31,7 +33,7 @@ pub(crate) fn of_store(a: store::answer::Answer) -> u64
 }
 
 pub(crate) fn of_image(a: image::answer::Answer) -> u64
-    ensures { λ r. ⌜ r ≡ replyWord (replied a) ⌝ }
+    ensures { λ r. ⌜ r ≡ wordOf (ofImage (replied a)) ⌝ }
 {
     match a {
         image::answer::Answer::Number(n) => n,
@@ -40,7 +42,7 @@ pub(crate) fn of_image(a: image::answer::Answer) -> u64
 }
 
 pub(crate) fn of_check(v: image::answer::Verdict) -> u64
-    ensures { λ r. ⌜ r ≡ verdictWord (ruled v) ⌝ }
+    ensures { λ r. ⌜ r ≡ wordOf (ofCheck (ruled v)) ⌝ }
 {
     match v {
         image::answer::Verdict::Holds(hours, total) => pair(40, total, hours),

@@ -1,6 +1,5 @@
 -- `hourlog_c::image_calls::hourlog_freeze` meets its contract. Assumes nothing.
-use mathlib.Core.Path.{refl}
-use Rattle.hourlog_c.proofs.WordLaws.{writes}
+use Rattle.hourlog_c.proofs.Exports.{freeze-answers}
 use borrow.Author.Needs.{needs}
 use Rattle.hourlog_c.proofs.image_calls.hourlog_freeze.Statement.{statement}
 use Rattle.hourlog_c.proofs.image_calls.hourlog_freeze.Tie as tie
@@ -15,7 +14,7 @@ same-length : tie.Need-same-length
 same-length c = search needs
 
 returns : tie.Need-returns
-returns c = (writes _ _ _ _ (c .of-image .ensures) (c .before .before .before .freeze .ensures), refl)
+returns c = freeze-answers _ _ _ _ _ _ (c .of-image .ensures) (c .before .before .before .freeze .ensures)
 
 pub hourlog-freeze-spec : {M : Type 1} → statement M
 hourlog-freeze-spec = tie.close (tie.spec freeze-requires of-image-requires same-length returns)

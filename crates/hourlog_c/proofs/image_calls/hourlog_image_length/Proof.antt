@@ -1,6 +1,5 @@
 -- `hourlog_c::image_calls::hourlog_image_length` meets its contract. Assumes nothing.
-use mathlib.Core.Path.{refl, ap, _∙_}
-use Rattle.hourlog_c.specs.Words.{replyWord}
+use Rattle.hourlog_c.proofs.Exports.{length-answers}
 use borrow.Author.Needs.{needs}
 use Rattle.hourlog_c.proofs.image_calls.hourlog_image_length.Statement.{statement}
 use Rattle.hourlog_c.proofs.image_calls.hourlog_image_length.Tie as tie
@@ -12,7 +11,7 @@ of-image-requires : tie.Need-of-image-requires
 of-image-requires c κs = search needs
 
 returns : tie.Need-returns
-returns c = (c .of-image .ensures ∙ ap replyWord (c .before .length .ensures), refl)
+returns c = length-answers _ _ _ _ (c .of-image .ensures) (c .before .length .ensures)
 
 pub hourlog-image-length-spec : {M : Type 1} → statement M
 hourlog-image-length-spec = tie.close (tie.spec length-requires of-image-requires returns)

@@ -1,6 +1,5 @@
 -- `hourlog_c::image_calls::hourlog_image_write` meets its contract. Assumes nothing.
-use mathlib.Core.Path.{refl}
-use Rattle.hourlog_c.proofs.WordLaws.{writes}
+use Rattle.hourlog_c.proofs.Exports.{write-answers}
 use borrow.Author.Needs.{needs}
 use Rattle.hourlog_c.proofs.image_calls.hourlog_image_write.Statement.{statement}
 use Rattle.hourlog_c.proofs.image_calls.hourlog_image_write.Tie as tie
@@ -15,7 +14,7 @@ same-length : tie.Need-same-length
 same-length c = search needs
 
 returns : tie.Need-returns
-returns c = (writes _ _ _ _ (c .of-image .ensures) (c .before .before .before .write .ensures), refl)
+returns c = write-answers _ _ _ _ _ _ (c .of-image .ensures) (c .before .before .before .write .ensures)
 
 pub hourlog-image-write-spec : {M : Type 1} → statement M
 hourlog-image-write-spec =

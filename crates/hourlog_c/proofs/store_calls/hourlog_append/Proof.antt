@@ -1,5 +1,5 @@
 -- `hourlog_c::store_calls::hourlog_append` meets its contract. Assumes nothing.
-use Rattle.hourlog_c.proofs.WordLaws.{calls}
+use Rattle.hourlog_c.proofs.Exports.{live-answers}
 use borrow.Author.Needs.{needs}
 use Rattle.hourlog_c.proofs.store_calls.hourlog_append.Statement.{statement}
 use Rattle.hourlog_c.proofs.store_calls.hourlog_append.Tie as tie
@@ -14,7 +14,7 @@ same-length : tie.Need-same-length
 same-length c = search needs
 
 returns : tie.Need-returns
-returns c = calls _ _ _ _ _ (c .of-store .ensures) (c .before .before .before .append .ensures)
+returns c = live-answers _ _ _ _ _ (c .of-store .ensures) (c .before .before .before .append .ensures)
 
 pub hourlog-append-spec : {M : Type 1} → statement M
 hourlog-append-spec = tie.close (tie.spec append-requires of-store-requires same-length returns)

@@ -1,5 +1,5 @@
 -- `hourlog_c::store_calls::hourlog_fresh` meets its contract. Assumes nothing.
-use Rattle.hourlog_c.proofs.WordLaws.{freshes}
+use Rattle.hourlog_c.proofs.Exports.{fresh-answers}
 use borrow.Author.Needs.{needs}
 use Rattle.hourlog_c.proofs.store_calls.hourlog_fresh.Statement.{statement}
 use Rattle.hourlog_c.proofs.store_calls.hourlog_fresh.Tie as tie
@@ -14,7 +14,7 @@ same-length : tie.Need-same-length
 same-length c = search needs
 
 returns : tie.Need-returns
-returns c = freshes _ _ _ _ _ _ (c .of-store .ensures) (c .before .before .before .fresh .ensures)
+returns c = fresh-answers _ _ _ _ _ _ (c .of-store .ensures) (c .before .before .before .fresh .ensures)
 
 pub hourlog-fresh-spec : {M : Type 1} → statement M
 hourlog-fresh-spec = tie.close (tie.spec fresh-requires of-store-requires same-length returns)

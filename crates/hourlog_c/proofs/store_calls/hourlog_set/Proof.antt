@@ -1,5 +1,5 @@
 -- `hourlog_c::store_calls::hourlog_set` meets its contract. Assumes nothing.
-use Rattle.hourlog_c.proofs.WordLaws.{calls}
+use Rattle.hourlog_c.proofs.Exports.{live-answers}
 use borrow.Author.Needs.{needs}
 use Rattle.hourlog_c.proofs.store_calls.hourlog_set.Statement.{statement}
 use Rattle.hourlog_c.proofs.store_calls.hourlog_set.Tie as tie
@@ -14,7 +14,7 @@ same-length : tie.Need-same-length
 same-length c = search needs
 
 returns : tie.Need-returns
-returns c = calls _ _ _ _ _ (c .of-store .ensures) (c .before .before .before .set .ensures)
+returns c = live-answers _ _ _ _ _ (c .of-store .ensures) (c .before .before .before .set .ensures)
 
 pub hourlog-set-spec : {M : Type 1} → statement M
 hourlog-set-spec = tie.close (tie.spec set-requires of-store-requires same-length returns)

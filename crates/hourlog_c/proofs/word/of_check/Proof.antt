@@ -1,7 +1,8 @@
 -- `hourlog_c::word::of_check` meets its contract. Assumes nothing.
 use mathlib.Core.Path.{sym, ap, _∙_}
 use Rattle.image.specs.Answers.{ruled}
-use Rattle.hourlog_c.specs.Words.{verdictWord}
+use Rattle.hourlog_c.specs.Public.{ofCheck}
+use Rattle.hourlog_c.specs.Words.{wordOf}
 use borrow.Author.Needs.{needs}
 use Rattle.hourlog_c.proofs.word.of_check.Statement.{statement}
 use Rattle.hourlog_c.proofs.word.of_check.Tie as tie
@@ -19,12 +20,12 @@ minus-requires : tie.Need-minus-requires
 minus-requires c κs = search needs
 
 returns : tie.Need-returns
-unfolding verdictWord ruled
-returns c = c .pair .ensures ∙ sym (ap (λ z. verdictWord (ruled z)) (c .before .before .v .given .1))
+unfolding wordOf ofCheck ruled
+returns c = c .pair .ensures ∙ sym (ap (λ z. wordOf (ofCheck (ruled z))) (c .before .before .v .given .1))
 
 returns-2 : tie.Need-returns-2
-unfolding verdictWord ruled
-returns-2 c = c .minus .ensures ∙ sym (ap (λ z. verdictWord (ruled z)) (c .before .before .v2 .given .1))
+unfolding wordOf ofCheck ruled
+returns-2 c = c .minus .ensures ∙ sym (ap (λ z. wordOf (ofCheck (ruled z))) (c .before .before .v2 .given .1))
 
 pub of-check-spec : {M : Type 1} → statement M
 of-check-spec =

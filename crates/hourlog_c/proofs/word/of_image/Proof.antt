@@ -1,7 +1,8 @@
 -- `hourlog_c::word::of_image` meets its contract. Assumes nothing.
 use mathlib.Core.Path.{sym, ap, _∙_}
 use Rattle.image.specs.Answers.{told}
-use Rattle.hourlog_c.specs.Words.{replyWord}
+use Rattle.hourlog_c.specs.Public.{ofImage}
+use Rattle.hourlog_c.specs.Words.{wordOf}
 use borrow.Author.Needs.{needs}
 use Rattle.hourlog_c.proofs.word.of_image.Statement.{statement}
 use Rattle.hourlog_c.proofs.word.of_image.Tie as tie
@@ -16,12 +17,12 @@ minus-requires : tie.Need-minus-requires
 minus-requires c κs = search needs
 
 returns : tie.Need-returns
-unfolding replyWord told
-returns c = sym (ap (λ z. replyWord (told z)) (c .before .a .given .1))
+unfolding wordOf ofImage told
+returns c = sym (ap (λ z. wordOf (ofImage (told z))) (c .before .a .given .1))
 
 returns-2 : tie.Need-returns-2
-unfolding replyWord told
-returns-2 c = c .minus .ensures ∙ sym (ap (λ z. replyWord (told z)) (c .before .before .a2 .given .1))
+unfolding wordOf ofImage told
+returns-2 c = c .minus .ensures ∙ sym (ap (λ z. wordOf (ofImage (told z))) (c .before .before .a2 .given .1))
 
 pub of-image-spec : {M : Type 1} → statement M
 of-image-spec = tie.close (tie.spec enum-known-a enum-known-a-2 minus-requires returns returns-2)

@@ -1,6 +1,7 @@
 -- `hourlog_c::word::of_store` meets its contract. Assumes nothing.
 use mathlib.Core.Path.{sym, ap, _∙_}
 use Rattle.store.specs.Answers.{told}
+use Rattle.hourlog_c.specs.Public.{ofStore}
 use Rattle.hourlog_c.specs.Words.{wordOf}
 use borrow.Author.Needs.{needs}
 use Rattle.hourlog_c.proofs.word.of_store.Statement.{statement}
@@ -22,16 +23,16 @@ minus-requires : tie.Need-minus-requires
 minus-requires c κs = search needs
 
 returns : tie.Need-returns
-unfolding wordOf
-returns c = c .pair .ensures ∙ sym (ap (λ z. wordOf (told z)) (c .before .before .a .given .1))
+unfolding wordOf ofStore
+returns c = c .pair .ensures ∙ sym (ap (λ z. wordOf (ofStore (told z))) (c .before .before .a .given .1))
 
 returns-2 : tie.Need-returns-2
-unfolding wordOf
-returns-2 c = sym (ap (λ z. wordOf (told z)) (c .before .a2 .given .1))
+unfolding wordOf ofStore
+returns-2 c = sym (ap (λ z. wordOf (ofStore (told z))) (c .before .a2 .given .1))
 
 returns-3 : tie.Need-returns-3
-unfolding wordOf
-returns-3 c = c .minus .ensures ∙ sym (ap (λ z. wordOf (told z)) (c .before .before .a3 .given .1))
+unfolding wordOf ofStore
+returns-3 c = c .minus .ensures ∙ sym (ap (λ z. wordOf (ofStore (told z))) (c .before .before .a3 .given .1))
 
 pub of-store-spec : {M : Type 1} → statement M
 of-store-spec =

@@ -1,0 +1,110 @@
+-- Every export keeps its promise, from what the function that it calls ensures. Assumes nothing.
+use mathlib.Core.Path.{_≡_, refl, sym, ap, _∙_, subst}
+use mathlib.Core.Bool.{Bool, true, false}
+use mathlib.Core.List.{List, [], _∷_}
+use Prim.Native.Nat.{ℕ, _<_}
+use native.Mathlib.Omega.{arith}
+use lib.ListN.{getD}
+use Rattle.lists.specs.Lists.{pick}
+use Rattle.store.specs.Plain.{Answer, Call, answered, changed, refused as turned}
+use Rattle.store.specs.Call.{Called, Started, call, freshCall}
+use Rattle.store.specs.Reading.{read}
+use Rattle.store.specs.Sound.{sound}
+use Rattle.store.proofs.Sizes.{Small as SmallAnswer, call-small, fresh-small}
+use Rattle.image.specs.Calls.{Wrote, lengthCall, unwritten, writeCall}
+use Rattle.image.specs.Check.{Verdict, check, fails, holds}
+use Rattle.image.specs.Query.{count, reading}
+use Rattle.image.specs.Reach.{Reach}
+use Rattle.image.specs.Reply.{Reply, given, refused}
+use Rattle.image.proofs.Sizes.{Small as SmallReply, SmallVerdict, check-small, count-small, length-small, reach-small, reading-small, write-small}
+use Rattle.freeze.specs.Freeze.{freezeCall}
+use Rattle.hourlog_c.specs.Public.{End, Ends, Fresh, Freeze, ImageCheck, ImageCount, ImageLength, ImageReach, ImageReading, ImageWrite, Live}
+use Rattle.hourlog_c.specs.Public.{PublicCall, ofCheck, ofImage, ofStore}
+use Rattle.hourlog_c.specs.Words.{wordOf}
+use Rattle.hourlog_c.specs.ReadBack.{Reads}
+use Rattle.hourlog_c.specs.Export.{Answers}
+use Rattle.hourlog_c.proofs.WordLaws.{Small, small-reads}
+
+-- a small answer, and its word
+answers : (c : PublicCall) (w : ℕ) (t : List (List ℕ)) (a : End) → Ends c a t → Small a → w ≡ wordOf a → Answers c w t
+answers c w t a e s q = record { answer = a; ends = e; word = q; reads = subst (λ (z : ℕ). Reads a z) (sym q) (small-reads a s) }
+
+-- ---- every answer is small
+small-store : (a : Answer) → SmallAnswer a → Small (ofStore a)
+unfolding ofStore
+small-store (changed t r) w = w
+small-store (answered n) w = w
+small-store (turned k) w = w
+
+small-image : (r : Reply) → SmallReply r → Small (ofImage r)
+unfolding ofImage
+small-image (given n) w = w
+small-image (refused k) w = w
+
+small-check : (v : Verdict) → SmallVerdict v → Small (ofCheck v)
+unfolding ofCheck
+small-check (holds n s) w = w
+small-check (fails k) w = w
+
+freeze-small : (e : ℕ) (s out : List ℕ) → SmallReply (freezeCall e s out .reply)
+unfolding freezeCall pick unwritten
+freeze-small e s out = go (sound s)
+  where
+    go : (b : Bool) → SmallReply (pick b (writeCall e (read s .plain .counts) out) (unwritten out 10) .reply)
+    go true = write-small e (read s .plain .counts) out
+    go false = omega arith
+
+-- ---- the store
+pub live-answers : (c : Call) (s t : List ℕ) (w : ℕ) (a : Answer) → w ≡ wordOf (ofStore a) → Called c s a t → Answers (Live c s) w (t ∷ [])
+live-answers c s t w a e d =
+    answers (Live c s) w (t ∷ []) (ofStore (call c s .answer)) (refl, ap (λ (z : List ℕ). z ∷ []) (d .bytes))
+    (small-store (call c s .answer) (call-small c s)) (e ∙ ap (λ (z : Answer). wordOf (ofStore z)) (d .answer))
+
+pub fresh-answers : (b t : List ℕ) (P C w : ℕ) (a : Answer) → w ≡ wordOf (ofStore a) → Started b P C a t → Answers (Fresh b P C) w (t ∷ [])
+fresh-answers b t P C w a e d =
+    answers (Fresh b P C) w (t ∷ []) (ofStore (freshCall b P C .answer)) (refl, ap (λ (z : List ℕ). z ∷ []) (d .bytes))
+    (small-store (freshCall b P C .answer) (fresh-small b P C)) (e ∙ ap (λ (z : Answer). wordOf (ofStore z)) (d .answer))
+
+-- ---- the image: what the code answers is r, which is to be the call's reply
+reply-word : (w : ℕ) (r q : Reply) → w ≡ wordOf (ofImage r) → r ≡ q → w ≡ wordOf (ofImage q)
+reply-word w r q e d = e ∙ ap (λ (z : Reply). wordOf (ofImage z)) d
+
+pub length-answers : (xs : List ℕ) (e w : ℕ) (r : Reply) → w ≡ wordOf (ofImage r) → r ≡ lengthCall e xs → Answers (ImageLength xs e) w (xs ∷ [])
+length-answers xs e w r q d =
+    answers (ImageLength xs e) w (xs ∷ []) (ofImage (lengthCall e xs)) (refl, refl) (small-image (lengthCall e xs) (length-small e xs))
+    (reply-word w r (lengthCall e xs) q d)
+
+pub write-answers : (xs out t : List ℕ) (e w : ℕ) (r : Reply) → w ≡ wordOf (ofImage r) → record { reply = r; bytes = t } ≡ writeCall e xs out
+    → Answers (ImageWrite xs e out) w (xs ∷ t ∷ [])
+write-answers xs out t e w r q d =
+    answers (ImageWrite xs e out) w (xs ∷ t ∷ []) (ofImage (writeCall e xs out .reply)) (refl, ap (λ (z : Wrote). xs ∷ z .bytes ∷ []) d)
+    (small-image (writeCall e xs out .reply) (write-small e xs out)) (reply-word w r (writeCall e xs out .reply) q (ap (λ (z : Wrote). z .reply) d))
+
+pub freeze-answers : (s out t : List ℕ) (e w : ℕ) (r : Reply) → w ≡ wordOf (ofImage r) → record { reply = r; bytes = t } ≡ freezeCall e s out
+    → Answers (Freeze s e out) w (s ∷ t ∷ [])
+freeze-answers s out t e w r q d =
+    answers (Freeze s e out) w (s ∷ t ∷ []) (ofImage (freezeCall e s out .reply)) (refl, ap (λ (z : Wrote). s ∷ z .bytes ∷ []) d)
+    (small-image (freezeCall e s out .reply) (freeze-small e s out)) (reply-word w r (freezeCall e s out .reply) q (ap (λ (z : Wrote). z .reply) d))
+
+pub check-answers : (s : List ℕ) (w : ℕ) (v : Verdict) → w ≡ wordOf (ofCheck v) → v ≡ check s → Answers (ImageCheck s) w (s ∷ [])
+check-answers s w v q d =
+    answers (ImageCheck s) w (s ∷ []) (ofCheck (check s)) (refl, refl) (small-check (check s) (check-small s))
+    (q ∙ ap (λ (z : Verdict). wordOf (ofCheck z)) d)
+
+-- what is lent is bytes, each below 256
+pub count-answers : (s : List ℕ) (i w : ℕ) (r : Reply) → ((j : ℕ) → getD s j 0 < 256) → w ≡ wordOf (ofImage r) → r ≡ count s i
+    → Answers (ImageCount s i) w (s ∷ [])
+count-answers s i w r bytes q d =
+    answers (ImageCount s i) w (s ∷ []) (ofImage (count s i)) (refl, refl) (small-image (count s i) (count-small s bytes i))
+    (reply-word w r (count s i) q d)
+
+pub reading-answers : (s : List ℕ) (i w : ℕ) (r : Reply) → ((j : ℕ) → getD s j 0 < 256) → w ≡ wordOf (ofImage r) → r ≡ reading s i
+    → Answers (ImageReading s i) w (s ∷ [])
+reading-answers s i w r bytes q d =
+    answers (ImageReading s i) w (s ∷ []) (ofImage (reading s i)) (refl, refl) (small-image (reading s i) (reading-small s bytes i))
+    (reply-word w r (reading s i) q d)
+
+-- one of the answers that reach may give
+pub reach-answers : (s : List ℕ) (p w : ℕ) (r : Reply) → w ≡ wordOf (ofImage r) → Reach s p r → Answers (ImageReach s p) w (s ∷ [])
+reach-answers s p w r q d =
+    answers (ImageReach s p) w (s ∷ []) (ofImage r) ((r, d, refl), refl) (small-image r (reach-small s p r d)) q

@@ -1,0 +1,15 @@
+-- What every export promises. Assumes nothing.
+use mathlib.Core.List.{List}
+use mathlib.Core.Path.{_≡_}
+use Prim.Native.Nat.{ℕ}
+use Rattle.hourlog_c.specs.Public.{End, Ends, PublicCall}
+use Rattle.hourlog_c.specs.Words.{wordOf}
+use Rattle.hourlog_c.specs.ReadBack.{Reads}
+
+-- The call c answers the word w, and the slices that it was lent are afterwards t: those of an answer that the call may end in. C reads
+-- this answer in the word, so nothing is lost modulo 2^64, whatever bytes and numbers the call was given
+pub record Answers (c : PublicCall) (w : ℕ) (t : List (List ℕ)) : Type 0 where
+  pub answer : End
+  pub ends : Ends c answer t
+  pub word : w ≡ wordOf answer
+  pub reads : Reads answer w

@@ -1,0 +1,68 @@
+-- Document 01's public calls: what each is given, which answers it may end in, and what it leaves of what it was lent. Assumes nothing.
+use mathlib.Core.List.{List, [], _∷_}
+use mathlib.Core.Path.{_≡_}
+use Prim.Native.Nat.{ℕ}
+use Rattle.store.specs.Plain.{Answer, Call, answered, changed, refused as turned}
+use Rattle.store.specs.Call.{call, freshCall}
+use Rattle.image.specs.Reply.{Reply, given, refused}
+use Rattle.image.specs.Check.{Verdict, check, fails, holds}
+use Rattle.image.specs.Calls.{lengthCall, writeCall}
+use Rattle.image.specs.Query.{count, reading}
+use Rattle.image.specs.Reach.{Reach}
+use Rattle.freeze.specs.Freeze.{freezeCall}
+
+-- a public call with its numbers and with the slices that it is lent; the live calls are seven
+pub data PublicCall : Type 0 where
+  Fresh : (store : List ℕ) (pages cells : ℕ) → PublicCall
+  Live : (call : Call) (store : List ℕ) → PublicCall
+  Freeze : (store : List ℕ) (e : ℕ) (image : List ℕ) → PublicCall
+  ImageLength : (counts : List ℕ) (e : ℕ) → PublicCall
+  ImageWrite : (counts : List ℕ) (e : ℕ) (image : List ℕ) → PublicCall
+  ImageCheck : (image : List ℕ) → PublicCall
+  ImageCount : (image : List ℕ) (hour : ℕ) → PublicCall
+  ImageReading : (image : List ℕ) (hour : ℕ) → PublicCall
+  ImageReach : (image : List ℕ) (figure : ℕ) → PublicCall
+
+-- all that it is lent, to read or to change
+abbrev pub lent : PublicCall → List (List ℕ)
+lent (Fresh s P C) = s ∷ []
+lent (Live c s) = s ∷ []
+lent (Freeze s e i) = s ∷ i ∷ []
+lent (ImageLength xs e) = xs ∷ []
+lent (ImageWrite xs e i) = xs ∷ i ∷ []
+lent (ImageCheck i) = i ∷ []
+lent (ImageCount i k) = i ∷ []
+lent (ImageReading i k) = i ∷ []
+lent (ImageReach i p) = i ∷ []
+
+-- what a call ends in: the number asked for, the cells taken and given back, N and S, or 'a refusal is its number alone'
+pub data End : Type 0 where
+  theNumber : ℕ → End
+  theCells : (taken returned : ℕ) → End
+  theSums : (hours total : ℕ) → End
+  refusal : ℕ → End
+
+unfoldable pub ofStore : Answer → End
+ofStore (changed t r) = theCells t r
+ofStore (answered n) = theNumber n
+ofStore (turned k) = refusal k
+
+unfoldable pub ofImage : Reply → End
+ofImage (given n) = theNumber n
+ofImage (refused k) = refusal k
+
+unfoldable pub ofCheck : Verdict → End
+ofCheck (holds n s) = theSums n s
+ofCheck (fails k) = refusal k
+
+-- The call may end in the answer a, and what it was lent is afterwards t. Reach alone may end in one of several answers
+abbrev pub Ends : PublicCall → End → List (List ℕ) → Type 0
+Ends (Fresh s P C) a t = (a ≡ ofStore (freshCall s P C .answer)) × (t ≡ freshCall s P C .bytes ∷ [])
+Ends (Live c s) a t = (a ≡ ofStore (call c s .answer)) × (t ≡ call c s .bytes ∷ [])
+Ends (Freeze s e i) a t = (a ≡ ofImage (freezeCall e s i .reply)) × (t ≡ s ∷ freezeCall e s i .bytes ∷ [])
+Ends (ImageLength xs e) a t = (a ≡ ofImage (lengthCall e xs)) × (t ≡ xs ∷ [])
+Ends (ImageWrite xs e i) a t = (a ≡ ofImage (writeCall e xs i .reply)) × (t ≡ xs ∷ writeCall e xs i .bytes ∷ [])
+Ends (ImageCheck i) a t = (a ≡ ofCheck (check i)) × (t ≡ i ∷ [])
+Ends (ImageCount i k) a t = (a ≡ ofImage (count i k)) × (t ≡ i ∷ [])
+Ends (ImageReading i k) a t = (a ≡ ofImage (reading i k)) × (t ≡ i ∷ [])
+Ends (ImageReach i p) a t = ((r : Reply) × Reach i p r × (a ≡ ofImage r)) × (t ≡ i ∷ [])
