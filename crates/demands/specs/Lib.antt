@@ -1,2 +1,4 @@
 -- The three demands, each as one claim.
+pub mod Demand1
 pub mod Demand2
+pub mod Demand3

@@ -1,33 +1,40 @@
 -- Every export keeps its promise, from what the function that it calls ensures. Assumes nothing.
 use mathlib.Core.Path.{_≡_, refl, sym, ap, _∙_, subst}
-use mathlib.Core.Bool.{Bool, true, false}
-use mathlib.Core.List.{List, [], _∷_}
+use mathlib.Core.Bool.{Bool, true, false, true≢false, _&&_}
+use mathlib.Core.List.{List, [], _∷_, _++_}
+use mathlib.Core.Logic.{_↔_}
 use Prim.Native.Nat.{ℕ, _<_}
 use native.Mathlib.Omega.{arith}
-use lib.ListN.{getD}
+use lib.ListN.{length, getD, drop}
+use lib.Dec.{leb}
 use Rattle.lists.specs.Lists.{pick}
 use Rattle.store.specs.Plain.{Answer, Call, answered, changed, refused as turned}
 use Rattle.store.specs.Call.{Called, Started, call, freshCall}
+use Rattle.store.specs.Items.{Items}
 use Rattle.store.specs.Reading.{read}
 use Rattle.store.specs.Sound.{sound}
+use Rattle.store.proofs.ItemLaws.{items-sound, sound-items}
+use Rattle.store.proofs.Refusals.{ten-exactly}
 use Rattle.store.proofs.Sizes.{Small as SmallAnswer, call-small, fresh-small}
-use Rattle.image.specs.Calls.{Wrote, lengthCall, unwritten, writeCall}
+use Rattle.image.specs.Calls.{Wrote, lengthCall, put, putAfter, unwritten, writeCall}
 use Rattle.image.specs.Check.{Verdict, check, fails, holds}
+use Rattle.image.specs.Image.{image}
 use Rattle.image.specs.Query.{count, reading}
 use Rattle.image.specs.Reach.{Reach}
 use Rattle.image.specs.Reply.{Reply, given, refused}
 use Rattle.image.proofs.Sizes.{Small as SmallReply, SmallVerdict, check-small, count-small, length-small, reach-small, reading-small, write-small}
 use Rattle.freeze.specs.Freeze.{freezeCall}
+use Rattle.freeze.proofs.Freezing.{freeze-10, freeze-sound, only-page-size}
 use Rattle.hourlog_c.specs.Public.{End, Ends, Fresh, Freeze, ImageCheck, ImageCount, ImageLength, ImageReach, ImageReading, ImageWrite, Live}
-use Rattle.hourlog_c.specs.Public.{PublicCall, ofCheck, ofImage, ofStore}
+use Rattle.hourlog_c.specs.Public.{PublicCall, Ten, ofCheck, ofImage, ofStore, refusal}
 use Rattle.hourlog_c.specs.Words.{wordOf}
 use Rattle.hourlog_c.specs.ReadBack.{Reads}
 use Rattle.hourlog_c.specs.Export.{Answers}
 use Rattle.hourlog_c.proofs.WordLaws.{Small, small-reads}
 
 -- a small answer, and its word
-answers : (c : PublicCall) (w : ℕ) (t : List (List ℕ)) (a : End) → Ends c a t → Small a → w ≡ wordOf a → Answers c w t
-answers c w t a e s q = record { answer = a; ends = e; word = q; reads = subst (λ (z : ℕ). Reads a z) (sym q) (small-reads a s) }
+answers : (c : PublicCall) (w : ℕ) (t : List (List ℕ)) (a : End) → Ends c a t → Ten c a → Small a → w ≡ wordOf a → Answers c w t
+answers c w t a e n s q = record { answer = a; ends = e; ten = n; word = q; reads = subst (λ (z : ℕ). Reads a z) (sym q) (small-reads a s) }
 
 -- ---- every answer is small
 small-store : (a : Answer) → SmallAnswer a → Small (ofStore a)
@@ -54,15 +61,74 @@ freeze-small e s out = go (sound s)
     go true = write-small e (read s .plain .counts) out
     go false = omega arith
 
+-- ---- an answer is told as a refusal exactly where it is one
+pub store-refused : (a : Answer) (k : ℕ) → (ofStore a ≡ refusal k) ↔ (a ≡ turned k)
+unfolding ofStore
+store-refused (changed t r) k = (λ e. cc, λ e. cc)
+store-refused (answered n) k = (λ e. cc, λ e. cc)
+store-refused (turned j) k = (λ e. cc, λ e. cc)
+
+pub image-refused : (r : Reply) (k : ℕ) → (ofImage r ≡ refusal k) ↔ (r ≡ refused k)
+unfolding ofImage
+image-refused (given n) k = (λ e. cc, λ e. cc)
+image-refused (refused j) k = (λ e. cc, λ e. cc)
+
+-- ---- refused 10 exactly where a clause of soundness does not hold: what is lent is bytes, each below 256
+items-exactly : (s : List ℕ) → ((j : ℕ) → getD s j 0 < 256) → (sound s ≡ false) ↔ (Items s → ⊥)
+items-exactly s bytes = (fails-items, go (sound s) refl)
+  where
+    fails-items : sound s ≡ false → Items s → ⊥
+    fails-items e i = true≢false (sym (items-sound s bytes i) ∙ e)
+
+    go : (b : Bool) → sound s ≡ b → (Items s → ⊥) → sound s ≡ false
+    go true e n = absurd (n (sound-items s e))
+    go false e n = e
+
+through : {A B C : Type 0} → A ↔ B → B ↔ C → A ↔ C
+through f g = (λ a. g .0 (f .0 a), λ c. f .1 (g .1 c))
+
+live-ten : (c : Call) (s : List ℕ) → ((j : ℕ) → getD s j 0 < 256) → Ten (Live c s) (ofStore (call c s .answer))
+live-ten c s bytes = through (store-refused (call c s .answer) 10) (through (ten-exactly c s) (items-exactly s bytes))
+
+-- past 10 freeze has refusals 1 and 4 alone
+put-not-ten : (out i : List ℕ) → put out i .reply ≡ refused 10 → ⊥
+unfolding put pick unwritten
+put-not-ten out i = go (leb (length i) (length out))
+  where
+    go : (b : Bool) → pick b (record { reply = given (length i); bytes = i ++ drop (length i) out }) (unwritten out 4) .reply ≡ refused 10 → ⊥
+    go true e = let z : _≡_ {A = ℕ} 0 1 = cc in omega arith
+    go false e = let z : _≡_ {A = ℕ} 4 10 = cc in omega arith
+
+freeze-exactly : (e : ℕ) (s out : List ℕ) → (freezeCall e s out .reply ≡ refused 10) ↔ (sound s ≡ false)
+unfolding writeCall putAfter unwritten pick
+freeze-exactly e s out = (only (sound s) refl, λ q. sym (ap (λ (z : Wrote). z .reply) (freeze-10 e s out q)))
+  where
+    xs : List ℕ
+    xs = read s .plain .counts
+
+    sized : (b : Bool) → putAfter (pick b (given (length (image e xs))) (refused 1)) out (image e xs) .reply ≡ refused 10 → ⊥
+    sized true q = put-not-ten out (image e xs) q
+    sized false q = let z : _≡_ {A = ℕ} 1 10 = cc in omega arith
+
+    only : (b : Bool) → sound s ≡ b → freezeCall e s out .reply ≡ refused 10 → sound s ≡ false
+    only false h q = h
+    only true h q =
+        absurd (sized (leb 2 e && leb e 8)
+        (ap (λ (r : Reply). putAfter r out (image e xs) .reply) (sym (only-page-size e s h))
+        ∙ ap (λ (z : Wrote). z .reply) (freeze-sound e s out h) ∙ q))
+
+freeze-ten : (s : List ℕ) (e : ℕ) (out : List ℕ) → ((j : ℕ) → getD s j 0 < 256) → Ten (Freeze s e out) (ofImage (freezeCall e s out .reply))
+freeze-ten s e out bytes = through (image-refused (freezeCall e s out .reply) 10) (through (freeze-exactly e s out) (items-exactly s bytes))
+
 -- ---- the store
-pub live-answers : (c : Call) (s t : List ℕ) (w : ℕ) (a : Answer) → w ≡ wordOf (ofStore a) → Called c s a t → Answers (Live c s) w (t ∷ [])
-live-answers c s t w a e d =
-    answers (Live c s) w (t ∷ []) (ofStore (call c s .answer)) (refl, ap (λ (z : List ℕ). z ∷ []) (d .bytes))
+pub live-answers : (c : Call) (s t : List ℕ) (w : ℕ) (a : Answer) → ((j : ℕ) → getD s j 0 < 256) → w ≡ wordOf (ofStore a) → Called c s a t → Answers (Live c s) w (t ∷ [])
+live-answers c s t w a bytes e d =
+    answers (Live c s) w (t ∷ []) (ofStore (call c s .answer)) (refl, ap (λ (z : List ℕ). z ∷ []) (d .bytes)) (live-ten c s bytes)
     (small-store (call c s .answer) (call-small c s)) (e ∙ ap (λ (z : Answer). wordOf (ofStore z)) (d .answer))
 
 pub fresh-answers : (b t : List ℕ) (P C w : ℕ) (a : Answer) → w ≡ wordOf (ofStore a) → Started b P C a t → Answers (Fresh b P C) w (t ∷ [])
 fresh-answers b t P C w a e d =
-    answers (Fresh b P C) w (t ∷ []) (ofStore (freshCall b P C .answer)) (refl, ap (λ (z : List ℕ). z ∷ []) (d .bytes))
+    answers (Fresh b P C) w (t ∷ []) (ofStore (freshCall b P C .answer)) (refl, ap (λ (z : List ℕ). z ∷ []) (d .bytes)) tt
     (small-store (freshCall b P C .answer) (fresh-small b P C)) (e ∙ ap (λ (z : Answer). wordOf (ofStore z)) (d .answer))
 
 -- ---- the image: what the code answers is r, which is to be the call's reply
@@ -71,40 +137,40 @@ reply-word w r q e d = e ∙ ap (λ (z : Reply). wordOf (ofImage z)) d
 
 pub length-answers : (xs : List ℕ) (e w : ℕ) (r : Reply) → w ≡ wordOf (ofImage r) → r ≡ lengthCall e xs → Answers (ImageLength xs e) w (xs ∷ [])
 length-answers xs e w r q d =
-    answers (ImageLength xs e) w (xs ∷ []) (ofImage (lengthCall e xs)) (refl, refl) (small-image (lengthCall e xs) (length-small e xs))
+    answers (ImageLength xs e) w (xs ∷ []) (ofImage (lengthCall e xs)) (refl, refl) tt (small-image (lengthCall e xs) (length-small e xs))
     (reply-word w r (lengthCall e xs) q d)
 
 pub write-answers : (xs out t : List ℕ) (e w : ℕ) (r : Reply) → w ≡ wordOf (ofImage r) → record { reply = r; bytes = t } ≡ writeCall e xs out
     → Answers (ImageWrite xs e out) w (xs ∷ t ∷ [])
 write-answers xs out t e w r q d =
-    answers (ImageWrite xs e out) w (xs ∷ t ∷ []) (ofImage (writeCall e xs out .reply)) (refl, ap (λ (z : Wrote). xs ∷ z .bytes ∷ []) d)
+    answers (ImageWrite xs e out) w (xs ∷ t ∷ []) (ofImage (writeCall e xs out .reply)) (refl, ap (λ (z : Wrote). xs ∷ z .bytes ∷ []) d) tt
     (small-image (writeCall e xs out .reply) (write-small e xs out)) (reply-word w r (writeCall e xs out .reply) q (ap (λ (z : Wrote). z .reply) d))
 
-pub freeze-answers : (s out t : List ℕ) (e w : ℕ) (r : Reply) → w ≡ wordOf (ofImage r) → record { reply = r; bytes = t } ≡ freezeCall e s out
+pub freeze-answers : (s out t : List ℕ) (e w : ℕ) (r : Reply) → ((j : ℕ) → getD s j 0 < 256) → w ≡ wordOf (ofImage r) → record { reply = r; bytes = t } ≡ freezeCall e s out
     → Answers (Freeze s e out) w (s ∷ t ∷ [])
-freeze-answers s out t e w r q d =
-    answers (Freeze s e out) w (s ∷ t ∷ []) (ofImage (freezeCall e s out .reply)) (refl, ap (λ (z : Wrote). s ∷ z .bytes ∷ []) d)
+freeze-answers s out t e w r bytes q d =
+    answers (Freeze s e out) w (s ∷ t ∷ []) (ofImage (freezeCall e s out .reply)) (refl, ap (λ (z : Wrote). s ∷ z .bytes ∷ []) d) (freeze-ten s e out bytes)
     (small-image (freezeCall e s out .reply) (freeze-small e s out)) (reply-word w r (freezeCall e s out .reply) q (ap (λ (z : Wrote). z .reply) d))
 
 pub check-answers : (s : List ℕ) (w : ℕ) (v : Verdict) → w ≡ wordOf (ofCheck v) → v ≡ check s → Answers (ImageCheck s) w (s ∷ [])
 check-answers s w v q d =
-    answers (ImageCheck s) w (s ∷ []) (ofCheck (check s)) (refl, refl) (small-check (check s) (check-small s))
+    answers (ImageCheck s) w (s ∷ []) (ofCheck (check s)) (refl, refl) tt (small-check (check s) (check-small s))
     (q ∙ ap (λ (z : Verdict). wordOf (ofCheck z)) d)
 
 -- what is lent is bytes, each below 256
 pub count-answers : (s : List ℕ) (i w : ℕ) (r : Reply) → ((j : ℕ) → getD s j 0 < 256) → w ≡ wordOf (ofImage r) → r ≡ count s i
     → Answers (ImageCount s i) w (s ∷ [])
 count-answers s i w r bytes q d =
-    answers (ImageCount s i) w (s ∷ []) (ofImage (count s i)) (refl, refl) (small-image (count s i) (count-small s bytes i))
+    answers (ImageCount s i) w (s ∷ []) (ofImage (count s i)) (refl, refl) tt (small-image (count s i) (count-small s bytes i))
     (reply-word w r (count s i) q d)
 
 pub reading-answers : (s : List ℕ) (i w : ℕ) (r : Reply) → ((j : ℕ) → getD s j 0 < 256) → w ≡ wordOf (ofImage r) → r ≡ reading s i
     → Answers (ImageReading s i) w (s ∷ [])
 reading-answers s i w r bytes q d =
-    answers (ImageReading s i) w (s ∷ []) (ofImage (reading s i)) (refl, refl) (small-image (reading s i) (reading-small s bytes i))
+    answers (ImageReading s i) w (s ∷ []) (ofImage (reading s i)) (refl, refl) tt (small-image (reading s i) (reading-small s bytes i))
     (reply-word w r (reading s i) q d)
 
 -- one of the answers that reach may give
 pub reach-answers : (s : List ℕ) (p w : ℕ) (r : Reply) → w ≡ wordOf (ofImage r) → Reach s p r → Answers (ImageReach s p) w (s ∷ [])
 reach-answers s p w r q d =
-    answers (ImageReach s p) w (s ∷ []) (ofImage r) ((r, d, refl), refl) (small-image r (reach-small s p r d)) q
+    answers (ImageReach s p) w (s ∷ []) (ofImage r) ((r, d, refl), refl) tt (small-image r (reach-small s p r d)) q

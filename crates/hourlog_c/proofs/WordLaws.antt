@@ -1,11 +1,11 @@
 -- Words of 64 bits. Assumes nothing.
 use mathlib.Core.Path.{_≡_, refl, _∙_}
-use Prim.Native.Nat.{ℕ, _+_, _-_, _*_, _%_, _^_, _≤_, _<_}
+use Prim.Native.Nat.{ℕ, _+_, _*_, _%_, _^_, _≤_, _<_}
 use native.Mathlib.Nat.{mod-eq-of-lt}
 use native.Mathlib.Omega.{arith}
 use Rattle.hourlog_c.specs.Public.{End, refusal, theCells, theNumber, theSums}
 use Rattle.hourlog_c.specs.Words.{minus, pair, wordOf}
-use Rattle.hourlog_c.specs.ReadBack.{Below, Reads}
+use Rattle.hourlog_c.specs.ReadBack.{Reads}
 
 pub minus-is : (r k : ℕ) → k < 2 ^ 32 → r < 2 ^ 64 → (r + k) % 2 ^ 64 ≡ 0 → r ≡ minus k
 unfolding minus

@@ -2,7 +2,7 @@
 use mathlib.Core.List.{List}
 use mathlib.Core.Path.{_≡_}
 use Prim.Native.Nat.{ℕ}
-use Rattle.hourlog_c.specs.Public.{End, Ends, PublicCall}
+use Rattle.hourlog_c.specs.Public.{End, Ends, PublicCall, Ten}
 use Rattle.hourlog_c.specs.Words.{wordOf}
 use Rattle.hourlog_c.specs.ReadBack.{Reads}
 
@@ -11,5 +11,6 @@ use Rattle.hourlog_c.specs.ReadBack.{Reads}
 pub record Answers (c : PublicCall) (w : ℕ) (t : List (List ℕ)) : Type 0 where
   pub answer : End
   pub ends : Ends c answer t
+  pub ten : Ten c answer
   pub word : w ≡ wordOf answer
   pub reads : Reads answer w

@@ -1,9 +1,11 @@
 -- Document 01's public calls: what each is given, which answers it may end in, and what it leaves of what it was lent. Assumes nothing.
 use mathlib.Core.List.{List, [], _∷_}
+use mathlib.Core.Logic.{_↔_}
 use mathlib.Core.Path.{_≡_}
 use Prim.Native.Nat.{ℕ}
 use Rattle.store.specs.Plain.{Answer, Call, answered, changed, refused as turned}
 use Rattle.store.specs.Call.{call, freshCall}
+use Rattle.store.specs.Items.{Items}
 use Rattle.image.specs.Reply.{Reply, given, refused}
 use Rattle.image.specs.Check.{Verdict, check, fails, holds}
 use Rattle.image.specs.Calls.{lengthCall, writeCall}
@@ -66,3 +68,15 @@ Ends (ImageCheck i) a t = (a ≡ ofCheck (check i)) × (t ≡ i ∷ [])
 Ends (ImageCount i k) a t = (a ≡ ofImage (count i k)) × (t ≡ i ∷ [])
 Ends (ImageReading i k) a t = (a ≡ ofImage (reading i k)) × (t ≡ i ∷ [])
 Ends (ImageReach i p) a t = ((r : Reply) × Reach i p r × (a ≡ ofImage r)) × (t ≡ i ∷ [])
+
+-- 'store, every other live call and freeze: 10, not sound', where a sound store is told clause by clause
+abbrev pub Ten : PublicCall → End → Type 0
+Ten (Fresh s P C) a = Unit {0}
+Ten (Live c s) a = (a ≡ refusal 10) ↔ (Items s → ⊥)
+Ten (Freeze s e i) a = (a ≡ refusal 10) ↔ (Items s → ⊥)
+Ten (ImageLength xs e) a = Unit {0}
+Ten (ImageWrite xs e i) a = Unit {0}
+Ten (ImageCheck i) a = Unit {0}
+Ten (ImageCount i k) a = Unit {0}
+Ten (ImageReading i k) a = Unit {0}
+Ten (ImageReach i p) a = Unit {0}

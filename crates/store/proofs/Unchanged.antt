@@ -1,4 +1,4 @@
--- Demand 1 of the live calls and of fresh: a refused call changes no byte, nor does a question. Assumes nothing.
+-- A refused live call changes no byte, nor does a question, nor a refused fresh. Assumes nothing.
 use mathlib.Core.Path.{_≡_, refl, sym, ap, _∙_}
 use mathlib.Core.Bool.{Bool, true, false}
 use mathlib.Core.List.{List, [], _∷_}
@@ -11,9 +11,7 @@ use Rattle.store.specs.Layout.{Model, bytesOf, fresh}
 use Rattle.store.specs.Reading.{read}
 use Rattle.store.specs.Sound.{sound}
 use Rattle.store.specs.Call.{Result, after, apply, call, freshCall, freshFits, hour, storeAnswers, storeEnd}
-use Rattle.store.specs.Demand1.{Demand1}
 use Rattle.store.proofs.CallLaws.{call-10, sound-call}
-use Rattle.store.proofs.Refusals.{fresh-numbered, numbered}
 use Rattle.store.proofs.SoundFacts.{facts}
 
 -- an answer that leaves any model as it is
@@ -58,16 +56,6 @@ fresh-refused-keeps b P C k = go (freshFits b P C)
     go : (t : Bool) → pick t made kept .answer ≡ refused k → pick t made kept .bytes ≡ b
     go true q = let z : _≡_ {A = ℕ} 0 1 = cc in absurd (omega arith)
     go false q = refl
-
-pub demand-1 : Demand1
-demand-1 =
-    record {
-      numbered = numbered;
-      fresh-numbered = fresh-numbered;
-      refused-keeps = refused-keeps;
-      fresh-refused-keeps = fresh-refused-keeps;
-      answered-keeps = answered-keeps;
-    }
 
 -- ---- in a list of calls: call n, if it is refused, leaves the bytes as the n calls before it left them
 pub kept-at : (cs : List Call) (s : List ℕ) (n k : ℕ) → getD (storeAnswers cs s) n (answered 0) ≡ refused k

@@ -7,8 +7,6 @@ pub mod Reading
 pub mod Sound
 pub mod Checked
 pub mod Call
-pub mod Demand1
-pub mod Demand3
 pub mod Links
 pub mod Heads
 pub mod Answers

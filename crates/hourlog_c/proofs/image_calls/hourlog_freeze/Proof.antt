@@ -1,4 +1,5 @@
 -- `hourlog_c::image_calls::hourlog_freeze` meets its contract. Assumes nothing.
+use Prim.Native.Nat.{ℕ}
 use Rattle.hourlog_c.proofs.Exports.{freeze-answers}
 use borrow.Author.Needs.{needs}
 use Rattle.hourlog_c.proofs.image_calls.hourlog_freeze.Statement.{statement}
@@ -14,7 +15,7 @@ same-length : tie.Need-same-length
 same-length c = search needs
 
 returns : tie.Need-returns
-returns c = freeze-answers _ _ _ _ _ _ (c .of-image .ensures) (c .before .before .before .freeze .ensures)
+returns c = freeze-answers _ _ _ _ _ _ (λ (j : ℕ). c .before .before .before .before .before .before .shared-slice-known .given j .fits) (c .of-image .ensures) (c .before .before .before .freeze .ensures)
 
 pub hourlog-freeze-spec : {M : Type 1} → statement M
 hourlog-freeze-spec = tie.close (tie.spec freeze-requires of-image-requires same-length returns)

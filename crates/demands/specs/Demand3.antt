@@ -3,16 +3,20 @@ use mathlib.Core.Bool.{true}
 use mathlib.Core.List.{List, [], _∷_, _++_}
 use mathlib.Core.Logic.{_↔_}
 use mathlib.Core.Path.{_≡_}
-use Prim.Native.Nat.{ℕ, suc, _+_, _-_, _*_, _≤_, _<_}
+use Prim.Native.Nat.{ℕ, suc, _-_, _*_, _≤_, _<_}
 use lib.ListN.{length, getD, take, set}
 use Rattle.lists.specs.Lists.{tabulate, concat, sum, occurrences}
 use Rattle.bits.specs.Numbers.{numberAt}
 use Rattle.store.specs.PageCode.{cells}
 use Rattle.store.specs.Plain.{Plain, Call, Append, Set, Free, Answer, answered, refused, page, need, plainEnd, plainAnswers, plainFresh}
 use Rattle.store.specs.Layout.{size}
 use Rattle.store.specs.Reading.{Runs, firstIn, sumIn, chainIn, spareIn, read}
 use Rattle.store.specs.Sound.{sound, isCell}
 use Rattle.store.specs.Call.{Fitting, call, storeEnd, storeAnswers, freshCall}
+use Rattle.store.specs.Items.{Items}
+use Rattle.hourlog_c.specs.Public.{Fresh, Live, ofStore}
+use Rattle.hourlog_c.specs.Words.{wordOf}
+use Rattle.hourlog_c.specs.Export.{Answers}
 
 -- a store that fresh made in the buffer b, after a list of calls; and the plain list that was fed the same calls
 abbrev pub storeAfter : List ℕ → ℕ → ℕ → List Call → List ℕ
@@ -37,8 +41,9 @@ pub record Demand3 (b : List ℕ) (P C : ℕ) (cs : List Call) : Type 0 where
   pub accepted : freshCall b P C .answer ≡ answered 0
   -- each answer is the plain list's
   pub answers : storeAnswers cs (freshCall b P C .bytes) ≡ plainAnswers cs (plainFresh P C)
-  -- the bytes are sound, as many as before, and say the plain list
+  -- the bytes are sound, by the test and clause by clause, as many as before, and say the plain list
   pub is-sound : sound (storeAfter b P C cs) ≡ true
+  pub items : Items (storeAfter b P C cs)
   pub long : length (storeAfter b P C cs) ≡ size P C
   pub list : read (storeAfter b P C cs) .plain ≡ listAfter P C cs
   pub limits : (listAfter P C cs .pages ≡ P) × (listAfter P C cs .cells ≡ C)
@@ -61,6 +66,28 @@ pub record Demand3 (b : List ℕ) (P C : ℕ) (cs : List Call) : Type 0 where
   -- a refused call changes no byte: after call n, if it is refused, the store is what the n calls before it left
   pub kept : (n k : ℕ) → answerAt b P C cs n ≡ refused k → storeAfter b P C (take (suc n) cs) ≡ storeAfter b P C (take n cs)
 
--- The whole claim: wherever refusal 9 does not stand ('P, C or buffer length wrong'), and for every list of calls
-abbrev pub Demand-3 : Type 0
-Demand-3 = (b : List ℕ) (P C : ℕ) → Fitting b P C → (cs : List Call) → Demand3 b P C cs
+-- A run of the exports, each on the bytes that the one before left: the calls, the bytes before, the words that C got, the bytes at the end
+pub data Run : List Call → List ℕ → List ℕ → List ℕ → Type 0 where
+  over : (s : List ℕ) → Run [] s [] s
+  goes-on : (c : Call) (cs : List Call) (s u t : List ℕ) (w : ℕ) (ws : List ℕ) → Answers (Live c s) w (u ∷ []) → Run cs u ws t
+      → Run (c ∷ cs) s (w ∷ ws) t
+
+-- the words of a list of answers
+unfoldable pub wordsOf : List Answer → List ℕ
+wordsOf [] = []
+wordsOf (a ∷ rest) = wordOf (ofStore a) ∷ wordsOf rest
+
+-- the same claim in words: what C got, and what it holds at the end
+pub record InWords (P C : ℕ) (b : List ℕ) (cs : List Call) (w : ℕ) (ws t : List ℕ) : Type 0 where
+  pub ok : w ≡ 0
+  pub words : ws ≡ wordsOf (plainAnswers cs (plainFresh P C))
+  pub bytes : t ≡ storeAfter b P C cs
+  pub is-sound : sound t ≡ true
+  pub list : read t .plain ≡ listAfter P C cs
+
+-- The whole claim: wherever refusal 9 does not stand ('P, C or buffer length wrong'), and for every list of calls; of the calls as they are
+-- defined, and of any run of the exports on what hourlog_fresh left
+pub record Demand-3 : Type 0 where
+  pub calls : (b : List ℕ) (P C : ℕ) → Fitting b P C → (cs : List Call) → Demand3 b P C cs
+  pub exports : (b : List ℕ) (P C : ℕ) → Fitting b P C → (w : ℕ) (s : List ℕ) → Answers (Fresh b P C) w (s ∷ []) → (cs : List Call) (ws t : List ℕ)
+      → Run cs s ws t → InWords P C b cs w ws t

@@ -1,0 +1,182 @@
+-- Demand 3, proved: any list of calls on a fresh store, and any run of the exports. Assumes nothing.
+use mathlib.Core.Path.{_≡_, refl, sym, ap, _∙_}
+use mathlib.Core.Logic.{_↔_}
+use mathlib.Core.Bool.{Bool, true, false}
+use mathlib.Core.List.{List, [], _∷_, _++_}
+use Prim.Native.Nat.{ℕ, suc, _-_, _*_, _≤_, _<_}
+use native.Mathlib.Omega.{arith}
+use native.Mathlib.Decide.{decLe}
+use lib.ListN.{length, getD, take, set, List·getD-eq-default}
+use borrow.Author.Tests.{lt-leb}
+use Rattle.lists.specs.Lists.{pick}
+use Rattle.store.specs.Call.{Fitting, Result, call, freshCall, storeAnswers, storeEnd}
+use Rattle.store.specs.Layout.{Model, bytesOf, fresh}
+use Rattle.store.specs.Plain.{Answer, Append, Call, Count, Day, Free, Outcome, Plain, Reach, Reading, Set}
+use Rattle.store.specs.Plain.{answered, need, plainAnswers, plainEnd, plainFresh, refuse, refused, step, tell}
+use Rattle.store.specs.Reading.{read}
+use Rattle.store.specs.Sound.{Good, sound}
+use Rattle.store.proofs.ChainLaws.{Says, says}
+use Rattle.store.proofs.FreshBytes.{fitting-exactly}
+use Rattle.store.proofs.FreshLaws.{fresh-good}
+use Rattle.store.proofs.ItemLaws.{sound-items}
+use Rattle.store.proofs.Unchanged.{kept-at}
+use Rattle.store.proofs.Whole.{answer-at, change-never, change-when, end-cells, end-pages, ends, length-answers}
+use Rattle.hourlog_c.specs.Public.{Fresh, ofStore}
+use Rattle.hourlog_c.specs.Words.{wordOf}
+use Rattle.hourlog_c.specs.Export.{Answers}
+use Rattle.demands.specs.Demand3.{Demand-3, Demand3, InWords, Passes, Run, answerAt, appends, goes-on, listAfter, over, sets, storeAfter, wordsOf}
+
+-- ---- the same of calls
+pick-never : (b : Bool) (k : ℕ) (L : Plain) (o : Outcome) → (k ≡ 12 → ⊥) → (o .answer ≡ refused 12 → ⊥) → pick b (refuse k L) o .answer ≡ refused 12
+    → ⊥
+unfolding pick
+pick-never true k L o ne h e = ne (let z : k ≡ 12 = cc in z)
+pick-never false k L o ne h e = h e
+
+tell-never : (n : ℕ) (L : Plain) → tell n L .answer ≡ refused 12 → ⊥
+tell-never n L e = let z : _≡_ {A = ℕ} 0 1 = cc in omega arith
+
+step-never : (c : Call) (L : Plain) → 8 * L .pages ≤ L .cells → step c L .answer ≡ refused 12 → ⊥
+unfolding step
+step-never (Append v) L h = pick-never _ 11 L _ (λ e. omega arith) (change-never L _ h)
+step-never (Set i v) L h = pick-never _ 7 L _ (λ e. omega arith) (change-never L _ h)
+step-never (Count i) L h = pick-never _ 7 L _ (λ e. omega arith) (tell-never _ L)
+step-never (Reading i) L h = pick-never _ 7 L _ (λ e. omega arith) (tell-never _ L)
+step-never (Reach p) L h = pick-never _ 8 L _ (λ e. omega arith) (tell-never _ L)
+step-never (Day d) L h = pick-never _ 7 L _ (λ e. omega arith) (tell-never _ L)
+step-never Free L h = tell-never _ L
+
+step-when : (c : Call) (L : Plain) (ys : List ℕ) → Passes c L ys → (step c L .answer ≡ refused 12) ↔ (L .cells < need ys (L .pages))
+unfolding step pick
+step-when c L ys (appends v M a t) = rw (lt-leb (64 * L .pages) (length (L .counts)) a) (change-when L (L .counts ++ v ∷ []) t)
+step-when c L ys (sets i v M a t) = rw (lt-leb (length (L .counts)) i a) (change-when L (set (L .counts) i v) t)
+
+-- ---- what is said of one store, said of another name for it
+carry : {s t : List ℕ} {P P′ C C′ : ℕ} {xs xs′ : List ℕ} → s ≡ t → P ≡ P′ → C ≡ C′ → xs ≡ xs′ → Says t P C xs → Says s P′ C′ xs′
+carry a p c x h = rw (a, ← p, ← c, ← x) h
+
+free-said : (s : List ℕ) (L : Plain) (P C : ℕ) → sound s ≡ true → read s .plain ≡ L → L .pages ≡ P → L .cells ≡ C
+    → call Free s .answer ≡ answered (C - need (L .counts) P)
+unfolding call step pick
+free-said s L P C e l p c = rw (e, l, p, c)
+
+when-said : (a : Answer) (c : Call) (L : Plain) (P C : ℕ) (ys : List ℕ) → a ≡ step c L .answer → L .pages ≡ P → L .cells ≡ C → Passes c L ys
+    → (a ≡ refused 12) ↔ (C < need ys P)
+when-said a c L P C ys e p q h = rw (e, ← p, ← q) (step-when c L ys h)
+
+never-said : (a : Answer) (c : Call) (L : Plain) (P C : ℕ) → a ≡ step c L .answer → L .pages ≡ P → L .cells ≡ C → 8 * P ≤ C → a ≡ refused 12 → ⊥
+never-said a c L P C e p q h r = step-never c L (omega arith) (sym e ∙ r)
+
+-- ---- demand 3
+module _ (b : List ℕ) (P C : ℕ) (h : Fitting b P C) (cs : List Call) where
+  started : freshCall b P C ≡ record { answer = answered 0; bytes = bytesOf (fresh P C) }
+  unfolding freshCall pick
+  started = rw (fitting-exactly b P C .0 h)
+
+  start : freshCall b P C .bytes ≡ bytesOf (fresh P C)
+  start = ap (λ (z : Result). z .bytes) started
+
+  begun : fresh P C .plain ≡ plainFresh P C
+  unfolding fresh
+  begun = refl
+
+  ended : (m : Model) × Good m × (storeAfter b P C cs ≡ bytesOf m) × (m .plain ≡ listAfter P C cs)
+      × (storeAnswers cs (freshCall b P C .bytes) ≡ plainAnswers cs (plainFresh P C))
+  ended =
+      let w = ends cs (fresh P C) (fresh-good P C (h .pages-low) (h .pages-high) (h .cells-low) (h .cells-high)) in
+      (w .0, w .1, ap (storeEnd cs) start ∙ w .2, w .3 ∙ ap (plainEnd cs) begun, ap (storeAnswers cs) start ∙ w .4 ∙ ap (plainAnswers cs) begun)
+
+  pages-kept : listAfter P C cs .pages ≡ P
+  pages-kept = end-pages cs (plainFresh P C)
+
+  cells-kept : listAfter P C cs .cells ≡ C
+  cells-kept = end-cells cs (plainFresh P C)
+
+  said : Says (storeAfter b P C cs) P C (listAfter P C cs .counts)
+  said =
+      let w = ended in
+      carry (w .2) (ap (λ (z : Plain). z .pages) (w .3) ∙ pages-kept) (ap (λ (z : Plain). z .cells) (w .3)
+      ∙ cells-kept) (ap (λ (z : Plain). z .counts) (w .3)) (says (w .0) (w .1))
+
+  list-is : read (storeAfter b P C cs) .plain ≡ listAfter P C cs
+  list-is = let w = ended in ap (λ (z : List ℕ). read z .plain) (w .2) ∙ says (w .0) (w .1) .list ∙ w .3
+
+  answer-is : (n : ℕ) → n < length cs → answerAt b P C cs n ≡ step (getD cs n Free) (listAfter P C (take n cs)) .answer
+  answer-is n l = ap (λ (z : List Answer). getD z n (answered 0)) (ended .4) ∙ answer-at cs (plainFresh P C) n l
+
+  pages-then : (n : ℕ) → listAfter P C (take n cs) .pages ≡ P
+  pages-then n = end-pages (take n cs) (plainFresh P C)
+
+  cells-then : (n : ℕ) → listAfter P C (take n cs) .cells ≡ C
+  cells-then n = end-cells (take n cs) (plainFresh P C)
+
+  never : 8 * P ≤ C → (n : ℕ) → Dec (suc n ≤ length cs) → answerAt b P C cs n ≡ refused 12 → ⊥
+  never k n (yes l) e = never-said (answerAt b P C cs n) (getD cs n Free) (listAfter P C (take n cs)) P C (answer-is n l) (pages-then n)
+      (cells-then n) k e
+  never k n (no l) e =
+      let d : answerAt b P C cs n ≡ answered 0 =
+      List·getD-eq-default (storeAnswers cs (freshCall b P C .bytes)) (answered 0)
+      (omega (arith, ap (λ (z : List Answer). length z) (ended .4), length-answers cs (plainFresh P C))) in
+      let z : _≡_ {A = ℕ} 0 1 = cc in omega arith
+
+  holds : Demand3 b P C cs
+  holds =
+      let w = said in
+      record {
+        accepted = ap (λ (z : Result). z .answer) started;
+        answers = ended .4;
+        is-sound = w .is-sound;
+        items = sound-items (storeAfter b P C cs) (w .is-sound);
+        long = w .long;
+        list = list-is;
+        limits = (pages-kept, cells-kept);
+        page-sum = w .page-sum;
+        page-cells = w .page-cells;
+        page-ends = w .page-ends;
+        free-cells = omega (arith, w .free-cells);
+        free-ends = w .free-ends;
+        once = w .once;
+        need-fits = omega (arith, w .free-cells);
+        free = free-said (storeAfter b P C cs) (listAfter P C cs) P C (w .is-sound) list-is pages-kept cells-kept;
+        when-12 = λ n l ys a. when-said (answerAt b P C cs n) (getD cs n Free) (listAfter P C (take n cs)) P C ys (answer-is n l) (pages-then n)
+            (cells-then n) a;
+        never-12 = λ e n. never e n (decLe (suc n) (length cs));
+        kept = kept-at cs (freshCall b P C .bytes);
+      }
+
+-- ---- a run of the exports
+-- two slices of one are the same
+same-slice : {s t : List ℕ} → _≡_ {A = List (List ℕ)} (s ∷ []) (t ∷ []) → s ≡ t
+same-slice e = cc
+
+run-words : (cs : List Call) (s ws t : List ℕ) → Run cs s ws t → ws ≡ wordsOf (storeAnswers cs s)
+unfolding storeAnswers wordsOf
+run-words cs s ws t (over u) = refl
+run-words cs s ws t (goes-on c cs′ s′ u t′ w ws′ d r) =
+    let h = run-words cs′ u ws′ t r in
+    let e : u ≡ call c s .bytes = same-slice (d .ends .1) in
+    ap (λ (z : ℕ). z ∷ ws′) (d .word ∙ ap wordOf (d .ends .0))
+    ∙ ap (λ (z : List ℕ). wordOf (ofStore (call c s .answer)) ∷ z) (h ∙ ap (λ (z : List ℕ). wordsOf (storeAnswers cs′ z)) e)
+
+run-end : (cs : List Call) (s ws t : List ℕ) → Run cs s ws t → t ≡ storeEnd cs s
+unfolding storeEnd
+run-end cs s ws t (over u) = refl
+run-end cs s ws t (goes-on c cs′ s′ u t′ w ws′ d r) = run-end cs′ u ws′ t r ∙ ap (storeEnd cs′) (same-slice (d .ends .1))
+
+module _ (b : List ℕ) (P C : ℕ) (h : Fitting b P C) (w : ℕ) (s : List ℕ) (f : Answers (Fresh b P C) w (s ∷ [])) where
+  in-words : (cs : List Call) (ws t : List ℕ) → Run cs s ws t → InWords P C b cs w ws t
+  unfolding ofStore wordOf
+  in-words cs ws t r =
+      let D = holds b P C h cs in
+      let e : s ≡ freshCall b P C .bytes = same-slice (f .ends .1) in
+      let end : t ≡ storeAfter b P C cs = run-end cs s ws t r ∙ ap (storeEnd cs) e in
+      record {
+        ok = f .word ∙ ap wordOf (f .ends .0) ∙ ap (λ (a : Answer). wordOf (ofStore a)) (D .accepted);
+        words = run-words cs s ws t r ∙ ap (λ (z : List ℕ). wordsOf (storeAnswers cs z)) e ∙ ap wordsOf (D .answers);
+        bytes = end;
+        is-sound = ap sound end ∙ D .is-sound;
+        list = ap (λ (z : List ℕ). read z .plain) end ∙ D .list;
+      }
+
+pub demand-3 : Demand-3
+demand-3 = record { calls = holds; exports = in-words }
