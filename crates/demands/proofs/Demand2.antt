@@ -1,20 +1,16 @@
--- Demand 2, whole. Assumes nothing.
-use Rattle.tree.proofs.RangeLaws.{apart, parts-of}
+-- Demand 2, proved. Assumes nothing.
 use Rattle.image.proofs.Made.{length-only}
 use Rattle.demands.specs.Demand2.{Demand2}
-use Rattle.demands.proofs.ImageRanges.{node-holds, node-in-page, nodes-related, pages-apart}
+use Rattle.demands.proofs.ImageRanges.{in-cells, in-image, ranges-of}
 use Rattle.demands.proofs.Theorems.{accepted-exactly, check-accepted, check-holds, count-accepted, reach-accepted, reading-accepted, reads-back}
-use Rattle.demands.proofs.Written.{length-is, write-is}
+use Rattle.demands.proofs.Written.{freeze-is, length-is, write-is, write-only}
 
 pub demand-2 : Demand2
 demand-2 =
     record {
-      parts = parts-of;
-      ranges = nodes-related;
-      apart = apart;
-      in-page = node-in-page;
-      pages-apart = pages-apart;
-      holds-code = node-holds;
+      trees = ranges-of;
+      images = in-image;
+      stores = in-cells;
       accepted-when = accepted-exactly;
       read-back = reads-back;
       count-sum = count-accepted;
@@ -25,4 +21,6 @@ demand-2 =
       lengths = length-is;
       no-others = length-only;
       writes = write-is;
+      only-these = write-only;
+      freezes = freeze-is;
     }

@@ -24,7 +24,7 @@ use Rattle.store.proofs.Whole.{answer-at, change-never, change-when, end-cells,
 use Rattle.hourlog_c.specs.Public.{Fresh, ofStore}
 use Rattle.hourlog_c.specs.Words.{wordOf}
 use Rattle.hourlog_c.specs.Export.{Answers}
-use Rattle.demands.specs.Demand3.{Demand-3, Demand3, InWords, Passes, Run, answerAt, appends, goes-on, listAfter, over, sets, storeAfter, wordsOf}
+use Rattle.demands.specs.Demand3.{Demand3, HoldsAfter, HoldsInWords, Passes, Run, answerAt, appends, goes-on, listAfter, over, sets, storeAfter, wordsOf}
 
 -- ---- the same of calls
 pick-never : (b : Bool) (k : ℕ) (L : Plain) (o : Outcome) → (k ≡ 12 → ⊥) → (o .answer ≡ refused 12 → ⊥) → pick b (refuse k L) o .answer ≡ refused 12
@@ -119,7 +119,7 @@ module _ (b : List ℕ) (P C : ℕ) (h : Fitting b P C) (cs : List Call) where
       (omega (arith, ap (λ (z : List Answer). length z) (ended .4), length-answers cs (plainFresh P C))) in
       let z : _≡_ {A = ℕ} 0 1 = cc in omega arith
 
-  holds : Demand3 b P C cs
+  holds : HoldsAfter b P C cs
   holds =
       let w = said in
       record {
@@ -164,7 +164,7 @@ run-end cs s ws t (over u) = refl
 run-end cs s ws t (goes-on c cs′ s′ u t′ w ws′ d r) = run-end cs′ u ws′ t r ∙ ap (storeEnd cs′) (same-slice (d .ends .1))
 
 module _ (b : List ℕ) (P C : ℕ) (h : Fitting b P C) (w : ℕ) (s : List ℕ) (f : Answers (Fresh b P C) w (s ∷ [])) where
-  in-words : (cs : List Call) (ws t : List ℕ) → Run cs s ws t → InWords P C b cs w ws t
+  in-words : (cs : List Call) (ws t : List ℕ) → Run cs s ws t → HoldsInWords P C b cs w ws t
   unfolding ofStore wordOf
   in-words cs ws t r =
       let D = holds b P C h cs in
@@ -178,5 +178,5 @@ module _ (b : List ℕ) (P C : ℕ) (h : Fitting b P C) (w : ℕ) (s : List ℕ)
         list = ap (λ (z : List ℕ). read z .plain) end ∙ D .list;
       }
 
-pub demand-3 : Demand-3
+pub demand-3 : Demand3
 demand-3 = record { calls = holds; exports = in-words }

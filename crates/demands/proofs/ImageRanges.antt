@@ -1,5 +1,4 @@
--- Demand 2's ranges in an image: those of every node of every page. Addresses are those of the bits of all the image's bytes.
--- Assumes nothing.
+-- Demand 2's ranges: of every tree, of every node of every page of an image, and of a live page. Assumes nothing.
 use mathlib.Core.Path.{_≡_, sym, ap, _∙_, subst}
 use mathlib.Core.List.{List, [], _∷_}
 use Prim.Native.Nat.{ℕ, zero, suc, _+_, _-_, _^_, _≤_, _<_}
@@ -11,11 +10,16 @@ use Rattle.bits.specs.Bits.{bits}
 use Rattle.reserve.specs.Reserve.{digits, reserve}
 use Rattle.tree.specs.Ranges.{Side, child, end, left, node, right}
 use Rattle.tree.specs.Read.{counts}
-use Rattle.tree.specs.Tree.{tree}
-use Rattle.tree.proofs.RangeLaws.{apart, holds-code, inside}
+use Rattle.tree.proofs.RangeLaws.{apart, holds-code, inside, parts-of}
+use Rattle.tree.proofs.Shape.{length-tree}
+use Rattle.store.specs.Plain.{page as plainPage}
+use Rattle.store.specs.Reading.{read}
+use Rattle.store.proofs.PageCodeLaws.{cells-hold}
+use Rattle.pages.specs.Gathered.{Gathered}
+use Rattle.pages.proofs.Coding.{tree-at}
 use Rattle.image.specs.Image.{Limits, code, codeStart, image, page, pages, start}
 use Rattle.image.specs.Read.{codeAt, startOf, treeAt, widthOf}
-use Rattle.demands.specs.Demand2.{Related, around, before, behind, nodeIn, pageStart, treeStart, within}
+use Rattle.demands.specs.Demand2.{Coded, InCells, InImage, Ranges, Related, around, before, behind, nodeIn, pageStart, treeStart, within}
 use Rattle.image.proofs.Back.{code-is, start-is, tree-is, width-is}
 use Rattle.image.proofs.PageLaws.{start-next, start-within}
 
@@ -30,7 +34,18 @@ related (left ∷ ds) (right ∷ es) (suc h) xs a = before (apart [] ds es (suc 
 related (right ∷ ds) (left ∷ es) (suc h) xs a = behind (apart [] es ds (suc h) xs a (omega arith))
 related (right ∷ ds) (right ∷ es) (suc h) xs a = related ds es h (drop (2 ^ h) xs) (a + digits (sum xs) + reserve h (sum (take (2 ^ h) xs)))
 
--- ---- in all pages
+pub ranges-of : (h : ℕ) (xs : List ℕ) (a : ℕ) → Ranges h xs a
+unfolding node
+ranges-of h xs a =
+    record {
+      owns = λ ds. length-tree (node ds h xs a .height) (node ds h xs a .counts) ∙ omega arith;
+      parts = λ ds k e. parts-of k (node ds h xs a .counts) (node ds h xs a .first);
+      apart = λ cs ds es. apart cs ds es h xs a;
+      related = λ ds es. related ds es h xs a;
+      inside = λ ds. inside ds h xs a;
+    }
+
+-- ---- in all pages of an image
 -- a node's range lies in its page's, behind the page's root
 pub node-in-page : (e : ℕ) (xs : List ℕ) (p : ℕ) (ds : List Side)
     → (treeStart e xs p ≤ nodeIn e xs p ds .first) × (end (nodeIn e xs p ds) ≤ pageStart e xs (suc p))
@@ -68,11 +83,29 @@ node-in-code e xs p ds l = omega (arith, node-in-page e xs p ds .1, start-next e
 
 -- and in the image each range holds the code of its node's counts
 pub node-holds : (e : ℕ) (xs : List ℕ) → Limits e xs → (p : ℕ) (ds : List Side) → p < pages e (length xs)
-    → part (bits (image e xs)) (nodeIn e xs p ds .first) (reserve (nodeIn e xs p ds .height) (sum (nodeIn e xs p ds .counts))) ≡ tree
-    (nodeIn e xs p ds .height) (nodeIn e xs p ds .counts)
+    → Coded (bits (image e xs)) (nodeIn e xs p ds)
 unfolding treeAt
 node-holds e xs m p ds l =
     let z : codeAt (image e xs) + startOf (image e xs) p + widthOf (image e xs) ≡ treeStart e xs p =
     omega (arith, code-is e xs m, start-is e xs m p l, width-is e xs m) in
     holds-code ds e (page e xs p) (bits (image e xs)) (treeStart e xs p)
     (ap (λ (y : ℕ). part (bits (image e xs)) y (reserve e (sum (page e xs p)))) (sym z) ∙ tree-is e xs m p l)
+
+pub in-image : (e : ℕ) (xs : List ℕ) → Limits e xs → InImage e xs
+in-image e xs m =
+    record {
+      in-page = node-in-page e xs;
+      pages-apart = pages-apart e xs;
+      in-code = node-in-code e xs;
+      any-two = nodes-related e xs;
+      coded = node-holds e xs m;
+    }
+
+-- ---- in a live page's cells
+pub in-cells : (s : List ℕ) (p : ℕ) (r : List ℕ) → Gathered s p r → InCells (plainPage (read s .plain .counts) p) r
+in-cells s p r g =
+    let xs : List ℕ = plainPage (read s .plain .counts) p in
+    record {
+      in-cells = λ ds. omega (arith, inside ds 6 xs 0 .1, cells-hold (sum xs));
+      coded = λ ds. holds-code ds 6 xs (bits r) 0 (tree-at r xs _ (g .code-is));
+    }

@@ -1,8 +1,10 @@
--- Demand 2: the ranges of an image's code, which bytes are accepted, and what is answered of them. Assumes nothing.
+-- Demand 2: 'Coding follows the address-calculation formula of document 01. Each subtree's bits stay in its reserved range, sibling ranges
+-- are disjoint. An image is accepted exactly when it is what the writer makes of some list, and that list reads back; count, reading and
+-- reach equal plain sums.' Assumes nothing.
 use mathlib.Core.Path.{_≡_}
 use mathlib.Core.Bool.{true}
-use mathlib.Core.List.{List, _∷_, _++_}
-use Prim.Native.Nat.{ℕ, suc, _+_, _≤_, _<_}
+use mathlib.Core.List.{List, [], _∷_, _++_}
+use Prim.Native.Nat.{ℕ, suc, _+_, _-_, _*_, _≤_, _<_}
 use lib.ListN.{length, getD, take, drop}
 use lib.Dec.{leb, ltb}
 use Rattle.lists.specs.Lists.{part, pick, reached, sum}
@@ -10,15 +12,22 @@ use Rattle.bits.specs.Bits.{bits}
 use Rattle.reserve.specs.Reserve.{digits, reserve}
 use Rattle.tree.specs.Ranges.{Inside, Node, Parts, Side, end, left, node, right}
 use Rattle.tree.specs.Tree.{tree}
-use Rattle.image.specs.Calls.{lengthCall, writeCall}
+use Rattle.image.specs.Calls.{Wrote, lengthCall, writeCall}
 use Rattle.image.specs.Check.{accepted, check, holds}
 use Rattle.image.specs.Image.{IsImage, Limits, code, codeStart, image, page, pages, size, start}
 use Rattle.image.specs.Query.{count, reading}
 use Rattle.image.specs.Reach.{Reach}
 use Rattle.image.specs.Read.{eOf, listOf, sOf}
 use Rattle.image.specs.Reply.{Reply, given, refused}
+use Rattle.store.specs.PageCode.{cells}
+use Rattle.store.specs.Plain.{page as plainPage}
+use Rattle.store.specs.Reading.{read}
+use Rattle.store.specs.Sound.{sound}
+use Rattle.pages.specs.Gathered.{Gathered}
+use Rattle.freeze.specs.Freeze.{freezeCall}
 
--- the bit where page p starts in the image, and where its tree does. Addresses are those of the bits of all the image's bytes
+-- the bit where page p starts in the image, behind header and start bits, and where its tree does. Addresses are those of the bits of all
+-- the image's bytes
 abbrev pub pageStart : ℕ → List ℕ → ℕ → ℕ
 pageStart e xs p = codeStart (pages e (length xs)) + start e xs p
 
@@ -36,29 +45,60 @@ pub data Related (m n : Node) : Type 0 where
   before : end m ≤ n .first → Related m n
   behind : end n ≤ m .first → Related m n
 
--- what write leaves in a buffer that is long enough: the image first, and the bytes beyond it as they were. It answers the image's length
-pub record Written (e : ℕ) (xs out : List ℕ) : Type 0 where
-  pub reply-is : writeCall e xs out .reply ≡ given (length (image e xs))
-  pub image-first : take (length (image e xs)) (writeCall e xs out .bytes) ≡ image e xs
-  pub rest-same : drop (length (image e xs)) (writeCall e xs out .bytes) ≡ drop (length (image e xs)) out
-  pub as-long : length (writeCall e xs out .bytes) ≡ length out
+-- in the bits B a node's range holds the code of its counts
+abbrev pub Coded : List ℕ → Node → Type 0
+Coded B n = part B (n .first) (reserve (n .height) (sum (n .counts))) ≡ tree (n .height) (n .counts)
+
+-- 'Each subtree's bits stay in its reserved range, sibling ranges are disjoint': of a tree with counts xs from bit a on, where a path leads
+-- to each of its subtrees
+pub record Ranges (h : ℕ) (xs : List ℕ) (a : ℕ) : Type 0 where
+  -- a subtree's code has as many bits as its range
+  pub owns : (ds : List Side) → length (tree (node ds h xs a .height) (node ds h xs a .counts)) ≡ end (node ds h xs a) - node ds h xs a .first
+  -- a subtree's field, left range and right range: in this order, none over another, all in its own range
+  pub parts : (ds : List Side) (k : ℕ) → node ds h xs a .height ≡ suc k → Parts k (node ds h xs a .counts) (node ds h xs a .first)
+  -- two subtrees that part at a node: all that is in the left one ends where the right one starts, or before
+  pub apart : (cs ds es : List Side) → length cs < h → end (node (cs ++ left ∷ ds) h xs a) ≤ node (cs ++ right ∷ es) h xs a .first
+  -- any two subtrees; and all are in the whole tree's range
+  pub related : (ds es : List Side) → Related (node ds h xs a) (node es h xs a)
+  pub inside : (ds : List Side) → Inside (node ds h xs a) (node [] h xs a)
+
+-- in an image, beside that
+pub record InImage (e : ℕ) (xs : List ℕ) : Type 0 where
+  -- a node's range lies behind its page's root and before the next page; pages are apart, and all in the L bits of code
+  pub in-page : (p : ℕ) (ds : List Side)
+      → (treeStart e xs p ≤ nodeIn e xs p ds .first) × (end (nodeIn e xs p ds) ≤ pageStart e xs (suc p))
+  pub pages-apart : (p q : ℕ) → p < q → pageStart e xs (suc p) ≤ pageStart e xs q
+  pub in-code : (p : ℕ) (ds : List Side) → p < pages e (length xs) → end (nodeIn e xs p ds) ≤ codeStart (pages e (length xs)) + length (code e xs)
+  -- so any two nodes of the image
+  pub any-two : (p q : ℕ) (ds es : List Side) → Related (nodeIn e xs p ds) (nodeIn e xs q es)
+  -- and there the image has the code of the node's counts
+  pub coded : (p : ℕ) (ds : List Side) → p < pages e (length xs) → Coded (bits (image e xs)) (nodeIn e xs p ds)
+
+-- in the code r of a live page with counts xs, gathered from its cells: the tree starts at its first bit
+pub record InCells (xs r : List ℕ) : Type 0 where
+  pub in-cells : (ds : List Side) → end (node ds 6 xs 0) ≤ 240 * cells (sum xs)
+  pub coded : (ds : List Side) → Coded (bits r) (node ds 6 xs 0)
+
+-- what a call that writes the image i leaves in a buffer that is long enough: the image first, and the bytes beyond it as they were. It
+-- answers the image's length
+pub record Written (w : Wrote) (i out : List ℕ) : Type 0 where
+  pub reply-is : w .reply ≡ given (length i)
+  pub image-first : take (length i) (w .bytes) ≡ i
+  pub rest-same : drop (length i) (w .bytes) ≡ drop (length i) out
+  pub as-long : length (w .bytes) ≡ length out
+
+-- a list that has an image, which fits into the buffer and is n bytes long
+pub record HasRoom (e : ℕ) (xs out : List ℕ) (n : ℕ) : Type 0 where
+  pub limits : Limits e xs
+  pub room : length (image e xs) ≤ length out
+  pub long : n ≡ length (image e xs)
 
 -- The whole claim, for every list and all bytes
 pub record Demand2 : Type 0 where
-  -- 'Each subtree's bits stay in its reserved range, sibling ranges are disjoint': in one node, and for any two nodes of an image
-  pub parts : (h : ℕ) (xs : List ℕ) (a : ℕ) → Parts h xs a
-  pub ranges : (e : ℕ) (xs : List ℕ) (p q : ℕ) (ds es : List Side) → Related (nodeIn e xs p ds) (nodeIn e xs q es)
-  -- two subtrees that part at a node: all that is in the left one ends where the right one starts, or before
-  pub apart : (cs ds es : List Side) (h : ℕ) (xs : List ℕ) (a : ℕ) → length cs < h
-      → end (node (cs ++ left ∷ ds) h xs a) ≤ node (cs ++ right ∷ es) h xs a .first
-  -- a node's range lies behind its page's root and before the next page
-  pub in-page : (e : ℕ) (xs : List ℕ) (p : ℕ) (ds : List Side)
-      → (treeStart e xs p ≤ nodeIn e xs p ds .first) × (end (nodeIn e xs p ds) ≤ pageStart e xs (suc p))
-  pub pages-apart : (e : ℕ) (xs : List ℕ) (p q : ℕ) → p < q → pageStart e xs (suc p) ≤ pageStart e xs q
-  -- and there the image has the code of the node's counts
-  pub holds-code : (e : ℕ) (xs : List ℕ) → Limits e xs → (p : ℕ) (ds : List Side) → p < pages e (length xs)
-      → part (bits (image e xs)) (nodeIn e xs p ds .first) (reserve (nodeIn e xs p ds .height) (sum (nodeIn e xs p ds .counts))) ≡ tree
-      (nodeIn e xs p ds .height) (nodeIn e xs p ds .counts)
+  -- 'Each subtree's bits stay in its reserved range, sibling ranges are disjoint': of every tree, in images and in a store's cells
+  pub trees : (h : ℕ) (xs : List ℕ) (a : ℕ) → Ranges h xs a
+  pub images : (e : ℕ) (xs : List ℕ) → Limits e xs → InImage e xs
+  pub stores : (s : List ℕ) (p : ℕ) (r : List ℕ) → Gathered s p r → InCells (plainPage (read s .plain .counts) p) r
   -- 'An image is accepted exactly when it is what the writer makes of some list, and that list reads back'
   pub accepted-when : (s : List ℕ) → (accepted s ≡ true → (e : ℕ) × (xs : List ℕ) × IsImage s e xs) ×
       ((e : ℕ) × (xs : List ℕ) × IsImage s e xs → accepted s ≡ true)
@@ -75,4 +115,8 @@ pub record Demand2 : Type 0 where
   -- the writer: the lists that have an image, its length, and its bytes
   pub lengths : (e : ℕ) (xs : List ℕ) → Limits e xs → lengthCall e xs ≡ given (size e (length xs) (length (code e xs)))
   pub no-others : (e : ℕ) (xs : List ℕ) (n : ℕ) → lengthCall e xs ≡ given n → Limits e xs
-  pub writes : (e : ℕ) (xs out : List ℕ) → Limits e xs → length (image e xs) ≤ length out → Written e xs out
+  pub writes : (e : ℕ) (xs out : List ℕ) → Limits e xs → length (image e xs) ≤ length out → Written (writeCall e xs out) (image e xs) out
+  pub only-these : (e : ℕ) (xs out : List ℕ) (n : ℕ) → writeCall e xs out .reply ≡ given n → HasRoom e xs out n
+  -- 'freeze, which writes the image of a store's list'
+  pub freezes : (s : List ℕ) (e : ℕ) (out : List ℕ) → sound s ≡ true → Limits e (read s .plain .counts)
+      → length (image e (read s .plain .counts)) ≤ length out → Written (freezeCall e s out) (image e (read s .plain .counts)) out

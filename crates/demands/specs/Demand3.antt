@@ -35,9 +35,9 @@ pub data Passes : Call → Plain → List ℕ → Type 0 where
       → Passes (Append v) L (L .counts ++ v ∷ [])
   sets : (i v : ℕ) (L : Plain) → i < length (L .counts) → sum (set (L .counts) i v) ≤ 4294967295 → Passes (Set i v) L (set (L .counts) i v)
 
--- For P pages and C cells within the limits, any buffer b of the right length and any list of calls (`Demand-3` below). As the list is any
+-- For P pages and C cells within the limits, any buffer b of the right length and any list of calls (`Demand3` below). As the list is any
 -- list, all of this holds after every call of it.
-pub record Demand3 (b : List ℕ) (P C : ℕ) (cs : List Call) : Type 0 where
+pub record HoldsAfter (b : List ℕ) (P C : ℕ) (cs : List Call) : Type 0 where
   pub accepted : freshCall b P C .answer ≡ answered 0
   -- each answer is the plain list's
   pub answers : storeAnswers cs (freshCall b P C .bytes) ≡ plainAnswers cs (plainFresh P C)
@@ -78,7 +78,7 @@ wordsOf [] = []
 wordsOf (a ∷ rest) = wordOf (ofStore a) ∷ wordsOf rest
 
 -- the same claim in words: what C got, and what it holds at the end
-pub record InWords (P C : ℕ) (b : List ℕ) (cs : List Call) (w : ℕ) (ws t : List ℕ) : Type 0 where
+pub record HoldsInWords (P C : ℕ) (b : List ℕ) (cs : List Call) (w : ℕ) (ws t : List ℕ) : Type 0 where
   pub ok : w ≡ 0
   pub words : ws ≡ wordsOf (plainAnswers cs (plainFresh P C))
   pub bytes : t ≡ storeAfter b P C cs
@@ -87,7 +87,7 @@ pub record InWords (P C : ℕ) (b : List ℕ) (cs : List Call) (w : ℕ) (ws t :
 
 -- The whole claim: wherever refusal 9 does not stand ('P, C or buffer length wrong'), and for every list of calls; of the calls as they are
 -- defined, and of any run of the exports on what hourlog_fresh left
-pub record Demand-3 : Type 0 where
-  pub calls : (b : List ℕ) (P C : ℕ) → Fitting b P C → (cs : List Call) → Demand3 b P C cs
+pub record Demand3 : Type 0 where
+  pub calls : (b : List ℕ) (P C : ℕ) → Fitting b P C → (cs : List Call) → HoldsAfter b P C cs
   pub exports : (b : List ℕ) (P C : ℕ) → Fitting b P C → (w : ℕ) (s : List ℕ) → Answers (Fresh b P C) w (s ∷ []) → (cs : List Call) (ws t : List ℕ)
-      → Run cs s ws t → InWords P C b cs w ws t
+      → Run cs s ws t → HoldsInWords P C b cs w ws t
