@@ -9,11 +9,10 @@ use native.Mathlib.Decide.{decLe}
 use native.Mathlib.Omega.{arith}
 use lib.Count.{leadingZeros, leading-length}
 use lib.Pow.{pow-mono, pow-pos, shl-exact}
-use borrow.Author.Tests.{le-leb, lt-leb}
 use Rattle.reserve.specs.Reserve.{digits, ceil, dense, sparse, reserve}
 use Rattle.reserve.specs.Formula.{oneFormula, Bounded}
 use Rattle.reserve.proofs.Line.{lt-two-pow}
-use Rattle.reserve.proofs.Exact.{digits-unique, digits-le, digits-ge, round-le, suc-sub-one}
+use Rattle.reserve.proofs.Exact.{digits-ge, digits-le, digits-unique, reserve-dense, reserve-sparse, round-le, suc-sub-one}
 
 pub digits-by-zeros : (s : ℕ) → s < 2 ^ 64 → 64 - leadingZeros 64 s ≡ digits s
 digits-by-zeros s h =
@@ -22,16 +21,6 @@ digits-by-zeros s h =
 
 pub power-is : (k : ℕ) → k < 64 → (1 * 2 ^ k) % 2 ^ 64 ≡ 2 ^ k
 power-is k h = shl-exact {a = 1} 1 k 64 (omega arith) (omega arith) ∙ one-mul (2 ^ k)
-
-pub reserve-dense : (h s : ℕ) → 1 ≤ s → 2 ^ h ≤ 2 * s → reserve h s ≡ dense h (digits s) s
-unfolding reserve
-reserve-dense h zero p q = omega arith
-reserve-dense h (suc j) p q = rw (le-leb (2 ^ h) (2 * suc j) q)
-
-pub reserve-sparse : (h s : ℕ) → 1 ≤ s → 2 * s < 2 ^ h → reserve h s ≡ sparse h (digits s) s
-unfolding reserve
-reserve-sparse h zero p q = omega arith
-reserve-sparse h (suc j) p q = rw (lt-leb (2 ^ h) (2 * suc j) q)
 
 -- ---- both cases as one formula
 -- floor (s·(2u - 1) / u) is 2s - ceil (s / u)

@@ -1,6 +1,6 @@
 -- The reserve of s is what the line of s's own number of digits says, rounded down.
 -- Assumes nothing.
-use mathlib.Core.Path.{_≡_, refl, ap, ap₂}
+use mathlib.Core.Path.{_≡_, refl, sym, ap, ap₂, _∙_}
 use mathlib.Core.Bool.{Bool, true, false}
 use Prim.Native.Nat.{ℕ, zero, suc, _+_, _-_, _*_, _/_, _^_, _≤_, _<_, max}
 use native.Mathlib.Nat.{pow-succ', mul-le-mul-left, mul-le-mul-right}
@@ -10,7 +10,7 @@ use native.Mathlib.Omega.{arith}
 use lib.Arith.{half-le}
 use lib.Dec.{leb}
 use lib.Pow.{pow-mono, pow-pos}
-use borrow.Author.Tests.{leb-true, leb-false}
+use borrow.Author.Tests.{le-leb, leb-false, leb-true, lt-leb}
 use Rattle.reserve.specs.Reserve.{digitsIn, digits, pick, ceil, dense, sparse, reserve}
 use Rattle.reserve.proofs.Line.{line, Under, A-zero, A-dense, B-dense, A-sparse, B-sparse, lt-two-pow}
 
@@ -130,17 +130,55 @@ unfolding reserve
 reserve-is h zero = omega (arith, A-zero h)
 reserve-is h (suc j) = picked h (digitsIn j (suc j / 2)) (suc j) refl (leb (2 ^ h) (2 * suc j)) refl
 
--- what the two cases subtract is no more than what they subtract it from
-pub dense-exact : (h k s : ℕ) → h ≤ suc k → dense h (suc k) s + (suc k + 1) ≡ 2 ^ h * (suc k + 1 - h) + s * (2 ^ h - 1) / 2 ^ k
-dense-exact h k s l =
+-- ---- the formula's two cases, with what they subtract on the other side: no difference of natural numbers is cut off
+pub reserve-dense : (h s : ℕ) → 1 ≤ s → 2 ^ h ≤ 2 * s → reserve h s ≡ dense h (digits s) s
+unfolding reserve
+reserve-dense h zero p q = omega arith
+reserve-dense h (suc j) p q = rw (le-leb (2 ^ h) (2 * suc j) q)
+
+pub reserve-sparse : (h s : ℕ) → 1 ≤ s → 2 * s < 2 ^ h → reserve h s ≡ sparse h (digits s) s
+unfolding reserve
+reserve-sparse h zero p q = omega arith
+reserve-sparse h (suc j) p q = rw (lt-leb (2 ^ h) (2 * suc j) q)
+
+dense-whole : (h k s : ℕ) → h ≤ suc k → dense h (suc k) s + (suc k + 1) ≡ 2 ^ h * (suc k + 1 - h) + s * (2 ^ h - 1) / 2 ^ k
+dense-whole h k s l =
     let j : 2 ^ h ≡ suc (2 ^ h - 1) = omega (arith, pow-pos h) in
     let q : ℕ = s * (2 ^ h - 1) / 2 ^ k in
     let m : 2 ^ h * (suc k + 1 - h) ≡ suc (2 ^ h - 1) * (suc k - h + 1) = ap₂ (λ (x y : ℕ). x * y) j (omega arith) in
     rw dense-suc (omega (arith, m, dense-sum h (suc k) (suc k - h) (2 ^ h - 1) q (omega arith) j))
 
-pub sparse-exact : (h k s : ℕ) → suc k ≤ h → sparse h (suc k) s + (ceil s (2 ^ k) + suc k + 1) ≡ 2 ^ suc k + 2 * s + s * (h - suc k)
+sparse-whole : (h k s : ℕ) → suc k ≤ h → sparse h (suc k) s + (ceil s (2 ^ k) + suc k + 1) ≡ 2 ^ suc k + 2 * s + s * (h - suc k)
 unfolding ceil
-sparse-exact h k s l =
+sparse-whole h k s l =
     let c : ℕ = (s + (2 ^ k - 1)) / 2 ^ k in
     let lo : c * 2 ^ k < s + 2 ^ k = omega (arith, div-mul-le-self (s + (2 ^ k - 1)) (2 ^ k), pow-pos k) in
     rw (sparse-suc, pow-succ' 2 k) (omega (arith, sparse-sum k s (h - suc k) c lo))
+
+-- 'n·(t - h + 1) + floor(s·(n-1) / 2^(t-1)) - t - 1 if 2s ≥ n', t being the binary digits of s
+pub dense-exact : (h s : ℕ) → 1 ≤ s → 2 ^ h ≤ 2 * s
+    → (h ≤ digits s) × (reserve h s + (digits s + 1) ≡ 2 ^ h * (digits s + 1 - h) + s * (2 ^ h - 1) / 2 ^ (digits s - 1))
+dense-exact h s p q = go (digits s) (digits-is s) (digits-ge s h (omega arith)) (reserve-dense h s p q)
+  where
+    go : (t : ℕ) → (s < 2 ^ t) × (2 ^ t ≤ 2 * s + 1) → h ≤ t → reserve h s ≡ dense h t s
+        → (h ≤ t) × (reserve h s + (t + 1) ≡ 2 ^ h * (t + 1 - h) + s * (2 ^ h - 1) / 2 ^ (t - 1))
+    go zero d l e = absurd (omega arith)
+    go (suc k) d l e = (
+      l,
+      ap (λ (r : ℕ). r + (suc k + 1)) e ∙ dense-whole h k s l
+          ∙ ap (λ (y : ℕ). 2 ^ h * (suc k + 1 - h) + s * (2 ^ h - 1) / 2 ^ y) (sym (suc-sub-one k)),
+    )
+
+-- '2^t + 2s - ceil(s / 2^(t-1)) - t - 1 + s·(h - t) otherwise'
+pub sparse-exact : (h s : ℕ) → 1 ≤ s → 2 * s < 2 ^ h
+    → (digits s ≤ h) × (reserve h s + (ceil s (2 ^ (digits s - 1)) + digits s + 1) ≡ 2 ^ digits s + 2 * s + s * (h - digits s))
+sparse-exact h s p q = go (digits s) (digits-is s) (digits-le s h (omega arith)) (reserve-sparse h s p q)
+  where
+    go : (t : ℕ) → (s < 2 ^ t) × (2 ^ t ≤ 2 * s + 1) → t ≤ h → reserve h s ≡ sparse h t s
+        → (t ≤ h) × (reserve h s + (ceil s (2 ^ (t - 1)) + t + 1) ≡ 2 ^ t + 2 * s + s * (h - t))
+    go zero d l e = absurd (omega arith)
+    go (suc k) d l e = (
+      l,
+      ap (λ (r : ℕ). r + (ceil s (2 ^ (suc k - 1)) + suc k + 1)) e
+          ∙ ap (λ (y : ℕ). sparse h (suc k) s + (ceil s (2 ^ y) + suc k + 1)) (suc-sub-one k) ∙ sparse-whole h k s l,
+    )

@@ -1,6 +1,7 @@
 -- Document 01, 'What a subtree reserves': the definition, both cases, as printed. Assumes nothing.
 use Prim.Native.Nat.{ℕ, zero, suc, _+_, _-_, _*_, _/_, _^_}
 use mathlib.Core.Bool.{Bool, true, false}
+use mathlib.Core.Path.{_≡_, refl}
 use lib.Dec.{leb}
 
 -- how many binary digits n has, of which at most k are looked at: halved until nothing is left
@@ -37,3 +38,8 @@ unfoldable pub reserve : ℕ → ℕ → ℕ
 unfolding digits dense sparse
 reserve h zero = zero
 reserve h (suc k) = pick (leb (2 ^ h) (2 * suc k)) (dense h (digits (suc k)) (suc k)) (sparse h (digits (suc k)) (suc k))
+
+-- 'The crawled text prints 2^t - 1 as the divisor. That is wrong: n = 2, s = 2 would reserve 1 bit where the code has 2'
+pub two-of-two : reserve 1 2 ≡ 2
+unfolding reserve digits digitsIn dense
+two-of-two = refl
