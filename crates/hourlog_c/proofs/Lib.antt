@@ -1,3 +1,4 @@
 -- Laws of the crate.
 pub mod WordLaws
+pub mod RefusedTen
 pub mod Exports

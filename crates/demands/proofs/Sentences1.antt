@@ -1,0 +1,345 @@
+-- What demand 1 says of each call, in document 01's words: 'Where a call is turned down', line by line, and what C gets. Every law rests on
+-- `demand-1` alone. Assumes nothing.
+use mathlib.Core.Path.{_≡_, refl, sym, ap, _∙_, subst}
+use mathlib.Core.Bool.{true}
+use mathlib.Core.List.{List, [], _∷_}
+use mathlib.Core.Logic.{_↔_, Iff·trans}
+use Prim.Native.Nat.{ℕ, _-_, _^_, _≤_, _<_}
+use native.Mathlib.Omega.{arith}
+use Rattle.store.specs.Plain.{Answer, Append, Call, Count, Day, Free, Reach as ReachOf, Reading, Set, answered, changed, refused as turned}
+use Rattle.store.specs.Call.{call, freshCall}
+use Rattle.store.specs.Items.{Items}
+use Rattle.image.specs.Calls.{lengthCall, writeCall}
+use Rattle.image.specs.Check.{Verdict, check, fails, holds}
+use Rattle.image.specs.Query.{count, reading}
+use Rattle.image.specs.Reach.{Reach}
+use Rattle.image.specs.Reply.{Reply, given, refused}
+use Rattle.freeze.specs.Freeze.{freezeCall}
+use Rattle.hourlog_c.specs.Public.{End, Ends, Fresh, Freeze, ImageCheck, ImageCount, ImageLength, ImageReach, ImageReading, ImageWrite, Live}
+use Rattle.hourlog_c.specs.Public.{PublicCall, lent, ofCheck, ofImage, ofStore, refusal, theCells, theNumber, theSums}
+use Rattle.hourlog_c.specs.ReadBack.{Reads, checkedHours, checkedTotal, returned, taken}
+use Rattle.hourlog_c.specs.Export.{Answers}
+use Rattle.hourlog_c.proofs.RefusedTen.{image-refused, store-refused}
+use Rattle.demands.specs.Demand1.{Among, Gives, Given, Kind, aNumber, cellsMoved, hoursAndTotal, row}
+use Rattle.demands.proofs.Demand1.{demand-1}
+
+same-slice : {s t : List ℕ} → _≡_ {A = List (List ℕ)} (s ∷ []) (t ∷ []) → s ≡ t
+same-slice e = cc
+
+same-slices : {r s t : List ℕ} → _≡_ {A = List (List ℕ)} (r ∷ s ∷ []) (r ∷ t ∷ []) → s ≡ t
+same-slices e = cc
+
+-- ---- 'Nothing a caller lends can keep a call from ending'
+pub ends : (c : PublicCall) → (a : End) × (t : List (List ℕ)) × Ends c a t
+ends = demand-1 .some
+
+-- ---- 'A refusal is its number alone; no byte changes'. Of the live calls and fresh
+module _ (s : List ℕ) (k : ℕ) where
+  live : (c : Call) → call c s .answer ≡ turned k → Among k (row (Live c s) .refusals) × (call c s .bytes ≡ s)
+  live c q =
+      let e : Ends (Live c s) (refusal k) (call c s .bytes ∷ []) = (sym (store-refused (call c s .answer) k .1 q), refl) in
+      (demand-1 .allowed (Live c s) (refusal k) (call c s .bytes ∷ []) e, same-slice (demand-1 .refused-keeps (Live c s) k (call c s .bytes ∷ []) e))
+
+  -- 'fresh: 9'
+  pub fresh-refused : (P C : ℕ) → freshCall s P C .answer ≡ turned k → Among k (9 ∷ []) × (freshCall s P C .bytes ≡ s)
+  unfolding row
+  fresh-refused P C q =
+      let e : Ends (Fresh s P C) (refusal k) (freshCall s P C .bytes ∷ []) = (sym (store-refused (freshCall s P C .answer) k .1 q), refl) in (
+        demand-1 .allowed (Fresh s P C) (refusal k) (freshCall s P C .bytes ∷ []) e,
+        same-slice (demand-1 .refused-keeps (Fresh s P C) k (freshCall s P C .bytes ∷ []) e),
+      )
+
+  -- 'store, every other live call and freeze: 10', then the plain list's: 'append v: refused 11 .., 3 .., 12 ..'
+  pub append-refused : (v : ℕ) → call (Append v) s .answer ≡ turned k → Among k (10 ∷ 11 ∷ 3 ∷ 12 ∷ []) × (call (Append v) s .bytes ≡ s)
+  unfolding row
+  append-refused v = live (Append v)
+
+  -- 'set i v: 7 if i ≥ N; 3; 12'
+  pub set-refused : (i v : ℕ) → call (Set i v) s .answer ≡ turned k → Among k (10 ∷ 7 ∷ 3 ∷ 12 ∷ []) × (call (Set i v) s .bytes ≡ s)
+  unfolding row
+  set-refused i v = live (Set i v)
+
+  -- 'count i: 7 if i ≥ N. Reading i: 7 if i > N'
+  pub count-refused : (i : ℕ) → call (Count i) s .answer ≡ turned k → Among k (10 ∷ 7 ∷ []) × (call (Count i) s .bytes ≡ s)
+  unfolding row
+  count-refused i = live (Count i)
+
+  pub reading-refused : (i : ℕ) → call (Reading i) s .answer ≡ turned k → Among k (10 ∷ 7 ∷ []) × (call (Reading i) s .bytes ≡ s)
+  unfolding row
+  reading-refused i = live (Reading i)
+
+  -- 'reach p: 8 if p is above the total'
+  pub reach-refused : (p : ℕ) → call (ReachOf p) s .answer ≡ turned k → Among k (10 ∷ 8 ∷ []) × (call (ReachOf p) s .bytes ≡ s)
+  unfolding row
+  reach-refused p = live (ReachOf p)
+
+  -- 'day d: .. 7 if 24d + 24 > N'
+  pub day-refused : (d : ℕ) → call (Day d) s .answer ≡ turned k → Among k (10 ∷ 7 ∷ []) × (call (Day d) s .bytes ≡ s)
+  unfolding row
+  day-refused d = live (Day d)
+
+  -- 'free: C - need'
+  pub free-refused : call Free s .answer ≡ turned k → Among k (10 ∷ []) × (call Free s .bytes ≡ s)
+  unfolding row
+  free-refused = live Free
+
+-- ---- of the calls on an image
+module _ (e k : ℕ) (xs out : List ℕ) where
+  -- 'page size (length, write, freeze): 1', 'list (length, write): 2', 'total: 3'
+  pub length-refused : lengthCall e xs ≡ refused k → Among k (1 ∷ 2 ∷ 3 ∷ [])
+  unfolding row
+  length-refused q = demand-1 .allowed (ImageLength xs e) (refusal k) (xs ∷ []) (sym (image-refused (lengthCall e xs) k .1 q), refl)
+
+  -- then 'output buffer: 4'
+  pub write-refused : writeCall e xs out .reply ≡ refused k → Among k (1 ∷ 2 ∷ 3 ∷ 4 ∷ []) × (writeCall e xs out .bytes ≡ out)
+  unfolding row
+  write-refused q =
+      let t : List (List ℕ) = xs ∷ writeCall e xs out .bytes ∷ [] in
+      let d : Ends (ImageWrite xs e out) (refusal k) t = (sym (image-refused (writeCall e xs out .reply) k .1 q), refl) in
+      (demand-1 .allowed (ImageWrite xs e out) (refusal k) t d, same-slices (demand-1 .refused-keeps (ImageWrite xs e out) k t d))
+
+  -- freeze: 10, 1, 4; a store's list has neither 2 nor 3. Here xs is the store
+  pub freeze-refused : freezeCall e xs out .reply ≡ refused k → Among k (10 ∷ 1 ∷ 4 ∷ []) × (freezeCall e xs out .bytes ≡ out)
+  unfolding row
+  freeze-refused q =
+      let t : List (List ℕ) = xs ∷ freezeCall e xs out .bytes ∷ [] in
+      let d : Ends (Freeze xs e out) (refusal k) t = (sym (image-refused (freezeCall e xs out .reply) k .1 q), refl) in
+      (demand-1 .allowed (Freeze xs e out) (refusal k) t d, same-slices (demand-1 .refused-keeps (Freeze xs e out) k t d))
+
+check-told : (v : Verdict) (k : ℕ) → v ≡ fails k → refusal k ≡ ofCheck v
+unfolding ofCheck
+check-told v k q = rw q refl
+
+module _ (s : List ℕ) (k : ℕ) where
+  -- 'image header: 5', 'image body: 6'
+  pub check-refused : check s ≡ fails k → Among k (5 ∷ 6 ∷ [])
+  unfolding row
+  check-refused q = demand-1 .allowed (ImageCheck s) (refusal k) (s ∷ []) (check-told (check s) k q, refl)
+
+  -- between them 'hour: 7'
+  pub image-count-refused : (i : ℕ) → count s i ≡ refused k → Among k (5 ∷ 7 ∷ 6 ∷ [])
+  unfolding row
+  image-count-refused i q = demand-1 .allowed (ImageCount s i) (refusal k) (s ∷ []) (sym (image-refused (count s i) k .1 q), refl)
+
+  pub image-reading-refused : (i : ℕ) → reading s i ≡ refused k → Among k (5 ∷ 7 ∷ 6 ∷ [])
+  unfolding row
+  image-reading-refused i q = demand-1 .allowed (ImageReading s i) (refusal k) (s ∷ []) (sym (image-refused (reading s i) k .1 q), refl)
+
+  -- or 'figure: 8'
+  pub image-reach-refused : (p : ℕ) → Reach s p (refused k) → Among k (5 ∷ 8 ∷ 6 ∷ [])
+  unfolding row ofImage
+  image-reach-refused p q = demand-1 .allowed (ImageReach s p) (refusal k) (s ∷ []) ((refused k, q, refl), refl)
+
+-- ---- a question changes no byte
+module _ (s : List ℕ) where
+  asks : (c : Call) → row (Live c s) .question ≡ true → call c s .bytes ≡ s
+  asks c q = same-slice (demand-1 .question-keeps (Live c s) (ofStore (call c s .answer)) (call c s .bytes ∷ []) q (refl, refl))
+
+  pub count-asks : (i : ℕ) → call (Count i) s .bytes ≡ s
+  unfolding row
+  count-asks i = asks (Count i) refl
+
+  pub reading-asks : (i : ℕ) → call (Reading i) s .bytes ≡ s
+  unfolding row
+  reading-asks i = asks (Reading i) refl
+
+  pub reach-asks : (p : ℕ) → call (ReachOf p) s .bytes ≡ s
+  unfolding row
+  reach-asks p = asks (ReachOf p) refl
+
+  pub day-asks : (d : ℕ) → call (Day d) s .bytes ≡ s
+  unfolding row
+  day-asks d = asks (Day d) refl
+
+  pub free-asks : call Free s .bytes ≡ s
+  unfolding row
+  free-asks = asks Free refl
+
+module _ (s : List ℕ) (a : End) (t : List (List ℕ)) where
+  pub length-asks : (e : ℕ) → Ends (ImageLength s e) a t → t ≡ s ∷ []
+  unfolding row
+  length-asks e = demand-1 .question-keeps (ImageLength s e) a t refl
+
+  pub check-asks : Ends (ImageCheck s) a t → t ≡ s ∷ []
+  unfolding row
+  check-asks = demand-1 .question-keeps (ImageCheck s) a t refl
+
+  pub image-count-asks : (i : ℕ) → Ends (ImageCount s i) a t → t ≡ s ∷ []
+  unfolding row
+  image-count-asks i = demand-1 .question-keeps (ImageCount s i) a t refl
+
+  pub image-reading-asks : (i : ℕ) → Ends (ImageReading s i) a t → t ≡ s ∷ []
+  unfolding row
+  image-reading-asks i = demand-1 .question-keeps (ImageReading s i) a t refl
+
+  pub image-reach-asks : (p : ℕ) → Ends (ImageReach s p) a t → t ≡ s ∷ []
+  unfolding row
+  image-reach-asks p = demand-1 .question-keeps (ImageReach s p) a t refl
+
+-- ---- what C gets. A word of 2^63 or above is minus one of the call's refusals, and then no lent byte changed
+pub minus-refusal : (c : PublicCall) (w : ℕ) (t : List (List ℕ)) → Answers c w t → 2 ^ 63 ≤ w → Among (2 ^ 64 - w) (row c .refusals) × (t ≡ lent c)
+minus-refusal c w t a l =
+    let r = demand-1 .below c w t a l in
+    let e : 2 ^ 64 - w ≡ r .number = omega (arith, r .minus) in
+    (rw e (r .numbered), r .kept)
+
+-- any other is the answer. What each kind of answer is read as
+not-cells : aNumber ≡ cellsMoved → ⊥
+not-cells e = let z : _≡_ {A = ℕ} 0 1 = cc in omega arith
+
+not-sums : aNumber ≡ hoursAndTotal → ⊥
+not-sums e = let z : _≡_ {A = ℕ} 0 1 = cc in omega arith
+
+cells-not-sums : cellsMoved ≡ hoursAndTotal → ⊥
+cells-not-sums e = let z : _≡_ {A = ℕ} 0 1 = cc in omega arith
+
+number-in : {K : Kind} → K ≡ aNumber → (a : End) (w : ℕ) → Gives K a → Reads a w → a ≡ theNumber w
+number-in g (theNumber n) w k r = ap theNumber (sym (r .1))
+number-in g (theCells u v) w k r = absurd (not-cells (sym g ∙ k))
+number-in g (theSums n s) w k r = absurd (not-sums (sym g ∙ k))
+number-in g (refusal j) w k r = absurd k
+
+cells-in : {K : Kind} → K ≡ cellsMoved → (a : End) (w : ℕ) → Gives K a → Reads a w → a ≡ theCells (taken w) (returned w)
+cells-in g (theNumber n) w k r = absurd (not-cells (sym k ∙ g))
+cells-in g (theCells u v) w k r = let x = r .1 in let y = r .2 in cc
+cells-in g (theSums n s) w k r = absurd (cells-not-sums (sym g ∙ k))
+cells-in g (refusal j) w k r = absurd k
+
+sums-in : {K : Kind} → K ≡ hoursAndTotal → (a : End) (w : ℕ) → Gives K a → Reads a w → a ≡ theSums (checkedHours w) (checkedTotal w)
+sums-in g (theNumber n) w k r = absurd (not-sums (sym k ∙ g))
+sums-in g (theCells u v) w k r = absurd (cells-not-sums (sym k ∙ g))
+sums-in g (theSums n s) w k r = let x = r .1 in let y = r .2 in cc
+sums-in g (refusal j) w k r = absurd k
+
+store-number : (a : Answer) (n : ℕ) → theNumber n ≡ ofStore a → a ≡ answered n
+unfolding ofStore
+store-number (changed t r) n e = cc
+store-number (answered m) n e = cc
+store-number (turned k) n e = cc
+
+store-cells : (a : Answer) (t r : ℕ) → theCells t r ≡ ofStore a → a ≡ changed t r
+unfolding ofStore
+store-cells (changed u v) t r e = cc
+store-cells (answered m) t r e = cc
+store-cells (turned k) t r e = cc
+
+image-number : (a : Reply) (n : ℕ) → theNumber n ≡ ofImage a → a ≡ given n
+unfolding ofImage
+image-number (given m) n e = cc
+image-number (refused k) n e = cc
+
+check-sums : (v : Verdict) (n s : ℕ) → theSums n s ≡ ofCheck v → v ≡ holds n s
+unfolding ofCheck
+check-sums (holds m u) n s e = cc
+check-sums (fails k) n s e = cc
+
+-- the word w is no refusal, and t is what was lent, afterwards
+module _ (w : ℕ) (l : w < 2 ^ 63) (t : List (List ℕ)) where
+  number : (c : PublicCall) → row c .gives ≡ aNumber → (a : Answers c w t) → demand-1 .above c w t a l .result ≡ theNumber w
+  number c g a = let G : Given c w t = demand-1 .above c w t a l in number-in g (G .result) w (G .kind) (G .reads)
+
+  live-number : (c : Call) (s : List ℕ) → row (Live c s) .gives ≡ aNumber → Answers (Live c s) w t → call c s .answer ≡ answered w
+  live-number c s g a =
+      store-number (call c s .answer) w (sym (number (Live c s) g a) ∙ demand-1 .above (Live c s) w t a l .ends .0)
+
+  live-cells : (c : Call) (s : List ℕ) → row (Live c s) .gives ≡ cellsMoved → Answers (Live c s) w t
+      → (call c s .answer ≡ changed (taken w) (returned w)) × (t ≡ call c s .bytes ∷ [])
+  live-cells c s g a =
+      let G : Given (Live c s) w t = demand-1 .above (Live c s) w t a l in (
+        store-cells (call c s .answer) (taken w) (returned w) (sym (cells-in g (G .result) w (G .kind) (G .reads)) ∙ G .ends .0),
+        G .ends .1,
+      )
+
+  -- 'An accepted append or set returns how many cells it took and gave back'
+  pub append-word : (v : ℕ) (s : List ℕ) → Answers (Live (Append v) s) w t
+      → (call (Append v) s .answer ≡ changed (taken w) (returned w)) × (t ≡ call (Append v) s .bytes ∷ [])
+  unfolding row
+  append-word v s = live-cells (Append v) s refl
+
+  pub set-word : (i v : ℕ) (s : List ℕ) → Answers (Live (Set i v) s) w t
+      → (call (Set i v) s .answer ≡ changed (taken w) (returned w)) × (t ≡ call (Set i v) s .bytes ∷ [])
+  unfolding row
+  set-word i v s = live-cells (Set i v) s refl
+
+  -- a question returns the number asked for
+  pub count-word : (i : ℕ) (s : List ℕ) → Answers (Live (Count i) s) w t → call (Count i) s .answer ≡ answered w
+  unfolding row
+  count-word i s = live-number (Count i) s refl
+
+  pub reading-word : (i : ℕ) (s : List ℕ) → Answers (Live (Reading i) s) w t → call (Reading i) s .answer ≡ answered w
+  unfolding row
+  reading-word i s = live-number (Reading i) s refl
+
+  pub reach-word : (p : ℕ) (s : List ℕ) → Answers (Live (ReachOf p) s) w t → call (ReachOf p) s .answer ≡ answered w
+  unfolding row
+  reach-word p s = live-number (ReachOf p) s refl
+
+  pub day-word : (d : ℕ) (s : List ℕ) → Answers (Live (Day d) s) w t → call (Day d) s .answer ≡ answered w
+  unfolding row
+  day-word d s = live-number (Day d) s refl
+
+  pub free-word : (s : List ℕ) → Answers (Live Free s) w t → call Free s .answer ≡ answered w
+  unfolding row
+  free-word s = live-number Free s refl
+
+  pub fresh-word : (s : List ℕ) (P C : ℕ) → Answers (Fresh s P C) w t → freshCall s P C .answer ≡ answered w
+  unfolding row
+  fresh-word s P C a =
+      store-number (freshCall s P C .answer) w (sym (number (Fresh s P C) refl a) ∙ demand-1 .above (Fresh s P C) w t a l .ends .0)
+
+  -- 'Length, write and freeze return the image's length in bytes'
+  pub length-word : (xs : List ℕ) (e : ℕ) → Answers (ImageLength xs e) w t → lengthCall e xs ≡ given w
+  unfolding row
+  length-word xs e a =
+      image-number (lengthCall e xs) w (sym (number (ImageLength xs e) refl a) ∙ demand-1 .above (ImageLength xs e) w t a l .ends .0)
+
+  pub write-word : (xs out : List ℕ) (e : ℕ) → Answers (ImageWrite xs e out) w t → writeCall e xs out .reply ≡ given w
+  unfolding row
+  write-word xs out e a =
+      image-number (writeCall e xs out .reply) w (sym (number (ImageWrite xs e out) refl a)
+      ∙ demand-1 .above (ImageWrite xs e out) w t a l .ends .0)
+
+  pub freeze-word : (s out : List ℕ) (e : ℕ) → Answers (Freeze s e out) w t → freezeCall e s out .reply ≡ given w
+  unfolding row
+  freeze-word s out e a =
+      image-number (freezeCall e s out .reply) w (sym (number (Freeze s e out) refl a) ∙ demand-1 .above (Freeze s e out) w t a l .ends .0)
+
+  -- 'check (returns N and S)'
+  pub check-word : (s : List ℕ) → Answers (ImageCheck s) w t → check s ≡ holds (checkedHours w) (checkedTotal w)
+  unfolding row
+  check-word s a =
+      let G : Given (ImageCheck s) w t = demand-1 .above (ImageCheck s) w t a l in
+      check-sums (check s) (checkedHours w) (checkedTotal w) (sym (sums-in refl (G .result) w (G .kind) (G .reads)) ∙ G .ends .0)
+
+  pub image-count-word : (s : List ℕ) (i : ℕ) → Answers (ImageCount s i) w t → count s i ≡ given w
+  unfolding row
+  image-count-word s i a =
+      image-number (count s i) w (sym (number (ImageCount s i) refl a) ∙ demand-1 .above (ImageCount s i) w t a l .ends .0)
+
+  pub image-reading-word : (s : List ℕ) (i : ℕ) → Answers (ImageReading s i) w t → reading s i ≡ given w
+  unfolding row
+  image-reading-word s i a =
+      image-number (reading s i) w (sym (number (ImageReading s i) refl a) ∙ demand-1 .above (ImageReading s i) w t a l .ends .0)
+
+  pub image-reach-word : (s : List ℕ) (p : ℕ) → Answers (ImageReach s p) w t → Reach s p (given w)
+  unfolding row
+  image-reach-word s p a =
+      let G : Given (ImageReach s p) w t = demand-1 .above (ImageReach s p) w t a l in
+      subst (Reach s p) (image-number (G .ends .0 .0) w (sym (number (ImageReach s p) refl a) ∙ G .ends .0 .2)) (G .ends .0 .1)
+
+-- ---- 'store, every other live call and freeze: 10, not sound', soundness being told clause by clause: from the exports' promise itself
+ten-in : (a : End) (w : ℕ) → Reads a w → (w ≡ 2 ^ 64 - 10) ↔ (a ≡ refusal 10)
+ten-in (theNumber n) w r = (λ (q : w ≡ 2 ^ 64 - 10). absurd (omega (arith, r .0)), λ q. let z : _≡_ {A = ℕ} 0 1 = cc in absurd (omega arith))
+ten-in (theCells u v) w r = (λ (q : w ≡ 2 ^ 64 - 10). absurd (omega (arith, r .0)), λ q. let z : _≡_ {A = ℕ} 0 1 = cc in absurd (omega arith))
+ten-in (theSums n s) w r = (λ (q : w ≡ 2 ^ 64 - 10). absurd (omega (arith, r .0)), λ q. let z : _≡_ {A = ℕ} 0 1 = cc in absurd (omega arith))
+ten-in (refusal k) w r = (
+  λ (q : w ≡ 2 ^ 64 - 10). ap refusal (omega (arith, r .refusal)),
+  λ q. let z : k ≡ 10 = cc in omega (arith, r .word, r .refusal),
+)
+
+pub live-unsound : (c : Call) (s : List ℕ) (w : ℕ) (t : List (List ℕ)) → Answers (Live c s) w t → (w ≡ 2 ^ 64 - 10) ↔ (Items s → ⊥)
+live-unsound c s w t a = Iff·trans (ten-in (a .answer) w (a .reads)) (a .ten)
+
+pub freeze-unsound : (s : List ℕ) (e : ℕ) (out : List ℕ) (w : ℕ) (t : List (List ℕ)) → Answers (Freeze s e out) w t
+    → (w ≡ 2 ^ 64 - 10) ↔ (Items s → ⊥)
+freeze-unsound s e out w t a = Iff·trans (ten-in (a .answer) w (a .reads)) (a .ten)

@@ -1,0 +1,179 @@
+-- What demand 3 says, sentence by sentence, of a store after any list of calls. Every law rests on `demand-3` alone. Assumes nothing.
+use mathlib.Core.Path.{_≡_, refl, sym, ap, _∙_, subst}
+use mathlib.Core.Logic.{_↔_}
+use mathlib.Core.List.{List, [], _∷_, _++_}
+use Prim.Native.Nat.{ℕ, suc, _+_, _-_, _*_, _^_, _≤_, _<_}
+use native.Mathlib.Omega.{arith}
+use lib.ListN.{length, getD, length-append, replicate, set, take}
+use lib.Seq.{getD-append-seam, take-all, take-append-seam}
+use borrow.Author.Tests.{le-ltb}
+use Rattle.lists.specs.Lists.{concat, occurrences, pick, sum, tabulate}
+use Rattle.bits.specs.Numbers.{numberAt}
+use Rattle.reserve.specs.Reserve.{ceil, reserve}
+use Rattle.store.specs.Call.{Fitting, call, freshCall, storeAnswers, storeEnd}
+use Rattle.store.specs.Layout.{cellAt}
+use Rattle.store.specs.PageCode.{cells}
+use Rattle.store.specs.Plain.{Answer, Append, Call, Free, Plain, Reading, Set, answered, changed, need, refused, step}
+use Rattle.store.specs.Reading.{Runs, chainIn, codeIn, firstIn, read, readFor, spareIn, sumIn}
+use Rattle.store.proofs.CallLaws.{sound-call}
+use Rattle.store.proofs.Examples.{session, session-answers}
+use Rattle.store.proofs.FreshLaws.{cell-high, cell-in}
+use Rattle.store.proofs.SoundFacts.{facts}
+use Rattle.hourlog_c.specs.Public.{Fresh, Live, ofStore}
+use Rattle.hourlog_c.specs.Words.{minus, pair, wordOf}
+use Rattle.hourlog_c.specs.Export.{Answers}
+use Rattle.demands.specs.Demand3.{HoldsAfter, HoldsInWords, Passes, Run, appends, listAfter, sets, storeAfter, wordsOf}
+use Rattle.demands.proofs.Demand3.{demand-3}
+
+-- ---- one more call behind a list of them
+last-answer : (cs : List Call) (c : Call) (s : List ℕ) → getD (storeAnswers (cs ++ c ∷ []) s) (length cs) (answered 0) ≡ call c (storeEnd cs s) .answer
+unfolding storeAnswers storeEnd
+last-answer [] c s = refl
+last-answer (d ∷ cs) c s = last-answer cs c (call d s .bytes)
+
+last-bytes : (cs : List Call) (c : Call) (s : List ℕ) → storeEnd (cs ++ c ∷ []) s ≡ call c (storeEnd cs s) .bytes
+unfolding storeEnd
+last-bytes [] c s = refl
+last-bytes (d ∷ cs) c s = last-bytes cs c (call d s .bytes)
+
+no-length : (l : List ℕ) → length l ≡ 0 → l ≡ []
+no-length [] e = refl
+no-length (x ∷ l) e = absurd (omega (arith, e))
+
+-- ---- fresh: 'pages P from 1 to 1,024; cells C from 1 to 1,800', 'Length is 16 + 6P + 32C bytes exactly'
+pub fresh-accepted : (b : List ℕ) (P C : ℕ) → 1 ≤ P → P ≤ 1024 → 1 ≤ C → C ≤ 1800 → length b ≡ 16 + 6 * P + 32 * C
+    → freshCall b P C .answer ≡ answered 0
+fresh-accepted b P C pl ph cl ch l =
+    demand-3 .calls b P C (record { pages-low = pl; pages-high = ph; cells-low = cl; cells-high = ch; long = l }) [] .accepted
+
+-- ---- after any list of calls
+module _ (b : List ℕ) (P C : ℕ) (h : Fitting b P C) (cs : List Call) where
+  abbrev S : List ℕ
+  S = storeAfter b P C cs
+
+  abbrev X : List ℕ
+  X = listAfter P C cs .counts
+
+  abbrev D : HoldsAfter b P C cs
+  D = demand-3 .calls b P C h cs
+
+  -- 'Length is 16 + 6P + 32C bytes exactly'
+  pub as-long : length S ≡ 16 + 6 * P + 32 * C
+  as-long = D .long
+
+  -- '2-3 P, 4-5 C', those 'that fresh was given', '12-15 N (hours logged)': 'N is the list's length'
+  pub header-says : (numberAt S 2 2 ≡ P) × (numberAt S 4 2 ≡ C) × (numberAt S 12 4 ≡ length X)
+  unfolding read readFor
+  header-says = (
+    ap (λ (L : Plain). L .pages) (D .list) ∙ D .limits .0,
+    ap (λ (L : Plain). L .cells) (D .list) ∙ D .limits .1,
+    facts S (D .is-sound) .hours-are ∙ ap (λ (L : Plain). length (L .counts)) (D .list),
+  )
+
+  -- 'Free cells hold 30 zero bytes'
+  pub free-cells-clear : codeIn S (numberAt S 2 2) (spareIn S (numberAt S 2 2)) ≡ replicate (30 * numberAt S 8 2) 0
+  free-cells-clear = D .items .free-clear
+
+  -- 'A page of sum s has ceil(R(64, s) / 240) cells'
+  pub page-has : (p : ℕ) → p < P → length (chainIn S P p) ≡ ceil (reserve 6 (sumIn S p)) 240
+  unfolding cells
+  page-has p l = D .page-cells p l ∙ ap cells (sym (D .page-sum p l))
+
+  -- 'Next 0 ends a chain, and one with first cell 0 is empty'
+  pub chain-ends : (p c : ℕ) → p < P → chainIn S P p ≡ c ∷ [] → (firstIn S p ≡ c) × (numberAt S (cellAt P c) 2 ≡ 0)
+  chain-ends p c l q = let w = subst (Runs S P (firstIn S p)) q (D .page-ends p l) in (w .0, w .2)
+
+  pub chain-empty : (p : ℕ) → p < P → chainIn S P p ≡ [] → firstIn S p ≡ 0
+  chain-empty p l q = subst (Runs S P (firstIn S p)) q (D .page-ends p l)
+
+  -- 'first free cell (0 if none)'
+  pub none-free : need X P ≡ C → numberAt S 6 2 ≡ 0
+  none-free q = subst (Runs S P (numberAt S 6 2)) (no-length (spareIn S P) (omega (arith, D .free-cells, q))) (D .free-ends)
+
+  -- 'each cell is on exactly one chain'
+  pub on-one-chain : (c : ℕ) → 1 ≤ c → c ≤ C → occurrences c (concat (tabulate P (chainIn S P)) ++ spareIn S P) ≡ 1
+  on-one-chain c low high = D .once c ∙ cell-in C c low high
+
+  pub on-no-chain : (c : ℕ) → C < c → occurrences c (concat (tabulate P (chainIn S P)) ++ spareIn S P) ≡ 0
+  on-no-chain c high = D .once c ∙ cell-high C c high
+
+  -- 'free: C - need'
+  pub free-and-need : (f : ℕ) → call Free S .answer ≡ answered f → f + need X P ≡ C
+  free-and-need f q = let z : C - need X P ≡ f = told (sym (D .free) ∙ q) in omega (arith, D .need-fits)
+    where
+      told : {m n : ℕ} → answered m ≡ answered n → m ≡ n
+      told e = cc
+
+  -- 'append v: .. 12 if the new need is above C', and only then; 'set i v: .. 12'
+  twelve : (c : Call) (ys : List ℕ) → Passes c (listAfter P C cs) ys → (call c S .answer ≡ refused 12) ↔ (C < need ys P)
+  twelve c ys w =
+      rw (last-answer cs c (freshCall b P C .bytes)) at
+      (demand-3 .calls b P C h (cs ++ c ∷ []) .when-12 (length cs) (omega (arith, length-append cs (c ∷ []))) ys (rw (getD-append-seam cs c [] Free, take-append-seam cs (c ∷ [])) w))
+
+  pub append-12 : (v : ℕ) → length X < 64 * P → sum (X ++ v ∷ []) ≤ 4294967295 → (call (Append v) S .answer ≡ refused 12) ↔ (C < need (X ++ v ∷ []) P)
+  append-12 v l t = twelve (Append v) (X ++ v ∷ []) (appends v (listAfter P C cs) (omega (arith, l, D .limits .0)) t)
+
+  pub set-12 : (i v : ℕ) → i < length X → sum (set X i v) ≤ 4294967295 → (call (Set i v) S .answer ≡ refused 12) ↔ (C < need (set X i v) P)
+  set-12 i v l t = twelve (Set i v) (set X i v) (sets i v (listAfter P C cs) l t)
+
+  -- 'never with eight cells a page'
+  pub eight-suffice : 8 * P ≤ C → (c : Call) → call c S .answer ≡ refused 12 → ⊥
+  eight-suffice e c q =
+      demand-3 .calls b P C h (cs ++ c ∷ []) .never-12 e (length cs) (last-answer cs c (freshCall b P C .bytes) ∙ q)
+
+  -- 'a refused call changes nothing'
+  pub refused-changes-nothing : (c : Call) (k : ℕ) → call c S .answer ≡ refused k → call c S .bytes ≡ S
+  refused-changes-nothing c k q =
+      sym (last-bytes cs c (freshCall b P C .bytes))
+      ∙ ap (storeAfter b P C) (sym (take-all (suc (length cs)) (cs ++ c ∷ []) (omega (arith, length-append cs (c ∷ [])))))
+      ∙ demand-3 .calls b P C h (cs ++ c ∷ []) .kept (length cs) k (last-answer cs c (freshCall b P C .bytes) ∙ q)
+      ∙ ap (storeAfter b P C) (take-append-seam cs (c ∷ []))
+
+-- ---- 'Input `n 1 2`, `a 122`, `f`, `s 0 123`, .. prints `ok`, `ok`, `1`, `ok`, ..'
+printed-fits : (b : List ℕ) → length b ≡ 86 → Fitting b 1 2
+printed-fits b l = record { pages-low = omega arith; pages-high = omega arith; cells-low = omega arith; cells-high = omega arith; long = omega (arith, l) }
+
+-- by the calls on the bytes of any buffer of 86
+pub session-on-bytes : (b : List ℕ) → length b ≡ 86
+    → storeAnswers session (freshCall b 1 2 .bytes)
+    ≡ changed 1 0
+    ∷ answered 1
+    ∷ changed 1 0
+    ∷ answered 0
+    ∷ changed 0 0
+    ∷ answered 128
+    ∷ answered 2
+    ∷ refused 8
+    ∷ refused 3
+    ∷ refused 12
+    ∷ []
+session-on-bytes b l = demand-3 .calls b 1 2 (printed-fits b l) session .answers ∙ session-answers
+
+-- and by the exports, in C's words
+pub session-in-words : (b s ws t : List ℕ) (w : ℕ) → length b ≡ 86 → Answers (Fresh b 1 2) w (s ∷ []) → Run session s ws t
+    → (w ≡ 0) × (ws ≡ 1 ∷ 1 ∷ 1 ∷ 0 ∷ 0 ∷ 128 ∷ 2 ∷ (2 ^ 64 - 8) ∷ (2 ^ 64 - 3) ∷ (2 ^ 64 - 12) ∷ [])
+unfolding wordsOf wordOf ofStore pair minus
+session-in-words b s ws t w l f r =
+    let D = demand-3 .exports b 1 2 (printed-fits b l) w s f session ws t r in
+    (D .ok, D .words ∙ ap wordsOf session-answers)
+
+-- ---- after any run of the exports: what is asked next is answered as the plain list does
+module _ (b : List ℕ) (P C : ℕ) (h : Fitting b P C) (w : ℕ) (s : List ℕ) (f : Answers (Fresh b P C) w (s ∷ []))
+    (cs : List Call) (ws t : List ℕ) (r : Run cs s ws t) where
+  abbrev E : HoldsInWords P C b cs w ws t
+  E = demand-3 .exports b P C h w s f cs ws t r
+
+  pub next-word : (c : Call) (v : ℕ) (u : List (List ℕ)) → Answers (Live c t) v u → v ≡ wordOf (ofStore (step c (listAfter P C cs) .answer))
+  next-word c v u a =
+      a .word
+      ∙ ap wordOf (a .ends .0)
+      ∙ ap (λ (z : Answer). wordOf (ofStore z)) (sym (sound-call c t (E .is-sound) .answer) ∙ ap (λ (L : Plain). step c L .answer) (E .list))
+
+  -- 'The reading at i is the sum of counts 0 to i-1'
+  pub next-reading : (i v : ℕ) (u : List (List ℕ)) → i ≤ length (listAfter P C cs .counts) → Answers (Live (Reading i) t) v u
+      → v ≡ sum (take i (listAfter P C cs .counts))
+  unfolding step pick wordOf ofStore
+  next-reading i v u l a = rw (le-ltb (length (listAfter P C cs .counts)) i l) at (next-word (Reading i) v u a)
+
+  pub run-as-long : length t ≡ 16 + 6 * P + 32 * C
+  run-as-long = ap length (E .bytes) ∙ demand-3 .calls b P C h cs .long
