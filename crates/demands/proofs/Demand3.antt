@@ -1,5 +1,5 @@
 -- Demand 3, proved: any list of calls on a fresh store, and any run of the exports. Assumes nothing.
-use mathlib.Core.Path.{_≡_, refl, sym, ap, _∙_}
+use mathlib.Core.Path.{_≡_, refl, sym, ap, _∙_, subst}
 use mathlib.Core.Logic.{_↔_}
 use mathlib.Core.Bool.{Bool, true, false}
 use mathlib.Core.List.{List, [], _∷_, _++_}
@@ -24,7 +24,7 @@ use Rattle.store.proofs.Whole.{answer-at, change-never, change-when, end-cells,
 use Rattle.hourlog_c.specs.Public.{Fresh, ofStore}
 use Rattle.hourlog_c.specs.Words.{wordOf}
 use Rattle.hourlog_c.specs.Export.{Answers}
-use Rattle.demands.specs.Demand3.{Demand3, HoldsAfter, HoldsInWords, Passes, Run, answerAt, appends, goes-on, listAfter, over, sets, storeAfter, wordsOf}
+use Rattle.demands.specs.Demand3.{Demand3, HoldsAfter, HoldsInWords, Passes, Run, StoreHolds, answerAt, appends, goes-on, listAfter, over, sets, storeAfter, wordsOf}
 
 -- ---- the same of calls
 pick-never : (b : Bool) (k : ℕ) (L : Plain) (o : Outcome) → (k ≡ 12 → ⊥) → (o .answer ≡ refused 12 → ⊥) → pick b (refuse k L) o .answer ≡ refused 12
@@ -98,9 +98,6 @@ module _ (b : List ℕ) (P C : ℕ) (h : Fitting b P C) (cs : List Call) where
       carry (w .2) (ap (λ (z : Plain). z .pages) (w .3) ∙ pages-kept) (ap (λ (z : Plain). z .cells) (w .3)
       ∙ cells-kept) (ap (λ (z : Plain). z .counts) (w .3)) (says (w .0) (w .1))
 
-  list-is : read (storeAfter b P C cs) .plain ≡ listAfter P C cs
-  list-is = let w = ended in ap (λ (z : List ℕ). read z .plain) (w .2) ∙ says (w .0) (w .1) .list ∙ w .3
-
   answer-is : (n : ℕ) → n < length cs → answerAt b P C cs n ≡ step (getD cs n Free) (listAfter P C (take n cs)) .answer
   answer-is n l = ap (λ (z : List Answer). getD z n (answered 0)) (ended .4) ∙ answer-at cs (plainFresh P C) n l
 
@@ -119,17 +116,14 @@ module _ (b : List ℕ) (P C : ℕ) (h : Fitting b P C) (cs : List Call) where
       (omega (arith, ap (λ (z : List Answer). length z) (ended .4), length-answers cs (plainFresh P C))) in
       let z : _≡_ {A = ℕ} 0 1 = cc in omega arith
 
-  holds : HoldsAfter b P C cs
-  holds =
+  store-holds : StoreHolds (storeAfter b P C cs) P C (listAfter P C cs .counts)
+  store-holds =
       let w = said in
       record {
-        accepted = ap (λ (z : Result). z .answer) started;
-        answers = ended .4;
         is-sound = w .is-sound;
         items = sound-items (storeAfter b P C cs) (w .is-sound);
         long = w .long;
-        list = list-is;
-        limits = (pages-kept, cells-kept);
+        list = w .list;
         page-sum = w .page-sum;
         page-cells = w .page-cells;
         page-ends = w .page-ends;
@@ -137,12 +131,19 @@ module _ (b : List ℕ) (P C : ℕ) (h : Fitting b P C) (cs : List Call) where
         free-ends = w .free-ends;
         once = w .once;
         need-fits = omega (arith, w .free-cells);
-        free = free-said (storeAfter b P C cs) (listAfter P C cs) P C (w .is-sound) list-is pages-kept cells-kept;
-        when-12 = λ n l ys a. when-said (answerAt b P C cs n) (getD cs n Free) (listAfter P C (take n cs)) P C ys (answer-is n l) (pages-then n)
-            (cells-then n) a;
-        never-12 = λ e n. never e n (decLe (suc n) (length cs));
-        kept = kept-at cs (freshCall b P C .bytes);
+        free = free-said (storeAfter b P C cs) (record { pages = P; cells = C; counts = listAfter P C cs .counts }) P C (w .is-sound) (w .list) refl refl;
       }
+
+  holds : HoldsAfter b P C cs
+  holds = record {
+    accepted = ap (λ (z : Result). z .answer) started;
+    answers = ended .4;
+    holds = store-holds;
+    when-12 = λ n l ys a. when-said (answerAt b P C cs n) (getD cs n Free) (listAfter P C (take n cs)) P C ys (answer-is n l) (pages-then n)
+        (cells-then n) a;
+    never-12 = λ e n. never (omega (arith, e)) n (decLe (suc n) (length cs));
+    kept = kept-at cs (freshCall b P C .bytes);
+  }
 
 -- ---- a run of the exports
 -- two slices of one are the same
@@ -164,7 +165,7 @@ run-end cs s ws t (over u) = refl
 run-end cs s ws t (goes-on c cs′ s′ u t′ w ws′ d r) = run-end cs′ u ws′ t r ∙ ap (storeEnd cs′) (same-slice (d .ends .1))
 
 module _ (b : List ℕ) (P C : ℕ) (h : Fitting b P C) (w : ℕ) (s : List ℕ) (f : Answers (Fresh b P C) w (s ∷ [])) where
-  in-words : (cs : List Call) (ws t : List ℕ) → Run cs s ws t → HoldsInWords P C b cs w ws t
+  in-words : (cs : List Call) (ws t : List ℕ) → Run cs s ws t → HoldsInWords P C cs w ws t
   unfolding ofStore wordOf
   in-words cs ws t r =
       let D = holds b P C h cs in
@@ -173,9 +174,7 @@ module _ (b : List ℕ) (P C : ℕ) (h : Fitting b P C) (w : ℕ) (s : List ℕ)
       record {
         ok = f .word ∙ ap wordOf (f .ends .0) ∙ ap (λ (a : Answer). wordOf (ofStore a)) (D .accepted);
         words = run-words cs s ws t r ∙ ap (λ (z : List ℕ). wordsOf (storeAnswers cs z)) e ∙ ap wordsOf (D .answers);
-        bytes = end;
-        is-sound = ap sound end ∙ D .is-sound;
-        list = ap (λ (z : List ℕ). read z .plain) end ∙ D .list;
+        holds = subst (λ (z : List ℕ). StoreHolds z P C (listAfter P C cs .counts)) (sym end) (D .holds);
       }
 
 pub demand-3 : Demand3

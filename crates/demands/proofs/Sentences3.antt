@@ -13,16 +13,17 @@ use Rattle.reserve.specs.Reserve.{ceil, reserve}
 use Rattle.store.specs.Call.{Fitting, call, freshCall, storeAnswers, storeEnd}
 use Rattle.store.specs.Layout.{cellAt}
 use Rattle.store.specs.PageCode.{cells}
-use Rattle.store.specs.Plain.{Answer, Append, Call, Free, Plain, Reading, Set, answered, changed, need, refused, step}
+use Rattle.store.specs.Plain.{Answer, Append, Call, Free, Plain, Reading, Set, answered, changed, need, plainFresh, refused, step}
 use Rattle.store.specs.Reading.{Runs, chainIn, codeIn, firstIn, read, readFor, spareIn, sumIn}
 use Rattle.store.proofs.CallLaws.{sound-call}
 use Rattle.store.proofs.Examples.{session, session-answers}
 use Rattle.store.proofs.FreshLaws.{cell-high, cell-in}
 use Rattle.store.proofs.SoundFacts.{facts}
+use Rattle.store.proofs.Whole.{end-pages}
 use Rattle.hourlog_c.specs.Public.{Fresh, Live, ofStore}
 use Rattle.hourlog_c.specs.Words.{minus, pair, wordOf}
 use Rattle.hourlog_c.specs.Export.{Answers}
-use Rattle.demands.specs.Demand3.{HoldsAfter, HoldsInWords, Passes, Run, appends, listAfter, sets, storeAfter, wordsOf}
+use Rattle.demands.specs.Demand3.{HoldsInWords, Passes, Run, StoreHolds, appends, listAfter, sets, storeAfter, wordsOf}
 use Rattle.demands.proofs.Demand3.{demand-3}
 
 -- ---- one more call behind a list of them
@@ -54,8 +55,8 @@ module _ (b : List ℕ) (P C : ℕ) (h : Fitting b P C) (cs : List Call) where
   abbrev X : List ℕ
   X = listAfter P C cs .counts
 
-  abbrev D : HoldsAfter b P C cs
-  D = demand-3 .calls b P C h cs
+  abbrev D : StoreHolds S P C X
+  D = demand-3 .calls b P C h cs .holds
 
   -- 'Length is 16 + 6P + 32C bytes exactly'
   pub as-long : length S ≡ 16 + 6 * P + 32 * C
@@ -65,8 +66,8 @@ module _ (b : List ℕ) (P C : ℕ) (h : Fitting b P C) (cs : List Call) where
   pub header-says : (numberAt S 2 2 ≡ P) × (numberAt S 4 2 ≡ C) × (numberAt S 12 4 ≡ length X)
   unfolding read readFor
   header-says = (
-    ap (λ (L : Plain). L .pages) (D .list) ∙ D .limits .0,
-    ap (λ (L : Plain). L .cells) (D .list) ∙ D .limits .1,
+    ap (λ (L : Plain). L .pages) (D .list),
+    ap (λ (L : Plain). L .cells) (D .list),
     facts S (D .is-sound) .hours-are ∙ ap (λ (L : Plain). length (L .counts)) (D .list),
   )
 
@@ -111,7 +112,7 @@ module _ (b : List ℕ) (P C : ℕ) (h : Fitting b P C) (cs : List Call) where
       (demand-3 .calls b P C h (cs ++ c ∷ []) .when-12 (length cs) (omega (arith, length-append cs (c ∷ []))) ys (rw (getD-append-seam cs c [] Free, take-append-seam cs (c ∷ [])) w))
 
   pub append-12 : (v : ℕ) → length X < 64 * P → sum (X ++ v ∷ []) ≤ 4294967295 → (call (Append v) S .answer ≡ refused 12) ↔ (C < need (X ++ v ∷ []) P)
-  append-12 v l t = twelve (Append v) (X ++ v ∷ []) (appends v (listAfter P C cs) (omega (arith, l, D .limits .0)) t)
+  append-12 v l t = twelve (Append v) (X ++ v ∷ []) (appends v (listAfter P C cs) (omega (arith, l, end-pages cs (plainFresh P C))) t)
 
   pub set-12 : (i v : ℕ) → i < length X → sum (set X i v) ≤ 4294967295 → (call (Set i v) S .answer ≡ refused 12) ↔ (C < need (set X i v) P)
   set-12 i v l t = twelve (Set i v) (set X i v) (sets i v (listAfter P C cs) l t)
@@ -160,14 +161,14 @@ session-in-words b s ws t w l f r =
 -- ---- after any run of the exports: what is asked next is answered as the plain list does
 module _ (b : List ℕ) (P C : ℕ) (h : Fitting b P C) (w : ℕ) (s : List ℕ) (f : Answers (Fresh b P C) w (s ∷ []))
     (cs : List Call) (ws t : List ℕ) (r : Run cs s ws t) where
-  abbrev E : HoldsInWords P C b cs w ws t
+  abbrev E : HoldsInWords P C cs w ws t
   E = demand-3 .exports b P C h w s f cs ws t r
 
-  pub next-word : (c : Call) (v : ℕ) (u : List (List ℕ)) → Answers (Live c t) v u → v ≡ wordOf (ofStore (step c (listAfter P C cs) .answer))
+  pub next-word : (c : Call) (v : ℕ) (u : List (List ℕ)) → Answers (Live c t) v u → v ≡ wordOf (ofStore (step c (record { pages = P; cells = C; counts = listAfter P C cs .counts }) .answer))
   next-word c v u a =
       a .word
       ∙ ap wordOf (a .ends .0)
-      ∙ ap (λ (z : Answer). wordOf (ofStore z)) (sym (sound-call c t (E .is-sound) .answer) ∙ ap (λ (L : Plain). step c L .answer) (E .list))
+      ∙ ap (λ (z : Answer). wordOf (ofStore z)) (sym (sound-call c t (E .holds .is-sound) .answer) ∙ ap (λ (L : Plain). step c L .answer) (E .holds .list))
 
   -- 'The reading at i is the sum of counts 0 to i-1'
   pub next-reading : (i v : ℕ) (u : List (List ℕ)) → i ≤ length (listAfter P C cs .counts) → Answers (Live (Reading i) t) v u
@@ -176,4 +177,4 @@ module _ (b : List ℕ) (P C : ℕ) (h : Fitting b P C) (w : ℕ) (s : List ℕ)
   next-reading i v u l a = rw (le-ltb (length (listAfter P C cs .counts)) i l) at (next-word (Reading i) v u a)
 
   pub run-as-long : length t ≡ 16 + 6 * P + 32 * C
-  run-as-long = ap length (E .bytes) ∙ demand-3 .calls b P C h cs .long
+  run-as-long = E .holds .long

@@ -35,29 +35,32 @@ pub data Passes : Call → Plain → List ℕ → Type 0 where
       → Passes (Append v) L (L .counts ++ v ∷ [])
   sets : (i v : ℕ) (L : Plain) → i < length (L .counts) → sum (set (L .counts) i v) ≤ 4294967295 → Passes (Set i v) L (set (L .counts) i v)
 
+-- the bytes s are a sound store of P pages and C cells, and hold the list xs
+pub record StoreHolds (s : List ℕ) (P C : ℕ) (xs : List ℕ) : Type 0 where
+  -- sound, by the test and clause by clause; as many bytes as are to be; and the list is what they say
+  pub is-sound : sound s ≡ true
+  pub items : Items s
+  pub long : length s ≡ size P C
+  pub list : read s .plain ≡ record { pages = P; cells = C; counts = xs }
+  -- each page's chain has the cells that the formula asks for, and ends; so has and does the free chain
+  pub page-sum : (p : ℕ) → p < P → sumIn s p ≡ sum (page xs p)
+  pub page-cells : (p : ℕ) → p < P → length (chainIn s P p) ≡ cells (sum (page xs p))
+  pub page-ends : (p : ℕ) → p < P → Runs s P (firstIn s p) (chainIn s P p)
+  pub free-cells : length (spareIn s P) ≡ C - need xs P
+  pub free-ends : Runs s P (numberAt s 6 2) (spareIn s P)
+  -- each cell, 1 to C, is on exactly one chain, and nothing else is on any
+  pub once : (c : ℕ) → occurrences c (concat (tabulate P (chainIn s P)) ++ spareIn s P) ≡ isCell C c
+  -- free cells are those that the formula leaves, and the figure that is answered is this
+  pub need-fits : need xs P ≤ C
+  pub free : call Free s .answer ≡ answered (C - need xs P)
+
 -- For P pages and C cells within the limits, any buffer b of the right length and any list of calls (`Demand3` below). As the list is any
 -- list, all of this holds after every call of it.
 pub record HoldsAfter (b : List ℕ) (P C : ℕ) (cs : List Call) : Type 0 where
   pub accepted : freshCall b P C .answer ≡ answered 0
-  -- each answer is the plain list's
+  -- each answer is the plain list's, and the store holds its state
   pub answers : storeAnswers cs (freshCall b P C .bytes) ≡ plainAnswers cs (plainFresh P C)
-  -- the bytes are sound, by the test and clause by clause, as many as before, and say the plain list
-  pub is-sound : sound (storeAfter b P C cs) ≡ true
-  pub items : Items (storeAfter b P C cs)
-  pub long : length (storeAfter b P C cs) ≡ size P C
-  pub list : read (storeAfter b P C cs) .plain ≡ listAfter P C cs
-  pub limits : (listAfter P C cs .pages ≡ P) × (listAfter P C cs .cells ≡ C)
-  -- in the bytes, each page's chain has the cells that the formula asks for, and ends; so has and does the free chain
-  pub page-sum : (p : ℕ) → p < P → sumIn (storeAfter b P C cs) p ≡ sum (page (listAfter P C cs .counts) p)
-  pub page-cells : (p : ℕ) → p < P → length (chainIn (storeAfter b P C cs) P p) ≡ cells (sum (page (listAfter P C cs .counts) p))
-  pub page-ends : (p : ℕ) → p < P → Runs (storeAfter b P C cs) P (firstIn (storeAfter b P C cs) p) (chainIn (storeAfter b P C cs) P p)
-  pub free-cells : length (spareIn (storeAfter b P C cs) P) ≡ C - need (listAfter P C cs .counts) P
-  pub free-ends : Runs (storeAfter b P C cs) P (numberAt (storeAfter b P C cs) 6 2) (spareIn (storeAfter b P C cs) P)
-  -- each cell, 1 to C, is on exactly one chain, and nothing else is on any
-  pub once : (c : ℕ) → occurrences c (concat (tabulate P (chainIn (storeAfter b P C cs) P)) ++ spareIn (storeAfter b P C cs) P) ≡ isCell C c
-  -- free cells are those that the formula leaves, and the figure that is answered is this
-  pub need-fits : need (listAfter P C cs .counts) P ≤ C
-  pub free : call Free (storeAfter b P C cs) .answer ≡ answered (C - need (listAfter P C cs .counts) P)
+  pub holds : StoreHolds (storeAfter b P C cs) P C (listAfter P C cs .counts)
   -- call n, an append or set that passes the earlier checks, is refused 12 exactly when the changed list needs more than C cells
   pub when-12 : (n : ℕ) → n < length cs → (ys : List ℕ) → Passes (getD cs n Free) (listAfter P C (take n cs)) ys
       → (answerAt b P C cs n ≡ refused 12) ↔ (C < need ys P)
@@ -77,17 +80,15 @@ unfoldable pub wordsOf : List Answer → List ℕ
 wordsOf [] = []
 wordsOf (a ∷ rest) = wordOf (ofStore a) ∷ wordsOf rest
 
--- the same claim in words: what C got, and what it holds at the end
-pub record HoldsInWords (P C : ℕ) (b : List ℕ) (cs : List Call) (w : ℕ) (ws t : List ℕ) : Type 0 where
+-- the same claim of such a run: the words are those of the plain list's answers, and the bytes at the end hold its state
+pub record HoldsInWords (P C : ℕ) (cs : List Call) (w : ℕ) (ws t : List ℕ) : Type 0 where
   pub ok : w ≡ 0
   pub words : ws ≡ wordsOf (plainAnswers cs (plainFresh P C))
-  pub bytes : t ≡ storeAfter b P C cs
-  pub is-sound : sound t ≡ true
-  pub list : read t .plain ≡ listAfter P C cs
+  pub holds : StoreHolds t P C (listAfter P C cs .counts)
 
 -- The whole claim: wherever refusal 9 does not stand ('P, C or buffer length wrong'), and for every list of calls; of the calls as they are
 -- defined, and of any run of the exports on what hourlog_fresh left
 pub record Demand3 : Type 0 where
   pub calls : (b : List ℕ) (P C : ℕ) → Fitting b P C → (cs : List Call) → HoldsAfter b P C cs
   pub exports : (b : List ℕ) (P C : ℕ) → Fitting b P C → (w : ℕ) (s : List ℕ) → Answers (Fresh b P C) w (s ∷ []) → (cs : List Call) (ws t : List ℕ)
-      → Run cs s ws t → HoldsInWords P C b cs w ws t
+      → Run cs s ws t → HoldsInWords P C cs w ws t
