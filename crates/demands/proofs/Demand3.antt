@@ -24,6 +24,7 @@ use Rattle.store.proofs.Whole.{answer-at, change-never, change-when, end-cells,
 use Rattle.hourlog_c.specs.Public.{Fresh, ofStore}
 use Rattle.hourlog_c.specs.Words.{wordOf}
 use Rattle.hourlog_c.specs.Export.{Answers}
+use Rattle.demands.proofs.Slices.{same-slice}
 use Rattle.demands.specs.Demand3.{Demand3, HoldsAfter, HoldsInWords, Passes, Run, StoreHolds, answerAt, appends, goes-on, listAfter, over, sets, storeAfter, wordsOf}
 
 -- ---- the same of calls
@@ -146,10 +147,6 @@ module _ (b : List ℕ) (P C : ℕ) (h : Fitting b P C) (cs : List Call) where
   }
 
 -- ---- a run of the exports
--- two slices of one are the same
-same-slice : {s t : List ℕ} → _≡_ {A = List (List ℕ)} (s ∷ []) (t ∷ []) → s ≡ t
-same-slice e = cc
-
 run-words : (cs : List Call) (s ws t : List ℕ) → Run cs s ws t → ws ≡ wordsOf (storeAnswers cs s)
 unfolding storeAnswers wordsOf
 run-words cs s ws t (over u) = refl

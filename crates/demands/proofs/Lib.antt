@@ -1,4 +1,5 @@
 -- The demands, proved, and what they say sentence by sentence.
+pub mod Slices
 pub mod Refusals
 pub mod Demand1
 pub mod Sentences1

@@ -4,11 +4,12 @@ use mathlib.Core.Path.{_≡_, refl, sym, ap, _∙_, subst}
 use mathlib.Core.Bool.{true}
 use mathlib.Core.List.{List, [], _∷_}
 use mathlib.Core.Logic.{_↔_, Iff·trans}
-use Prim.Native.Nat.{ℕ, _-_, _^_, _≤_, _<_}
+use Prim.Native.Nat.{ℕ, _-_, _*_, _^_, _≤_, _<_}
 use native.Mathlib.Omega.{arith}
 use Rattle.store.specs.Plain.{Answer, Append, Call, Count, Day, Free, Reach as ReachOf, Reading, Set, answered, changed, refused as turned}
 use Rattle.store.specs.Call.{call, freshCall}
 use Rattle.store.specs.Items.{Items}
+use Rattle.store.proofs.Refusals.{one-of-two}
 use Rattle.image.specs.Calls.{lengthCall, writeCall}
 use Rattle.image.specs.Check.{Verdict, check, fails, holds}
 use Rattle.image.specs.Query.{count, reading}
@@ -22,12 +23,7 @@ use Rattle.hourlog_c.specs.Export.{Answers}
 use Rattle.hourlog_c.proofs.RefusedTen.{image-refused, store-refused}
 use Rattle.demands.specs.Demand1.{Among, Gives, Given, Kind, aNumber, cellsMoved, hoursAndTotal, row}
 use Rattle.demands.proofs.Demand1.{demand-1}
-
-same-slice : {s t : List ℕ} → _≡_ {A = List (List ℕ)} (s ∷ []) (t ∷ []) → s ≡ t
-same-slice e = cc
-
-same-slices : {r s t : List ℕ} → _≡_ {A = List (List ℕ)} (r ∷ s ∷ []) (r ∷ t ∷ []) → s ≡ t
-same-slices e = cc
+use Rattle.demands.proofs.Slices.{same-second, same-slice}
 
 -- ---- 'Nothing a caller lends can keep a call from ending'
 pub ends : (c : PublicCall) → (a : End) × (t : List (List ℕ)) × Ends c a t
@@ -96,7 +92,7 @@ module _ (e k : ℕ) (xs out : List ℕ) where
   write-refused q =
       let t : List (List ℕ) = xs ∷ writeCall e xs out .bytes ∷ [] in
       let d : Ends (ImageWrite xs e out) (refusal k) t = (sym (image-refused (writeCall e xs out .reply) k .1 q), refl) in
-      (demand-1 .allowed (ImageWrite xs e out) (refusal k) t d, same-slices (demand-1 .refused-keeps (ImageWrite xs e out) k t d))
+      (demand-1 .allowed (ImageWrite xs e out) (refusal k) t d, same-second (demand-1 .refused-keeps (ImageWrite xs e out) k t d))
 
   -- freeze: 10, 1, 4; a store's list has neither 2 nor 3. Here xs is the store
   pub freeze-refused : freezeCall e xs out .reply ≡ refused k → Among k (10 ∷ 1 ∷ 4 ∷ []) × (freezeCall e xs out .bytes ≡ out)
@@ -104,7 +100,7 @@ module _ (e k : ℕ) (xs out : List ℕ) where
   freeze-refused q =
       let t : List (List ℕ) = xs ∷ freezeCall e xs out .bytes ∷ [] in
       let d : Ends (Freeze xs e out) (refusal k) t = (sym (image-refused (freezeCall e xs out .reply) k .1 q), refl) in
-      (demand-1 .allowed (Freeze xs e out) (refusal k) t d, same-slices (demand-1 .refused-keeps (Freeze xs e out) k t d))
+      (demand-1 .allowed (Freeze xs e out) (refusal k) t d, same-second (demand-1 .refused-keeps (Freeze xs e out) k t d))
 
 check-told : (v : Verdict) (k : ℕ) → v ≡ fails k → refusal k ≡ ofCheck v
 unfolding ofCheck
@@ -260,6 +256,10 @@ module _ (w : ℕ) (l : w < 2 ^ 63) (t : List (List ℕ)) where
       → (call (Set i v) s .answer ≡ changed (taken w) (returned w)) × (t ≡ call (Set i v) s .bytes ∷ [])
   unfolding row
   set-word i v s = live-cells (Set i v) s refl
+
+  -- 'the rise and the fall of the need .., so one of the two is 0'
+  pub one-is-zero : (c : Call) (s : List ℕ) → row (Live c s) .gives ≡ cellsMoved → Answers (Live c s) w t → taken w * returned w ≡ 0
+  one-is-zero c s g a = one-of-two c s (taken w) (returned w) (live-cells c s g a .0)
 
   -- a question returns the number asked for
   pub count-word : (i : ℕ) (s : List ℕ) → Answers (Live (Count i) s) w t → call (Count i) s .answer ≡ answered w

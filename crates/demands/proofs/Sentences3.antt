@@ -13,7 +13,7 @@ use Rattle.reserve.specs.Reserve.{ceil, reserve}
 use Rattle.store.specs.Call.{Fitting, call, freshCall, storeAnswers, storeEnd}
 use Rattle.store.specs.Layout.{cellAt}
 use Rattle.store.specs.PageCode.{cells}
-use Rattle.store.specs.Plain.{Answer, Append, Call, Free, Plain, Reading, Set, answered, changed, need, plainFresh, refused, step}
+use Rattle.store.specs.Plain.{Answer, Append, Call, Free, Plain, Reading, Set, answered, need, plainAnswers, plainFresh, refused, step}
 use Rattle.store.specs.Reading.{Runs, chainIn, codeIn, firstIn, read, readFor, spareIn, sumIn}
 use Rattle.store.proofs.CallLaws.{sound-call}
 use Rattle.store.proofs.Examples.{session, session-answers}
@@ -134,29 +134,23 @@ module _ (b : List ℕ) (P C : ℕ) (h : Fitting b P C) (cs : List Call) where
 printed-fits : (b : List ℕ) → length b ≡ 86 → Fitting b 1 2
 printed-fits b l = record { pages-low = omega arith; pages-high = omega arith; cells-low = omega arith; cells-high = omega arith; long = omega (arith, l) }
 
--- by the calls on the bytes of any buffer of 86
-pub session-on-bytes : (b : List ℕ) → length b ≡ 86
-    → storeAnswers session (freshCall b 1 2 .bytes)
-    ≡ changed 1 0
-    ∷ answered 1
-    ∷ changed 1 0
-    ∷ answered 0
-    ∷ changed 0 0
-    ∷ answered 128
-    ∷ answered 2
-    ∷ refused 8
-    ∷ refused 3
-    ∷ refused 12
-    ∷ []
-session-on-bytes b l = demand-3 .calls b 1 2 (printed-fits b l) session .answers ∙ session-answers
+-- in C's words: the cells taken, with 2^16 times those given back; numbers; and minus a refusal's
+abbrev printed : List ℕ
+printed = 1 ∷ 1 ∷ 1 ∷ 0 ∷ 0 ∷ 128 ∷ 2 ∷ (2 ^ 64 - 8) ∷ (2 ^ 64 - 3) ∷ (2 ^ 64 - 12) ∷ []
 
--- and by the exports, in C's words
-pub session-in-words : (b s ws t : List ℕ) (w : ℕ) → length b ≡ 86 → Answers (Fresh b 1 2) w (s ∷ []) → Run session s ws t
-    → (w ≡ 0) × (ws ≡ 1 ∷ 1 ∷ 1 ∷ 0 ∷ 0 ∷ 128 ∷ 2 ∷ (2 ^ 64 - 8) ∷ (2 ^ 64 - 3) ∷ (2 ^ 64 - 12) ∷ [])
+printed-words : wordsOf (plainAnswers session (plainFresh 1 2)) ≡ printed
 unfolding wordsOf wordOf ofStore pair minus
+printed-words = ap wordsOf session-answers
+
+-- the calls on any buffer of 86 bytes answer so
+pub session-on-bytes : (b : List ℕ) → length b ≡ 86 → wordsOf (storeAnswers session (freshCall b 1 2 .bytes)) ≡ printed
+session-on-bytes b l = ap wordsOf (demand-3 .calls b 1 2 (printed-fits b l) session .answers) ∙ printed-words
+
+-- and so do the exports, one after another
+pub session-in-words : (b s ws t : List ℕ) (w : ℕ) → length b ≡ 86 → Answers (Fresh b 1 2) w (s ∷ []) → Run session s ws t → (w ≡ 0) × (ws ≡ printed)
 session-in-words b s ws t w l f r =
-    let D = demand-3 .exports b 1 2 (printed-fits b l) w s f session ws t r in
-    (D .ok, D .words ∙ ap wordsOf session-answers)
+    let E = demand-3 .exports b 1 2 (printed-fits b l) w s f session ws t r in
+    (E .ok, E .words ∙ printed-words)
 
 -- ---- after any run of the exports: what is asked next is answered as the plain list does
 module _ (b : List ℕ) (P C : ℕ) (h : Fitting b P C) (w : ℕ) (s : List ℕ) (f : Answers (Fresh b P C) w (s ∷ []))
