@@ -4,6 +4,7 @@ use pages::code::code_of;
 use pages::counts::counts_at;
 use store::answer::Answer;
 use store::header::Header;
+use store::header::cells_from;
 use store::header::entry_at;
 use store::page_bytes::cells_of;
 use store::rewrite::rewrite;
@@ -25,11 +26,12 @@ fn change_hour(s: &mut [u8], i: usize, v: u32, hours: usize) -> Answer
     ensures { λ r. ⌜ Changes (now (s .entry)) i v (told r) (now (s .exit)) ⌝ }
 {
     let head = Header::of(s);
+    let base = cells_from(head.pages);
     let p = i / Header::HOURS;
     let j = i % Header::HOURS;
     let before = get4(s, entry_at(p));
     let old = cells_of(before);
-    let mut counts = counts_at(s, head.pages, p, before, old);
+    let mut counts = counts_at(s, base, p, before, old);
     let was = counts[j];
     let all = total(s, head.pages);
     if Header::MAX_TOTAL < all - was as u64 + v as u64 {
@@ -43,7 +45,7 @@ fn change_hour(s: &mut [u8], i: usize, v: u32, hours: usize) -> Answer
     }
     counts[j] = v;
     let code = code_of(counts, after);
-    rewrite(s, head.pages, p, old, new, &code, after, hours);
+    rewrite(s, base, p, old, new, &code, after, hours);
     Answer::Changed(
         lists::excess(new, old) as u64,
         lists::excess(old, new) as u64,

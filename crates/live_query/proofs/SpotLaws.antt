@@ -14,6 +14,7 @@ use Rattle.store.proofs.SoundFacts.{facts, sum-read}
 use Rattle.pages.proofs.Prefix.{before-all, before-fits, reading-next, reading-none}
 use Rattle.live_query.specs.Code.Search.{Spots}
 use Rattle.live_query.proofs.PageSums.{reached-page}
+use Rattle.store.specs.Layout.{entryAt}
 
 -- what holds before each turn: the pages before p do not reach the figure; all is page p's sum
 pub record Going (xs : List ℕ) (P q p before all : ℕ) : Type 0 where
@@ -29,10 +30,10 @@ module _ (s : List ℕ) (e : sound s ≡ true) where
   abbrev P : ℕ
   P = numberAt s 2 2
 
-  sum-at : (p a r : ℕ) → p < P → a ≡ 16 + 6 * p → r ≡ numberAt s a 4 → r ≡ sum (page xs p)
+  sum-at : (p a r : ℕ) → p < P → a ≡ entryAt p → r ≡ numberAt s a 4 → r ≡ sum (page xs p)
   sum-at p a r l ea er = sum-read s p a r ea er ∙ facts s e .sums p l
 
-  pub starts : (q a r : ℕ) → 1 ≤ q → a ≡ 16 + 6 * 0 → r ≡ numberAt s a 4 → Going xs P q 0 0 r
+  pub starts : (q a r : ℕ) → 1 ≤ q → a ≡ entryAt 0 → r ≡ numberAt s a 4 → Going xs P q 0 0 r
   starts q a r l ea er =
       let n : 0 < P = omega (arith, facts s e .pages-low) in
       record { inside = n; before-is = reading-none xs; below = l; all-is = sum-at 0 a r n ea er }
@@ -54,7 +55,7 @@ module _ (s : List ℕ) (e : sound s ≡ true) where
             absurd (omega (arith, ap (λ (z : ℕ). reading xs (64 * z)) i, before-all s e, next))
         go (no h) = omega arith
 
-    pub goes : (a r : ℕ) → before + all < q → a ≡ 16 + 6 * (p + 1) → r ≡ numberAt s a 4 → Going xs P q (p + 1) (before + all) r
+    pub goes : (a r : ℕ) → before + all < q → a ≡ entryAt (p + 1) → r ≡ numberAt s a 4 → Going xs P q (p + 1) (before + all) r
     goes a r l ea er = record { inside = more l; before-is = next; below = l; all-is = sum-at (p + 1) a r (more l) ea er }
 
     pub stops : q ≤ before + all → Spots xs P q p (q - before)

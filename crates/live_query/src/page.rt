@@ -17,7 +17,7 @@ pub(crate) fn walk_page(s: &[u8], p: usize, j: usize, acc: u64, keep: u64) -> u6
     ensures { λ r. ⌜ Walked (page (read (now (s .entry)) .plain .counts) p) j acc keep r ⌝ }
 {
     let e = entry_of(s, p);
-    let code = gather_at(s, e.pages, p, e.cells);
+    let code = gather_at(s, e.base, p, e.cells);
     tree_walk::walk(&code, 0, 6, e.sum, j as u64, acc, keep)
 }
 
@@ -28,6 +28,6 @@ pub(crate) fn search_page(s: &[u8], p: usize, q: u64, n: u64) -> u64
     ensures { λ r. ⌜ r ≡ n + reached q (page (read (now (s .entry)) .plain .counts) p) ⌝ }
 {
     let e = entry_of(s, p);
-    let code = gather_at(s, e.pages, p, e.cells);
+    let code = gather_at(s, e.base, p, e.cells);
     tree_walk::search(&code, 0, 6, e.sum, q, n)
 }

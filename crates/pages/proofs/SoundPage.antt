@@ -1,4 +1,4 @@
--- Page p of a sound store of P pages, which has sum t and k cells. Assumes nothing.
+-- Page p of a sound store whose cells start at base; it has sum t and k cells. Assumes nothing.
 use mathlib.Core.Path.{_≡_, refl, sym, ap, ap₂, _∙_}
 use mathlib.Core.List.{List, [], _++_}
 use Prim.Native.Nat.{ℕ, _+_, _-_, _*_, _≤_, _<_}
@@ -6,9 +6,10 @@ use native.Mathlib.Omega.{arith}
 use lib.ListN.{length, getD, replicate}
 use Rattle.lists.specs.Lists.{fill, splice, sum}
 use Rattle.lists.proofs.Zeros.{splice-zeros}
+use Rattle.bits.specs.Numbers.{numberAt}
 use Rattle.store.specs.PageCode.{cells, pageBytes}
 use Rattle.store.specs.Plain.{page}
-use Rattle.store.specs.Layout.{Model, entryAt}
+use Rattle.store.specs.Layout.{Model, cellsFrom, entryAt}
 use Rattle.store.specs.Reading.{chainIn, codeIn, read, sumIn}
 use Rattle.store.specs.Sound.{Good}
 use Rattle.store.specs.Links.{Steps}
@@ -21,7 +22,7 @@ use Rattle.store.proofs.Spread.{spread-of}
 use Rattle.store.proofs.SoundFacts.{Facts, facts}
 use Rattle.pages.specs.Gathered.{Gathered, codeFrom}
 
-module _ {s : List ℕ} {P p t k : ℕ} (o : OfPage s P p t k) where
+module _ {s : List ℕ} {base p t k : ℕ} (o : OfPage s base p t k) where
   abbrev m : Model
   m = read s
 
@@ -34,43 +35,46 @@ module _ {s : List ℕ} {P p t k : ℕ} (o : OfPage s P p t k) where
   abbrev g : Good m
   g = f .good
 
-  pages-same : P ≡ m .plain .pages
-  pages-same = o .pages-is ∙ f .pages-are
+  base-same : base ≡ cellsFrom (m .plain .pages)
+  base-same = o .base-is ∙ ap cellsFrom (f .pages-are)
 
   inside : p < m .plain .pages
-  inside = omega (arith, pages-same, o .inside)
+  inside = omega (arith, f .pages-are, o .inside)
 
   pub sum-same : t ≡ sum x
-  sum-same = o .sum-is ∙ f .sums p (omega (arith, o .pages-is, o .inside))
+  sum-same = o .sum-is ∙ f .sums p (o .inside)
 
   pub sum-small : t < 4294967296
-  sum-small = omega (arith, o .sum-is, f .sum-fits p (omega (arith, o .pages-is, o .inside)))
+  sum-small = omega (arith, o .sum-is, f .sum-fits p (o .inside))
 
   pub few : k ≤ 8
   few = omega (arith, o .cells-is, cells-most t (omega (arith, sum-small)))
 
-  pub pages-few : P ≤ 1024
-  pages-few = omega (arith, o .pages-is, f .pages-high)
+  pub pages-few : numberAt s 2 2 ≤ 1024
+  pages-few = f .pages-high
+
+  pub base-low : base < 65536
+  base-low = omega (arith, o .base-is, f .pages-high)
 
   -- its chain can be walked
-  pub page-steps : (a : ℕ) → a ≡ entryAt p → Steps s P (a + 4) k
+  pub page-steps : (a : ℕ) → a ≡ entryAt p → Steps s base (a + 4) k
   page-steps a q =
       let cs : List ℕ = getD (m .chains) p [] in
       let n : length cs ≡ k = g .lengths p inside ∙ ap cells (sym sum-same) ∙ sym (o .cells-is) in
       let size = f .holds .size in
-      rw (q, pages-same, ← n)
-      (walk-steps s (m .plain .pages) (m .plain .cells) (entryAt p + 4) cs 0 (g .cells-high) (omega arith) (omega (arith, inside))
+      rw (q, base-same, ← n)
+      (walk-steps s (cellsFrom (m .plain .pages)) (m .plain .cells) (entryAt p + 4) cs 0 (g .cells-high) (omega arith) (omega (arith, inside))
       (chain-left cs (m .spare) (page-and-spare m g p inside)) (spread-of s m (g .rows) (f .holds) .links p inside))
 
   -- and holds the code of its counts
-  code-same : codeIn s P (chainIn s P p) ≡ pageBytes x
-  code-same = rw pages-same (code-in s m g (f .holds) p inside)
+  code-same : codeIn s base (chainIn s (numberAt s 2 2) p) ≡ pageBytes x
+  code-same = rw (base-same, f .pages-are) (code-in s m g (f .holds) p inside)
 
-  chain-same : (a : ℕ) → a ≡ entryAt p → codeFrom s P (a + 4) k ≡ codeIn s P (chainIn s P p)
+  chain-same : (a : ℕ) → a ≡ entryAt p → codeFrom s base (a + 4) k ≡ codeIn s base (chainIn s (numberAt s 2 2) p)
   unfolding chainIn
-  chain-same a q = ap₂ (λ (i j : ℕ). codeFrom s P (i + 4) j) q (o .cells-is ∙ ap cells (o .sum-is))
+  chain-same a q = rw (o .base-is) (ap₂ (λ (i j : ℕ). codeFrom s (cellsFrom (numberAt s 2 2)) (i + 4) j) q (o .cells-is ∙ ap cells (o .sum-is)))
 
-  pub gathered : (a : ℕ) (r : List ℕ) → a ≡ entryAt p → r ≡ splice (replicate 240 0) 0 (codeFrom s P (a + 4) k) → Gathered s p r
+  pub gathered : (a : ℕ) (r : List ℕ) → a ≡ entryAt p → r ≡ splice (replicate 240 0) 0 (codeFrom s base (a + 4) k) → Gathered s p r
   unfolding fill
   gathered a r q h =
       let z : List ℕ = replicate (240 - 30 * cells (sumIn s p)) 0 in
@@ -80,15 +84,15 @@ module _ {s : List ℕ} {P p t k : ℕ} (o : OfPage s P p t k) where
       ∙ splice-zeros 240 (pageBytes x)
       ∙ ap (λ (i : ℕ). pageBytes x ++ replicate (240 - i) 0) n in
       record {
-        cells-are = b ∙ ap (λ (y : List ℕ). y ++ z) (sym code-same ∙ ap (λ (i : ℕ). codeIn s i (chainIn s i p)) (o .pages-is));
+        cells-are = b ∙ ap (λ (y : List ℕ). y ++ z) (sym code-same ∙ ap (λ (i : ℕ). codeIn s i (chainIn s (numberAt s 2 2) p)) (o .base-is));
         code-is = b;
       }
 
   -- the same with the sum that the entry says
-  pub as-said : OfPage s P p (sumIn s p) k
+  pub as-said : OfPage s base p (sumIn s p) k
   as-said = record {
     is-sound = o .is-sound;
-    pages-is = o .pages-is;
+    base-is = o .base-is;
     inside = o .inside;
     sum-is = refl;
     cells-is = o .cells-is ∙ ap cells (o .sum-is);

@@ -11,11 +11,11 @@ ghost use Rattle.store.specs.Sound.{sound};
 ghost use Rattle.store.specs.Hours.{OfPage};
 
 // The counts of page p of a sound store, of the sum and cells given.
-pub fn counts_at(s: &[u8], pages: usize, p: usize, sum: u64, k: usize) -> [u32; 64]
-    requires { ⌜ OfPage (now s) pages p sum k ⌝ }
+pub fn counts_at(s: &[u8], base: usize, p: usize, sum: u64, k: usize) -> [u32; 64]
+    requires { ⌜ OfPage (now s) base p sum k ⌝ }
     ensures { λ r. ⌜ r ≡ page (read (now (s .entry)) .plain .counts) p ⌝ }
 {
-    let code = gather_at(s, pages, p, k);
+    let code = gather_at(s, base, p, k);
     let mut counts = [0u32; 64];
     tree::decode::decode(&code, 0, 6, sum, &mut counts, 0);
     counts
@@ -27,5 +27,5 @@ pub fn page_counts(s: &[u8], p: usize) -> [u32; 64]
     ensures { λ r. ⌜ r ≡ page (read (now (s .entry)) .plain .counts) p ⌝ }
 {
     let e = entry_of(s, p);
-    counts_at(s, e.pages, p, e.sum, e.cells)
+    counts_at(s, e.base, p, e.sum, e.cells)
 }

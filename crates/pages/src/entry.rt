@@ -1,4 +1,5 @@
 // What a page's entry says.
+use store::header::cells_from;
 use store::header::entry_at;
 use store::links::link;
 use store::page_bytes::cells_of;
@@ -9,20 +10,20 @@ ghost use Rattle.bits.specs.Numbers.{numberAt};
 ghost use Rattle.store.specs.Sound.{sound};
 ghost use Rattle.store.specs.Hours.{OfPage};
 
-// The store's pages, a page's sum, and how many cells the page has: worked out once and handed down.
+// Where the store's cells start, a page's sum, and how many cells the page has: worked out once and handed down.
 pub struct Entry {
-    pub pages: usize,
+    pub base: usize,
     pub sum: u64,
     pub cells: usize,
 }
 
 pub fn entry_of(s: &[u8], p: usize) -> Entry
     requires { ⌜ (sound (now s) ≡ true) × (p < numberAt (now s) 2 2) ⌝ }
-    ensures { λ r. ⌜ OfPage (now (s .entry)) (r .pages) p (r .sum) (r .cells) ⌝ }
+    ensures { λ r. ⌜ OfPage (now (s .entry)) (r .base) p (r .sum) (r .cells) ⌝ }
 {
     let sum = bits::numbers::get4(s, entry_at(p));
     Entry {
-        pages: link(s, 2),
+        base: cells_from(link(s, 2)),
         sum,
         cells: cells_of(sum),
     }

@@ -14,25 +14,25 @@ ghost use Rattle.store.specs.Hours.{OfPage};
 ghost use Rattle.pages.specs.Gathered.{Gathered, codeFrom};
 
 // Copies the codes of the k cells from the link at address e on to the front of out, 30 bytes each.
-fn copy_chain(s: &[u8], pages: usize, e: usize, k: usize, out: &mut [u8])
-    requires { ⌜ (pages ≤ 1024) × (30 * k ≤ length (now out)) × Steps (now s) pages e k ⌝ }
-    ensures { λ _. ⌜ now (out .exit) ≡ splice (now (out .entry)) 0 (codeFrom (now (s .entry)) pages e k) ⌝ }
+fn copy_chain(s: &[u8], base: usize, e: usize, k: usize, out: &mut [u8])
+    requires { ⌜ (base < 65536) × (30 * k ≤ length (now out)) × Steps (now s) base e k ⌝ }
+    ensures { λ _. ⌜ now (out .exit) ≡ splice (now (out .entry)) 0 (codeFrom (now (s .entry)) base e k) ⌝ }
 {
     let mut at = e;
     let mut j = 0;
     while j < k {
-        at = cell_at(pages, link(s, at));
+        at = cell_at(base, link(s, at));
         put_block(out, Header::CODE * j, s, at + 2);
         j = j + 1;
     }
 }
 
 // The code of page p of a sound store, from its k cells, with zeros behind it to the bytes of eight cells.
-pub fn gather_at(s: &[u8], pages: usize, p: usize, k: usize) -> [u8; 240]
-    requires { ⌜ OfPage (now s) pages p (sumIn (now s) p) k ⌝ }
+pub fn gather_at(s: &[u8], base: usize, p: usize, k: usize) -> [u8; 240]
+    requires { ⌜ OfPage (now s) base p (sumIn (now s) p) k ⌝ }
     ensures { λ r. ⌜ Gathered (now (s .entry)) p r ⌝ }
 {
     let mut code = [0u8; 240];
-    copy_chain(s, pages, entry_at(p) + 4, k, &mut code);
+    copy_chain(s, base, entry_at(p) + 4, k, &mut code);
     code
 }

@@ -14,7 +14,7 @@ use Rattle.bits.specs.Bits.{bits}
 use Rattle.bits.specs.Numbers.{Number, numberAt}
 use Rattle.tree.proofs.Shape.{length-counts}
 use Rattle.store.specs.Heads.{Heads}
-use Rattle.store.specs.Layout.{cellAt, entryAt}
+use Rattle.store.specs.Layout.{cellAt, entryAt, cellsFrom}
 use Rattle.store.specs.PageCode.{cells, pageCounts}
 use Rattle.store.specs.Reading.{chainFrom, chainIn, codeIn, pageIn, sumIn}
 use Rattle.store.specs.declared.header.Header.{Header}
@@ -24,23 +24,23 @@ use Rattle.soundness.specs.Chains.{chainsFit, freeFits}
 use Rattle.soundness.proofs.CellTest.{cellTest}
 
 -- a page's tests are those of its gathered code
-tests-are : (s : List ℕ) (P N p : ℕ) → every (pageTests s P N p) ≡ pageFits (codeIn s P (chainIn s P p)) (sumIn s p) p N
+tests-are : (s : List ℕ) (P N p : ℕ) → every (pageTests s P N p) ≡ pageFits (codeIn s (cellsFrom P) (chainIn s P p)) (sumIn s p) p N
 unfolding pageTests pageFits pageIn pageCounts every
-tests-are s P N p = rw (eq-eqb _ 64 (length-counts 6 (sumIn s p) (bits (codeIn s P (chainIn s P p))) 0))
+tests-are s P N p = rw (eq-eqb _ 64 (length-counts 6 (sumIn s p) (bits (codeIn s (cellsFrom P) (chainIn s P p))) 0))
 
 -- ---- the answer, where the pages from p on are left, with the marks m
 unfoldable pub pagesOn : List ℕ → ℕ → ℕ → ℕ → ℕ → List ℕ → Bool
-pagesOn s P C N p m = ends-well (checkPages s P C N (P - p) p m) (freeFits s P C)
+pagesOn s P C N p m = ends-well (checkPages s P C N (P - p) p m) (freeFits s (cellsFrom P) C)
 
 -- and where n cells of page p from the link at a on are left too
 unfoldable pub cellsOn : List ℕ → ℕ → ℕ → ℕ → ℕ → ℕ → List ℕ → ℕ → Bool
 cellsOn s P C N p n m a =
     let after : List ℕ → _ = λ m′. go-on (every (pageTests s P N p)) (checkPages s P C N (P - (p + 1)) (suc p) m′) in
-    ends-well (and-then (walkMarks s P C n m a) after) (freeFits s P C)
+    ends-well (and-then (walkMarks s (cellsFrom P) C n m a) after) (freeFits s (cellsFrom P) C)
 
 -- ---- the code that is gathered so far: j cells of it, and n cells from the number c on are left
 abbrev pub SoFar : List ℕ → ℕ → ℕ → ℕ → ℕ → List ℕ → ℕ → Type 0
-SoFar s P p j n code c = codeIn s P (chainIn s P p) ≡ take (30 * j) code ++ codeIn s P (chainFrom s P n c)
+SoFar s P p j n code c = codeIn s (cellsFrom P) (chainIn s P p) ≡ take (30 * j) code ++ codeIn s (cellsFrom P) (chainFrom s (cellsFrom P) n c)
 
 pub pages-start : (s : List ℕ) (h : Header) → Heads s h → chainsFit s ≡ pagesOn s (h .pages) (h .cells) (h .hours) 0 (replicate 1801 0)
 unfolding chainsFit pagesOn
@@ -48,12 +48,12 @@ pages-start s h f =
     let P : ℕ = h .pages in
     let e : P ≡ P - 0 = omega arith in
     rw (sym (f .pages-is), sym (f .cells-is), sym (f .hours-is))
-    (ap (λ (k : ℕ). ends-well (checkPages s P (h .cells) (h .hours) k 0 (replicate 1801 0)) (freeFits s P (h .cells))) e)
+    (ap (λ (k : ℕ). ends-well (checkPages s P (h .cells) (h .hours) k 0 (replicate 1801 0)) (freeFits s (cellsFrom P) (h .cells))) e)
 
 module _ (s : List ℕ) (P C N p : ℕ) (m : List ℕ) where
-  pub pages-end : P ≤ p → pagesOn s P C N p m ≡ freeFits s P C m
+  pub pages-end : P ≤ p → pagesOn s P C N p m ≡ freeFits s (cellsFrom P) C m
   unfolding pagesOn checkPages ends-well
-  pages-end l = ap (λ (k : ℕ). ends-well (checkPages s P C N k p m) (freeFits s P C)) {x = P - p} {y = 0} (omega arith)
+  pages-end l = ap (λ (k : ℕ). ends-well (checkPages s P C N k p m) (freeFits s (cellsFrom P) C)) {x = P - p} {y = 0} (omega arith)
 
   -- page p's entry is at e, and its sum and cells are these
   module _ {e sum k : ℕ} (at : e ≡ entryAt p) (n : Number s e 4 sum) (q : k ≡ cells sum) where
@@ -64,12 +64,12 @@ module _ (s : List ℕ) (P C N p : ℕ) (m : List ℕ) where
     pub page-start : p < P → pagesOn s P C N p m ≡ cellsOn s P C N p (k - 0) m (e + 4)
     unfolding pagesOn cellsOn checkPages
     page-start l =
-        ap (λ (i : ℕ). ends-well (checkPages s P C N i p m) (freeFits s P C)) {x = P - p} {y = suc (P - (p + 1))} (omega arith)
+        ap (λ (i : ℕ). ends-well (checkPages s P C N i p m) (freeFits s (cellsFrom P) C)) {x = P - p} {y = suc (P - (p + 1))} (omega arith)
         ∙ ap₂ (λ (i b : ℕ). cellsOn s P C N p i m (b + 4)) cells-are (sym at)
 
     pub gather-start : (code : List ℕ) → SoFar s P p 0 (k - 0) code (numberAt s (e + 4) 2)
     unfolding chainIn
-    gather-start code = ap₂ (λ (i b : ℕ). codeIn s P (chainFrom s P i (numberAt s (b + 4) 2))) cells-are (sym at)
+    gather-start code = ap₂ (λ (i b : ℕ). codeIn s (cellsFrom P) (chainFrom s (cellsFrom P) i (numberAt s (b + 4) 2))) cells-are (sym at)
 
   -- j of k cells are passed, and the link at a names c
   module _ (k j : ℕ) {a c : ℕ} (n : Number s a 2 c) where
@@ -84,7 +84,7 @@ module _ (s : List ℕ) (P C N p : ℕ) (m : List ℕ) where
     cell-broken l e = sym (ap (λ (i : ℕ). cellsOn s P C N p i m a) (one l) ∙ rw (sym (n .is)) (rw e))
 
     -- c starts at r: it is marked, and its code joins the rest
-    module _ (l : j < k) {r : ℕ} (at : r ≡ cellAt P c) where
+    module _ (l : j < k) {r : ℕ} (at : r ≡ cellAt (cellsFrom P) c) where
       pub cell-next : cellTest C m c ≡ true → cellsOn s P C N p (k - j) m a ≡ cellsOn s P C N p (k - (j + 1)) (set m c 1) r
       unfolding cellsOn walkMarks go-on
       cell-next e = ap (λ (i : ℕ). cellsOn s P C N p i m a) (one l) ∙ rw (sym (n .is), at) (rw e)
@@ -98,8 +98,8 @@ module _ (s : List ℕ) (P C N p : ℕ) (m : List ℕ) where
           let lb : length b ≡ 30 = length-part s (r + 2) 30 (omega arith) in
           let lf : length front ≡ 30 * j = length-take-le (30 * j) code (omega arith) in
           let back : List ℕ = drop (30 * j + length b) code in
-          let rest : List ℕ = codeIn s P (chainFrom s P (k - (j + 1)) (numberAt s r 2)) in
-          let head : codeIn s P (chainFrom s P (k - j) (numberAt s a 2)) ≡ b ++ rest = rw (one l, sym (n .is), at) refl in
+          let rest : List ℕ = codeIn s (cellsFrom P) (chainFrom s (cellsFrom P) (k - (j + 1)) (numberAt s r 2)) in
+          let head : codeIn s (cellsFrom P) (chainFrom s (cellsFrom P) (k - j) (numberAt s a 2)) ≡ b ++ rest = rw (one l, sym (n .is), at) refl in
           let new : take (30 * (j + 1)) code′ ≡ front ++ b =
           ap (take (30 * (j + 1))) (e ∙ sets-splice b code (30 * j) (omega arith) ∙ sym (append-assoc front b back))
           ∙ take-at (front ++ b) back (30 * (j + 1)) (length-append front b ∙ omega arith) in
@@ -113,11 +113,11 @@ module _ (s : List ℕ) (P C N p : ℕ) (m : List ℕ) where
     -- it ends, and t says whether the code is right
     module _ (l : k ≤ j) (all : j ≤ k) (h : c ≡ 0) {e sum : ℕ} (at : e ≡ entryAt p) (i : Number s e 4 sum) (code : List ℕ)
         (g : SoFar s P p j (k - j) code (numberAt s a 2)) {t : Bool} (q : t ≡ pageFits (take (30 * k) code) sum p N) where
-      code-is : codeIn s P (chainIn s P p) ≡ take (30 * k) code
+      code-is : codeIn s (cellsFrom P) (chainIn s P p) ≡ take (30 * k) code
       unfolding chainFrom codeIn
       code-is =
           let w : j ≡ k = omega arith in
-          g ∙ ap₂ (λ (i n : ℕ). take (30 * i) code ++ codeIn s P (chainFrom s P n (numberAt s a 2))) w (none l) ∙ append-nil (take (30 * k) code)
+          g ∙ ap₂ (λ (i n : ℕ). take (30 * i) code ++ codeIn s (cellsFrom P) (chainFrom s (cellsFrom P) n (numberAt s a 2))) w (none l) ∙ append-nil (take (30 * k) code)
 
       fits : every (pageTests s P N p) ≡ t
       unfolding sumIn
@@ -135,4 +135,4 @@ module _ (s : List ℕ) (P C N p : ℕ) (m : List ℕ) where
       page-next b =
           ap (λ (i : ℕ). cellsOn s P C N p i m a) (none l)
           ∙ rw (eq-eqb (numberAt s a 2) 0 (sym (n .is) ∙ h))
-          (rw (fits ∙ not-false t b) (ap (λ (i : ℕ). ends-well (checkPages s P C N (P - (p + 1)) i m) (freeFits s P C)) (sym (add-one p))))
+          (rw (fits ∙ not-false t b) (ap (λ (i : ℕ). ends-well (checkPages s P C N (P - (p + 1)) i m) (freeFits s (cellsFrom P) C)) (sym (add-one p))))

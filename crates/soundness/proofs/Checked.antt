@@ -14,6 +14,7 @@ use Rattle.store.proofs.Verdict.{chainsWalk, checked, endTests, verdict}
 use Rattle.soundness.specs.Chains.{allMarked, chainsFit, freeFits, freeFrom}
 use Rattle.soundness.proofs.Counting.{number-all}
 use Rattle.soundness.proofs.HeadTest.{headed}
+use Rattle.store.specs.Layout.{cellsFrom}
 
 -- of three tests the second follows from the first
 three : (a b c : Bool) → (a ≡ true → b ≡ true) → every (a ∷ b ∷ c ∷ []) ≡ (a && c)
@@ -37,18 +38,18 @@ module _ (s : List ℕ) (lC : numberAt s 4 2 ≤ 1800) where
   pages = checkPages s (numberAt s 2 2) (numberAt s 4 2) (numberAt s 12 4) (numberAt s 2 2) 0 (replicate 1801 0)
 
   -- the tests at the end: that the chains have all cells needs none of its own
-  free-is : (m : List ℕ) (w : Walk) → pages ≡ whole m → walkMarks s P C F m 6 ≡ w
+  free-is : (m : List ℕ) (w : Walk) → pages ≡ whole m → walkMarks s (cellsFrom P) C F m 6 ≡ w
       → ends-well w (λ m′. every (endTests s m′))
-      ≡ (ends-well w (allMarked C) && same (codeIn s P (chainFrom s P F (numberAt s 6 2))) (replicate (30 * F) 0))
+      ≡ (ends-well w (allMarked C) && same (codeIn s (cellsFrom P) (chainFrom s (cellsFrom P) F (numberAt s 6 2))) (replicate (30 * F) 0))
   unfolding ends-well endTests allMarked
   free-is m broken h q = refl
   free-is m (whole m′) h q = three (allMarked C m′) _ _ (λ e. eq-eqb _ _ (number-all s P C (numberAt s 12 4) F m m′ lC h q e))
 
   chains-is : (w : Walk) → pages ≡ w
-      → ends-well (and-then w (λ m. walkMarks s P C F m 6)) (λ m. every (endTests s m)) ≡ ends-well w (freeFits s P C)
+      → ends-well (and-then w (λ m. walkMarks s (cellsFrom P) C F m 6)) (λ m. every (endTests s m)) ≡ ends-well w (freeFits s (cellsFrom P) C)
   unfolding ends-well and-then freeFits freeFrom
   chains-is broken h = refl
-  chains-is (whole m) h = free-is m (walkMarks s P C F m 6) h refl
+  chains-is (whole m) h = free-is m (walkMarks s (cellsFrom P) C F m 6) h refl
 
 -- the check's two parts
 pub check-is : (s : List ℕ) → ((i : ℕ) → getD s i 0 < 256) → (every (headTests s) && chainsFit s) ≡ sound s

@@ -15,7 +15,7 @@ use Rattle.lists.proofs.Tables.{tabulate-ext}
 use Rattle.lists.proofs.Tests.{left, right, same-is}
 use Rattle.lists.proofs.Zeros.{zeros-at}
 use Rattle.bits.specs.Numbers.{numberAt}
-use Rattle.store.specs.Layout.{cellAt}
+use Rattle.store.specs.Layout.{cellAt, cellsFrom, entryAt}
 use Rattle.store.specs.PageCode.{cells}
 use Rattle.store.specs.Reading.{sumIn}
 use Rattle.store.specs.Checked.{Walk, checkPages, go-on, pageTests, walkMarks, whole}
@@ -42,19 +42,19 @@ abbrev More : ℕ → List ℕ → List ℕ → ℕ → Type 0
 More C m m′ k = (marked C m′ ≡ marked C m + k) × (length m′ ≡ length m)
 
 module _ (s : List ℕ) (P C N : ℕ) where
-  walk-marks : (k : ℕ) (m m′ : List ℕ) (a : ℕ) → C < length m → walkMarks s P C k m a ≡ whole m′ → More C m m′ k
+  walk-marks : (k : ℕ) (m m′ : List ℕ) (a : ℕ) → C < length m → walkMarks s (cellsFrom P) C k m a ≡ whole m′ → More C m m′ k
   unfolding walkMarks
   walk-marks zero m m′ a l h =
       let e : m ≡ m′ = whole-is m m′ (goes-on (eqb (numberAt s a 2) 0) (whole m) m′ h .1) in
       (ap (marked C) (sym e) ∙ omega arith, ap length (sym e))
   walk-marks (suc k) m m′ a l h =
       let c : ℕ = numberAt s a 2 in
-      let w = goes-on (cellTest C m c) (walkMarks s P C k (set m c 1) (cellAt P c)) m′ h in
+      let w = goes-on (cellTest C m c) (walkMarks s (cellsFrom P) C k (set m c 1) (cellAt (cellsFrom P) c)) m′ h in
       let r = right (leb 1 c) (leb c C && eqb (getD m c 0) 0) (w .0) in
       let low : 1 ≤ c = leb-true 1 c (left (leb 1 c) (leb c C && eqb (getD m c 0) 0) (w .0)) in
       let high : c ≤ C = leb-true c C (left (leb c C) (eqb (getD m c 0) 0) r) in
       let none : getD m c 0 ≡ 0 = eqb-true (getD m c 0) 0 (right (leb c C) (eqb (getD m c 0) 0) r) in
-      let v = walk-marks k (set m c 1) m′ (cellAt P c) (omega (arith, length-set m c 1)) (w .1) in
+      let v = walk-marks k (set m c 1) m′ (cellAt (cellsFrom P) c) (omega (arith, length-set m c 1)) (w .1) in
       (omega (arith, v .0, mark-one C m c low high l none), v .1 ∙ length-set m c 1)
 
   pages-marks : (n p : ℕ) (m m′ : List ℕ) → C < length m → checkPages s P C N n p m ≡ whole m′
@@ -63,9 +63,9 @@ module _ (s : List ℕ) (P C N : ℕ) where
   pages-marks zero p m m′ l h = let e : m ≡ m′ = whole-is m m′ h in (ap (marked C) (sym e) ∙ omega arith, ap length (sym e))
   pages-marks (suc n) p m m′ l h =
       let f : List ℕ → Walk = λ m₁. go-on (every (pageTests s P N p)) (checkPages s P C N n (suc p) m₁) in
-      let w = goes-then (walkMarks s P C (cells (sumIn s p)) m (16 + 6 * p + 4)) f m′ h in
+      let w = goes-then (walkMarks s (cellsFrom P) C (cells (sumIn s p)) m (entryAt p + 4)) f m′ h in
       let g = goes-on (every (pageTests s P N p)) (checkPages s P C N n (suc p) (w .0)) m′ (w .2) in
-      let u = walk-marks (cells (sumIn s p)) m (w .0) (16 + 6 * p + 4) l (w .1) in
+      let u = walk-marks (cells (sumIn s p)) m (w .0) (entryAt p + 4) l (w .1) in
       let v = pages-marks n (suc p) (w .0) m′ (omega (arith, u .1)) (g .1) in
       let here : cells (sumIn s (p + 0)) ≡ cells (sumIn s p) = ap (λ (z : ℕ). cells (sumIn s z)) {x = p + 0} {y = p} (omega arith) in
       let next : tabulate n (λ j. cells (sumIn s (p + suc j))) ≡ tabulate n (λ j. cells (sumIn s (suc p + j))) =
@@ -81,7 +81,7 @@ sum-ones (suc n) = omega (arith, sum-ones n)
 
 -- where every cell is marked, the pages and the free chain, of f cells, have as many cells as there are
 pub number-all : (s : List ℕ) (P C N f : ℕ) (m m′ : List ℕ) → C ≤ 1800 → checkPages s P C N P 0 (replicate 1801 0) ≡ whole m
-    → walkMarks s P C f m 6 ≡ whole m′ → allMarked C m′ ≡ true → sum (tabulate P (λ p. cells (sumIn s p))) + f ≡ C
+    → walkMarks s (cellsFrom P) C f m 6 ≡ whole m′ → allMarked C m′ ≡ true → sum (tabulate P (λ p. cells (sumIn s p))) + f ≡ C
 unfolding allMarked
 number-all s P C N f m m′ l h w e =
     let z : C < length (replicate {A = ℕ} 1801 0) = omega (arith, length-replicate {A = ℕ} 1801 0) in

@@ -18,24 +18,24 @@ use Rattle.soundness.proofs.CellTest.{cellTest}
 
 -- n cells from the number c on are clear
 abbrev clears : List ℕ → ℕ → ℕ → ℕ → Bool
-clears s P n c = same (codeIn s P (chainFrom s P n c)) (replicate (30 * n) 0)
+clears s base n c = same (codeIn s base (chainFrom s base n c)) (replicate (30 * n) 0)
 
 -- the first of them, and the others
-clear-more : (s : List ℕ) (P n c : ℕ) → cellAt P c + 32 ≤ length s
-    → clears s P (suc n) c ≡ (same (part s (cellAt P c + 2) 30) (replicate 30 0) && clears s P n (numberAt s (cellAt P c) 2))
+clear-more : (s : List ℕ) (base n c : ℕ) → cellAt base c + 32 ≤ length s
+    → clears s base (suc n) c ≡ (same (part s (cellAt base c + 2) 30) (replicate 30 0) && clears s base n (numberAt s (cellAt base c) 2))
 unfolding chainFrom codeIn
-clear-more s P n c l =
+clear-more s base n c l =
     let e : 30 * suc n ≡ 30 + 30 * n = omega arith in
-    let rest : List ℕ = codeIn s P (chainFrom s P n (numberAt s (cellAt P c) 2)) in
-    ap (same (codeIn s P (chainFrom s P (suc n) c))) (ap (λ (z : ℕ). replicate z 0) e ∙ sym (replicate-append-replicate 30 (30 * n) 0))
-    ∙ same-join (part s (cellAt P c + 2) 30) rest (replicate 30 0) (replicate (30 * n) 0) (length-part s (cellAt P c + 2) 30 (omega arith))
+    let rest : List ℕ = codeIn s base (chainFrom s base n (numberAt s (cellAt base c) 2)) in
+    ap (same (codeIn s base (chainFrom s base (suc n) c))) (ap (λ (z : ℕ). replicate z 0) e ∙ sym (replicate-append-replicate 30 (30 * n) 0))
+    ∙ same-join (part s (cellAt base c + 2) 30) rest (replicate 30 0) (replicate (30 * n) 0) (length-part s (cellAt base c + 2) 30 (omega arith))
 
-pub free-start : (s : List ℕ) (P C : ℕ) (m : List ℕ) {f : ℕ} → Number s 8 2 f → freeFits s P C m ≡ freeFrom s P C (f - 0) m 6
+pub free-start : (s : List ℕ) (base C : ℕ) (m : List ℕ) {f : ℕ} → Number s 8 2 f → freeFits s base C m ≡ freeFrom s base C (f - 0) m 6
 unfolding freeFits
-free-start s P C m {f} k = let e : numberAt s 8 2 ≡ f - 0 = omega (arith, k .is) in ap (λ (n : ℕ). freeFrom s P C n m 6) e
+free-start s base C m {f} k = let e : numberAt s 8 2 ≡ f - 0 = omega (arith, k .is) in ap (λ (n : ℕ). freeFrom s base C n m 6) e
 
 -- j of f cells are passed, and the link at a names c
-module _ {s : List ℕ} (P C f j : ℕ) (m : List ℕ) {a c : ℕ} (k : Number s a 2 c) where
+module _ {s : List ℕ} (base C f j : ℕ) (m : List ℕ) {a c : ℕ} (k : Number s a 2 c) where
   abbrev n : ℕ
   n = f - (j + 1)
 
@@ -46,41 +46,41 @@ module _ {s : List ℕ} (P C f j : ℕ) (m : List ℕ) {a c : ℕ} (k : Number s
   none l = omega arith
 
   -- a cell that fails its test
-  pub free-broken : j < f → cellTest C m c ≡ false → false ≡ freeFrom s P C (f - j) m a
+  pub free-broken : j < f → cellTest C m c ≡ false → false ≡ freeFrom s base C (f - j) m a
   unfolding freeFrom walkMarks go-on ends-well
-  free-broken l e = sym (ap (λ (i : ℕ). freeFrom s P C i m a) (one l) ∙ rw (sym (k .is)) (rw e))
+  free-broken l e = sym (ap (λ (i : ℕ). freeFrom s base C i m a) (one l) ∙ rw (sym (k .is)) (rw e))
 
   -- the cell starts at r, and its block is clear or not
-  module _ (l : j < f) {r : ℕ} (at : r ≡ cellAt P c) (fits : r + 32 ≤ length s) {z : Bool}
+  module _ (l : j < f) {r : ℕ} (at : r ≡ cellAt base c) (fits : r + 32 ≤ length s) {z : Bool}
       (block : z ≡ same (part s (r + 2) 30) (replicate 30 0)) where
-    clear-is : clears s P (suc n) (numberAt s a 2) ≡ (z && clears s P n (numberAt s r 2))
+    clear-is : clears s base (suc n) (numberAt s a 2) ≡ (z && clears s base n (numberAt s r 2))
     clear-is =
-        ap (clears s P (suc n)) (sym (k .is)) ∙ clear-more s P n c (omega (arith, at))
-        ∙ ap (λ (i : ℕ). same (part s (i + 2) 30) (replicate 30 0) && clears s P n (numberAt s i 2)) (sym at)
-        ∙ ap (λ (y : Bool). y && clears s P n (numberAt s r 2)) (sym block)
+        ap (clears s base (suc n)) (sym (k .is)) ∙ clear-more s base n c (omega (arith, at))
+        ∙ ap (λ (i : ℕ). same (part s (i + 2) 30) (replicate 30 0) && clears s base n (numberAt s i 2)) (sym at)
+        ∙ ap (λ (y : Bool). y && clears s base n (numberAt s r 2)) (sym block)
 
-    pub free-set : not z ≡ true → false ≡ freeFrom s P C (f - j) m a
+    pub free-set : not z ≡ true → false ≡ freeFrom s base C (f - j) m a
     unfolding freeFrom
     free-set e =
-        let w : Bool = ends-well (walkMarks s P C (suc n) m a) (allMarked C) in
-        sym (ap (λ (i : ℕ). freeFrom s P C i m a) (one l)
-        ∙ ap (λ (y : Bool). w && y) (clear-is ∙ ap (λ (y : Bool). y && clears s P n (numberAt s r 2)) (not-true z e)) ∙ and-false w)
+        let w : Bool = ends-well (walkMarks s base C (suc n) m a) (allMarked C) in
+        sym (ap (λ (i : ℕ). freeFrom s base C i m a) (one l)
+        ∙ ap (λ (y : Bool). w && y) (clear-is ∙ ap (λ (y : Bool). y && clears s base n (numberAt s r 2)) (not-true z e)) ∙ and-false w)
 
     -- the cell is good: the rest decides
-    pub free-next : not z ≡ false → cellTest C m c ≡ true → freeFrom s P C (f - j) m a ≡ freeFrom s P C n (set m c 1) r
+    pub free-next : not z ≡ false → cellTest C m c ≡ true → freeFrom s base C (f - j) m a ≡ freeFrom s base C n (set m c 1) r
     unfolding freeFrom walkMarks go-on
     free-next e t =
-        let go : ends-well (walkMarks s P C (suc n) m a) (allMarked C) ≡ ends-well (walkMarks s P C n (set m c 1) r) (allMarked C) =
+        let go : ends-well (walkMarks s base C (suc n) m a) (allMarked C) ≡ ends-well (walkMarks s base C n (set m c 1) r) (allMarked C) =
         rw (sym (k .is), at) (rw t) in
-        ap (λ (i : ℕ). freeFrom s P C i m a) (one l)
-        ∙ ap₂ _&&_ go (clear-is ∙ ap (λ (y : Bool). y && clears s P n (numberAt s r 2)) (not-false z e))
+        ap (λ (i : ℕ). freeFrom s base C i m a) (one l)
+        ∙ ap₂ _&&_ go (clear-is ∙ ap (λ (y : Bool). y && clears s base n (numberAt s r 2)) (not-false z e))
 
   -- the chain does not end
-  pub free-open : f ≤ j → (c ≡ 0 → ⊥) → false ≡ freeFrom s P C (f - j) m a
+  pub free-open : f ≤ j → (c ≡ 0 → ⊥) → false ≡ freeFrom s base C (f - j) m a
   unfolding freeFrom walkMarks go-on ends-well
-  free-open l h = sym (ap (λ (i : ℕ). freeFrom s P C i m a) (none l) ∙ rw (sym (k .is)) (rw (ne-eqb c 0 h)))
+  free-open l h = sym (ap (λ (i : ℕ). freeFrom s base C i m a) (none l) ∙ rw (sym (k .is)) (rw (ne-eqb c 0 h)))
 
   -- it ends: every cell is to be marked
-  pub free-ends : f ≤ j → c ≡ 0 → freeFrom s P C (f - j) m a ≡ allMarked C m
+  pub free-ends : f ≤ j → c ≡ 0 → freeFrom s base C (f - j) m a ≡ allMarked C m
   unfolding freeFrom walkMarks go-on ends-well chainFrom codeIn same
-  free-ends l h = ap (λ (i : ℕ). freeFrom s P C i m a) (none l) ∙ rw (eq-eqb (numberAt s a 2) 0 (sym (k .is) ∙ h)) (and-true (allMarked C m))
+  free-ends l h = ap (λ (i : ℕ). freeFrom s base C i m a) (none l) ∙ rw (eq-eqb (numberAt s a 2) 0 (sym (k .is) ∙ h)) (and-true (allMarked C m))

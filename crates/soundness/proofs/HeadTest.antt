@@ -15,6 +15,7 @@ use Rattle.store.specs.Heads.{Heads}
 use Rattle.store.specs.Reading.{sumIn}
 use Rattle.store.specs.declared.header.Header.{Header}
 use Rattle.store.specs.Checked.{headTests}
+use Rattle.store.specs.Layout.{size}
 
 -- test k of the header fails
 pub head-fails : (s : List ℕ) (k : ℕ) → getD (headTests s) k true ≡ false → false ≡ every (headTests s)
@@ -45,7 +46,7 @@ pub record Headed (s : List ℕ) : Type 0 where
   pub pages-high : numberAt s 2 2 ≤ 1024
   pub cells-low : 1 ≤ numberAt s 4 2
   pub cells-high : numberAt s 4 2 ≤ 1800
-  pub size : length s ≡ 16 + 6 * numberAt s 2 2 + 32 * numberAt s 4 2
+  pub size : length s ≡ size (numberAt s 2 2) (numberAt s 4 2)
   pub hours : numberAt s 12 4 ≤ 64 * numberAt s 2 2
 
 -- they leave the last: the total
@@ -62,7 +63,7 @@ head-last s h =
     ∷ leb P 1024
     ∷ leb 1 C
     ∷ leb C 1800
-    ∷ eqb (length s) (16 + 6 * P + 32 * C)
+    ∷ eqb (length s) (size P C)
     ∷ leb (numberAt s 12 4) (64 * P)
     ∷ []) (leb (sum (tabulate P (sumIn s))) 4294967295)
     (every-of _ (
@@ -100,7 +101,7 @@ headed s e =
       pages-high = leb-true (numberAt s 2 2) 1024 (tests .1 .0);
       cells-low = leb-true 1 (numberAt s 4 2) (tests .1 .1 .0);
       cells-high = leb-true (numberAt s 4 2) 1800 (tests .1 .1 .1 .0);
-      size = eqb-true (length s) (16 + 6 * numberAt s 2 2 + 32 * numberAt s 4 2) (tests .1 .1 .1 .1 .0);
+      size = eqb-true (length s) (size (numberAt s 2 2) (numberAt s 4 2)) (tests .1 .1 .1 .1 .0);
       hours = leb-true (numberAt s 12 4) (64 * numberAt s 2 2) (tests .1 .1 .1 .1 .1 .0);
     }
 
@@ -108,7 +109,7 @@ headed s e =
 pub record Bounds (s : List ℕ) (h : Header) : Type 0 where
   pub pages-high : h .pages ≤ 1024
   pub cells-high : h .cells ≤ 1800
-  pub size : length s ≡ 16 + 6 * h .pages + 32 * h .cells
+  pub size : length s ≡ size (h .pages) (h .cells)
 
 pub bounds : (s : List ℕ) (h : Header) → every (headTests s) ≡ true → Heads s h → Bounds s h
 bounds s h e f =

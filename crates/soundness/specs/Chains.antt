@@ -5,6 +5,7 @@ use Prim.Native.Nat.{ℕ, suc, _*_}
 use lib.ListN.{getD, replicate}
 use Rattle.lists.specs.Lists.{same, tabulate}
 use Rattle.bits.specs.Numbers.{numberAt}
+use Rattle.store.specs.Layout.{cellsFrom}
 use Rattle.store.specs.Reading.{chainFrom, codeIn}
 use Rattle.store.specs.Checked.{checkPages, ends-well, walkMarks}
 
@@ -14,15 +15,15 @@ allMarked C m = same (tabulate C (λ j. getD m (suc j) 0)) (replicate C 1)
 
 -- n cells of the free chain from the link at a on, walked with the marks m: then every cell is marked; and the n cells are clear
 unfoldable pub freeFrom : List ℕ → ℕ → ℕ → ℕ → List ℕ → ℕ → Bool
-freeFrom s P C n m a = ends-well (walkMarks s P C n m a) (allMarked C) && same (codeIn s P (chainFrom s P n (numberAt s a 2))) (replicate (30 * n) 0)
+freeFrom s base C n m a = ends-well (walkMarks s base C n m a) (allMarked C) && same (codeIn s base (chainFrom s base n (numberAt s a 2))) (replicate (30 * n) 0)
 
 -- the whole free chain, with the marks m of the pages' chains
 unfoldable pub freeFits : List ℕ → ℕ → ℕ → List ℕ → Bool
-freeFits s P C m = freeFrom s P C (numberAt s 8 2) m 6
+freeFits s base C m = freeFrom s base C (numberAt s 8 2) m 6
 
 -- the pages' chains, walked with no marks at first, and then the free chain
 unfoldable pub chainsFit : List ℕ → Bool
 chainsFit s =
     let P = numberAt s 2 2 in
     let C = numberAt s 4 2 in
-    ends-well (checkPages s P C (numberAt s 12 4) P 0 (replicate 1801 0)) (freeFits s P C)
+    ends-well (checkPages s P C (numberAt s 12 4) P 0 (replicate 1801 0)) (freeFits s (cellsFrom P) C)

@@ -5,6 +5,7 @@ use bits::numbers::get4;
 use store::fill::put_block;
 use store::header::Header;
 use store::header::cell_at;
+use store::header::cells_from;
 use store::header::entry_at;
 use store::links::link;
 use store::page_bytes::cells_of;
@@ -35,6 +36,7 @@ pub(crate) fn chains_fit(s: &[u8]) -> bool
     let pages = h.pages;
     let cells = h.cells;
     let hours = h.hours;
+    let base = cells_from(pages);
     let mut marks = [0u8; 1801];
     let mut code = [0u8; 240];
     let mut ok = true;
@@ -52,7 +54,7 @@ pub(crate) fn chains_fit(s: &[u8]) -> bool
                 break 'pages;
             }
             marks[c] = 1;
-            at = cell_at(pages, c);
+            at = cell_at(base, c);
             put_block(&mut code, Header::CODE * j, s, at + 2);
             j = j + 1;
         }
@@ -62,5 +64,5 @@ pub(crate) fn chains_fit(s: &[u8]) -> bool
         }
         p = p + 1;
     }
-    ok && free_fits(s, pages, cells, marks)
+    ok && free_fits(s, base, cells, marks)
 }

@@ -6,7 +6,7 @@ use store::header::Header;
 use store::header::cell_at;
 use store::links::link;
 ghost use mathlib.Core.Path.{_≡_};
-ghost use Prim.Native.Nat.{_+_, _*_, _≤_};
+ghost use Prim.Native.Nat.{_+_, _*_, _≤_, _<_};
 ghost use lib.ListN.{length, replicate};
 ghost use Rattle.lists.specs.Lists.{part, same};
 ghost use Rattle.soundness.specs.Chains.{allMarked, freeFits};
@@ -42,9 +42,9 @@ fn all_marked(marks: &[u8], cells: usize) -> bool
 
 // Walks the free chain with the marks that the pages left: whether it has as many cells as the header says, clear and none met before, and
 // whether every cell is then marked.
-pub(crate) fn free_fits(s: &[u8], pages: usize, cells: usize, met: [u8; 1801]) -> bool
-    requires { ⌜ (length (now s) ≡ 16 + 6 * pages + 32 * cells) × (pages ≤ 1024) × (cells ≤ 1800) × (length met ≡ 1801) ⌝ }
-    ensures { λ r. ⌜ r ≡ freeFits (now (s .entry)) pages cells met ⌝ }
+pub(crate) fn free_fits(s: &[u8], base: usize, cells: usize, met: [u8; 1801]) -> bool
+    requires { ⌜ (length (now s) ≡ base + 32 * cells) × (16 ≤ base) × (base < 65536) × (cells ≤ 1800) × (length met ≡ 1801) ⌝ }
+    ensures { λ r. ⌜ r ≡ freeFits (now (s .entry)) base cells met ⌝ }
 {
     let mut marks = met;
     let free = link(s, 8);
@@ -59,7 +59,7 @@ pub(crate) fn free_fits(s: &[u8], pages: usize, cells: usize, met: [u8; 1801]) -
             return false;
         }
         marks[c] = 1;
-        at = cell_at(pages, c);
+        at = cell_at(base, c);
         if !zero_block(s, at + 2) {
             return false;
         }

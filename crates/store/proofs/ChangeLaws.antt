@@ -10,7 +10,7 @@ use Rattle.lists.specs.Lists.{pick, sum}
 use Rattle.bits.specs.Numbers.{numberAt}
 use Rattle.store.specs.PageCode.{cells, pageBytes}
 use Rattle.store.specs.Plain.{Outcome, Plain, change, changed, need, page, refused}
-use Rattle.store.specs.Layout.{Model, bytesOf, entryAt}
+use Rattle.store.specs.Layout.{Model, bytesOf, entryAt, cellsFrom}
 use Rattle.store.specs.Reading.{read, sumIn}
 use Rattle.store.specs.Call.{apply}
 use Rattle.store.specs.Links.{Ready, rewritten}
@@ -63,13 +63,13 @@ pub has : (s : List ℕ) (i : ℕ) {e : ℕ} {counts : List ℕ} {before old tot
 has s i a e b c d = record { counts-are = a; before-is = sum-read s (i / 64) _ _ e b; old-is = c; total-is = d }
 
 -- the page of an hour that is asked for
-pub of-page : {s : List ℕ} {i e before old : ℕ} {H : Header} → Asked s i → Heads s H → e ≡ entryAt (i / 64) → before ≡ numberAt s e 4
+pub of-page : {s : List ℕ} {i base e before old : ℕ} {H : Header} → Asked s i → Heads s H → base ≡ cellsFrom (H .pages) → e ≡ entryAt (i / 64) → before ≡ numberAt s e 4
     → old ≡ cells before
-    → OfPage s (H .pages) (i / 64) before old
-of-page {s} {i} q hd e b c = record {
+    → OfPage s base (i / 64) before old
+of-page {s} {i} q hd eb e b c = record {
   is-sound = q .is-sound;
-  pages-is = hd .pages-is;
-  inside = omega (arith, q .inside, hd .pages-is);
+  base-is = eb ∙ ap cellsFrom (hd .pages-is);
+  inside = omega (arith, q .inside);
   sum-is = sum-read s (i / 64) _ _ e b;
   cells-is = c;
 }
@@ -207,23 +207,23 @@ module _ {s : List ℕ} {i : ℕ} (v : ℕ) (q : Asked s i) {H : Header} (hd : H
     small = omega (arith, total-new)
 
     -- what the rewriting of the page asks for
-    pub ready-now : Ready s (H .pages) p old n code after hours
-    ready-now = rw (code-as, pages-as, hours-as, chain-as, cells-as, ← after-eq) (ready m (f .good) s sp ys i (w .off) inside fits small enough)
+    pub ready-now : {base : ℕ} → base ≡ cellsFrom (H .pages) → Ready s base p old n code after hours
+    ready-now eb = rw (eb, code-as, pages-as, hours-as, chain-as, cells-as, ← after-eq) (ready m (f .good) s sp ys i (w .off) inside fits small enough)
 
-    same-bytes : rewritten s (H .pages) p old n code after hours
-        ≡ rewritten s (m .plain .pages) p (length (getD (m .chains) p [])) (cells (sum (page ys p)))
+    same-bytes : {base : ℕ} → base ≡ cellsFrom (H .pages) → rewritten s base p old n code after hours
+        ≡ rewritten s (cellsFrom (m .plain .pages)) p (length (getD (m .chains) p [])) (cells (sum (page ys p)))
         (pageBytes (page ys p) ++ replicate (240 - 30 * cells (sum (page ys p))) 0) (sum (page ys p)) (length ys)
-    same-bytes = rw (code-as, pages-as, hours-as, chain-as, cells-as, ← after-eq)
+    same-bytes eb = rw (eb, code-as, pages-as, hours-as, chain-as, cells-as, ← after-eq)
 
     -- and what it leaves
-    pub end-done : {t : List ℕ} {rise fall : ℕ} → t ≡ rewritten s (H .pages) p old n code after hours → rise ≡ n - old → fall ≡ old - n
+    pub end-done : {t : List ℕ} {base rise fall : ℕ} → base ≡ cellsFrom (H .pages) → t ≡ rewritten s base p old n code after hours → rise ≡ n - old → fall ≡ old - n
         → Changes s i v (changed rise fall) t
     unfolding apply changeTo
-    end-done e a b =
+    end-done eb e a b =
         let d = change-done (m .plain) ys small enough in
         record {
           answer = sym (ap (λ (o : Outcome). o .answer) d ∙ ap₂ changed (omega (arith, needs)) (omega (arith, needs)));
           bytes =
-              e ∙ same-bytes ∙ rewritten-bytes m (f .good) s sp ys i (w .off) inside fits small enough
+              e ∙ same-bytes eb ∙ rewritten-bytes m (f .good) s sp ys i (w .off) inside fits small enough
               ∙ sym (ap (λ (o : Outcome). bytesOf (apply m p o (o .answer))) d);
         }

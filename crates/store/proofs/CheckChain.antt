@@ -41,16 +41,16 @@ goes-on false w m e = absurd (let z : _≡_ {A = ℕ} 0 1 = cc in omega arith)
 pub whole-is : (m m′ : List ℕ) → whole m ≡ whole m′ → m ≡ m′
 whole-is m m′ e = cc
 
-pub record Walked (s : List ℕ) (P C : ℕ) (cs m m′ : List ℕ) (k a : ℕ) : Type 0 where
+pub record Walked (s : List ℕ) (base C : ℕ) (cs m m′ : List ℕ) (k a : ℕ) : Type 0 where
   pub long : length cs ≡ k
   pub chain : Chain C cs
-  pub linked : Linked s P a cs 0
+  pub linked : Linked s base a cs 0
   pub unmarked : Unmarked m cs
   pub marked : m′ ≡ markAll m cs
 
 -- ---- a good chain is walked to its end
-module _ (s : List ℕ) (P C : ℕ) (lC : C ≤ 1800) where
-  pub walk-through : (cs m : List ℕ) (a : ℕ) → Chain C cs → Linked s P a cs 0 → Unmarked m cs → walkMarks s P C (length cs) m a ≡ whole (markAll m cs)
+module _ (s : List ℕ) (base C : ℕ) (lC : C ≤ 1800) where
+  pub walk-through : (cs m : List ℕ) (a : ℕ) → Chain C cs → Linked s base a cs 0 → Unmarked m cs → walkMarks s base C (length cs) m a ≡ whole (markAll m cs)
   unfolding walkMarks markAll go-on occurrences
   walk-through [] m a j h u = rw (eq-eqb (numberAt s a 2) 0 (ap number h ∙ number-two 0 (omega arith)))
   walk-through (c ∷ cs) m a j h u =
@@ -60,12 +60,12 @@ module _ (s : List ℕ) (P C : ℕ) (lC : C ≤ 1800) where
       (both (le-leb 1 (numberAt s a 2) (omega (arith, e, w .0)))
       (both (le-leb (numberAt s a 2) C (omega (arith, e, w .1))) (eq-eqb (getD m (numberAt s a 2) 0) 0 (ap (λ (z : ℕ). getD m z 0) e
       ∙ u c (omega (arith, one-same c))))))
-      (ap (λ (z : ℕ). walkMarks s P C (length cs) (set m z 1) (cellAt P z)) e
-      ∙ walk-through cs (set m c 1) (cellAt P c) (chain-tail j) (h .1) (λ d q. getD-set-other m c d 1 0 (chain-new C c cs j d q) ∙ u d (omega arith)))
+      (ap (λ (z : ℕ). walkMarks s base C (length cs) (set m z 1) (cellAt base z)) e
+      ∙ walk-through cs (set m c 1) (cellAt base c) (chain-tail j) (h .1) (λ d q. getD-set-other m c d 1 0 (chain-new C c cs j d q) ∙ u d (omega arith)))
 
   -- ---- and what is walked to its end is a good chain
 
-  module _ (bytes : (i : ℕ) → getD s i 0 < 256) (size : 16 + 6 * P + 32 * C ≤ length s) where
+  module _ (bytes : (i : ℕ) → getD s i 0 < 256) (size : base + 32 * C ≤ length s) where
     -- one cell more in front
     more : (c : ℕ) (m cs : List ℕ) → 1 ≤ c → c ≤ C → c < length m → Chain C cs → Unmarked (set m c 1) cs → Chain C (c ∷ cs)
     unfolding occurrences
@@ -93,8 +93,8 @@ module _ (s : List ℕ) (P C : ℕ) (lC : C ≤ 1800) where
     still c m cs z u d q (yes e) = ap (λ (y : ℕ). getD m y 0) e ∙ z
     still c m cs z u d q (no e) = sym (getD-set-other m c d 1 0 e) ∙ u d (omega (arith, one-other d c e))
 
-    pub walked : (k : ℕ) (m m′ : List ℕ) (a : ℕ) → C < length m → a + 2 ≤ length s → walkMarks s P C k m a ≡ whole m′
-        → Walked s P C (chainFrom s P k (numberAt s a 2)) m m′ k a
+    pub walked : (k : ℕ) (m m′ : List ℕ) (a : ℕ) → C < length m → a + 2 ≤ length s → walkMarks s base C k m a ≡ whole m′
+        → Walked s base C (chainFrom s base k (numberAt s a 2)) m m′ k a
     unfolding walkMarks chainFrom markAll occurrences
     walked zero m m′ a lm l h =
         let w = goes-on (eqb (numberAt s a 2) 0) (whole m) m′ h in
@@ -107,17 +107,17 @@ module _ (s : List ℕ) (P C : ℕ) (lC : C ≤ 1800) where
         }
     walked (suc k) m m′ a lm l h =
         let c : ℕ = numberAt s a 2 in
-        let w = goes-on (leb 1 c && (leb c C && eqb (getD m c 0) 0)) (walkMarks s P C k (set m c 1) (cellAt P c)) m′ h in
+        let w = goes-on (leb 1 c && (leb c C && eqb (getD m c 0) 0)) (walkMarks s base C k (set m c 1) (cellAt base c)) m′ h in
         let t₁ : 1 ≤ c = leb-true 1 c (left (leb 1 c) (leb c C && eqb (getD m c 0) 0) (w .0)) in
         let r = right (leb 1 c) (leb c C && eqb (getD m c 0) 0) (w .0) in
         let t₂ : c ≤ C = leb-true c C (left (leb c C) (eqb (getD m c 0) 0) r) in
         let t₃ : getD m c 0 ≡ 0 = eqb-true (getD m c 0) 0 (right (leb c C) (eqb (getD m c 0) 0) r) in
-        let v = walked k (set m c 1) m′ (cellAt P c) (omega (arith, length-set m c 1)) (omega arith) (w .1) in
+        let v = walked k (set m c 1) m′ (cellAt base c) (omega (arith, length-set m c 1)) (omega arith) (w .1) in
         record {
           long = ap suc (v .long);
-          chain = more c m (chainFrom s P k (numberAt s (cellAt P c) 2)) t₁ t₂ (omega arith) (v .chain) (v .unmarked);
+          chain = more c m (chainFrom s base k (numberAt s (cellAt base c) 2)) t₁ t₂ (omega arith) (v .chain) (v .unmarked);
           linked = (stored s bytes a 2 l, v .linked);
-          unmarked = λ d q. still c m (chainFrom s P k (numberAt s (cellAt P c) 2)) t₃ (v .unmarked) d q (ℕ-discrete d c);
+          unmarked = λ d q. still c m (chainFrom s base k (numberAt s (cellAt base c) 2)) t₃ (v .unmarked) d q (ℕ-discrete d c);
           marked = v .marked;
         }
 

@@ -7,7 +7,7 @@ use native.Mathlib.Nat.{not-suc-le-zero, le-of-suc-le-suc}
 use native.Mathlib.Omega.{arith}
 use lib.ListN.{length, getD}
 use Rattle.lists.specs.Lists.{concat, every, occurrences, tabulate}
-use Rattle.store.specs.Layout.{size}
+use Rattle.store.specs.Layout.{size, cellsFrom, entryAt}
 use Rattle.store.specs.PageCode.{cells}
 use Rattle.store.specs.Reading.{chainIn, sumIn}
 use Rattle.lists.proofs.Occurrences.{occurrences-append}
@@ -37,20 +37,20 @@ pub record PageGood (s : List ℕ) (P C N p : ℕ) : Type 0 where
   pub tests : Each (pageTests s P N p)
   pub long : length (chainIn s P p) ≡ cells (sumIn s p)
   pub chain : Chain C (chainIn s P p)
-  pub linked : Linked s P (16 + 6 * p + 4) (chainIn s P p) 0
+  pub linked : Linked s (cellsFrom P) (entryAt p + 4) (chainIn s P p) 0
 
 pub record PagesGood (s : List ℕ) (P C N n p : ℕ) (m m′ L : List ℕ) : Type 0 where
   pub each-page : (j : ℕ) → j < n → PageGood s P C N (p + j)
   pub marked : Marked C m′ (L ++ concat (pagesOf s P p n))
   pub length-marks : length m′ ≡ length m
 
-module _ (s : List ℕ) (P C N : ℕ) (lC : C ≤ 1800) (lP : P ≤ 1024) (bytes : (i : ℕ) → getD s i 0 < 256) (size : 16 + 6 * P + 32 * C ≤ length s) where
+module _ (s : List ℕ) (P C N : ℕ) (lC : C ≤ 1800) (lP : P ≤ 1024) (bytes : (i : ℕ) → getD s i 0 < 256) (size : size P C ≤ length s) where
   page-step : (p : ℕ) (m m₁ : List ℕ) (L : List ℕ) → p < P → C < length m → Marked C m L
-      → walkMarks s P C (cells (sumIn s p)) m (16 + 6 * p + 4) ≡ whole m₁ → every (pageTests s P N p) ≡ true
+      → walkMarks s (cellsFrom P) C (cells (sumIn s p)) m (entryAt p + 4) ≡ whole m₁ → every (pageTests s P N p) ≡ true
       → PageGood s P C N p × Marked C m₁ (L ++ chainIn s P p) × (length m₁ ≡ length m)
   unfolding chainIn
   page-step p m m₁ L lp lm k w t =
-      let v = walked s P C lC bytes size (cells (sumIn s p)) m m₁ (16 + 6 * p + 4) lm (omega arith) w in (
+      let v = walked s (cellsFrom P) C lC bytes size (cells (sumIn s p)) m m₁ (entryAt p + 4) lm (omega arith) w in (
         record { tests = each (pageTests s P N p) t; long = v .long; chain = v .chain; linked = v .linked },
         rw (v .marked) (marks C (chainIn s P p) m L lm (v .chain) (v .unmarked) k),
         ap length (v .marked) ∙ mark-length (chainIn s P p) m,
@@ -69,7 +69,7 @@ module _ (s : List ℕ) (P C N : ℕ) (lC : C ≤ 1800) (lP : P ≤ 1024) (bytes
     length-marks = ap length (sym (whole-is m m′ h));
   }
   pages-good (suc n) p m m′ L l lm k h =
-      let w = goes-then (walkMarks s P C (cells (sumIn s p)) m (16 + 6 * p + 4))
+      let w = goes-then (walkMarks s (cellsFrom P) C (cells (sumIn s p)) m (entryAt p + 4))
       (λ m₁. go-on (every (pageTests s P N p)) (checkPages s P C N n (suc p) m₁)) m′ h in
       let g = goes-on (every (pageTests s P N p)) (checkPages s P C N n (suc p) (w .0)) m′ (w .2) in
       let v = page-step p m (w .0) L (omega arith) lm k (w .1) (g .0) in
@@ -104,8 +104,8 @@ module _ (s : List ℕ) (P C N : ℕ) (lC : C ≤ 1800) (lP : P ≤ 1024) (bytes
       ∙ sym (append-assoc L cs (concat (pagesOf s P (suc p) n))) in
       let u : Unmarked m cs = λ d q. k d (g .chain .upto d q) ∙ none-of d L cs (concat (pagesOf s P (suc p) n)) (rw (← eL) (o d)) q in
       let m₁ : List ℕ = markAll m cs in
-      let w : walkMarks s P C (cells (sumIn s p)) m (16 + 6 * p + 4) ≡ whole m₁ =
-      ap (λ (z : ℕ). walkMarks s P C z m (16 + 6 * p + 4)) (sym (g .long)) ∙ walk-through s P C lC cs m (16 + 6 * p + 4) (g .chain) (g .linked) u in
+      let w : walkMarks s (cellsFrom P) C (cells (sumIn s p)) m (entryAt p + 4) ≡ whole m₁ =
+      ap (λ (z : ℕ). walkMarks s (cellsFrom P) C z m (entryAt p + 4)) (sym (g .long)) ∙ walk-through s (cellsFrom P) C lC cs m (entryAt p + 4) (g .chain) (g .linked) u in
       let lm₁ : length m₁ ≡ length m = mark-length cs m in
       let r = pages-through n (suc p) m₁ (L ++ cs) (omega arith) (marks C cs m L lm (g .chain) u k)
       (λ j q. let e : suc p + j ≡ p + suc j = omega arith in rw e (h (suc j) (omega arith))) (λ d. rw (← eL) (o d)) in (

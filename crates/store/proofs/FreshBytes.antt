@@ -13,7 +13,7 @@ use borrow.Author.Tests.{le-leb, lt-leb, eq-eqb, leb-true, eqb-true}
 use Rattle.lists.specs.Lists.{concat, every, part, pick, tabulate}
 use Rattle.bits.specs.Numbers.{little}
 use Rattle.store.specs.Plain.{answered, refused}
-use Rattle.store.specs.Layout.{bytesOf, cellAt, fresh, header, size}
+use Rattle.store.specs.Layout.{bytesOf, cellAt, fresh, header, size, cellsFrom, entryAt}
 use Rattle.store.specs.Call.{Fitting, Started, freshCall, freshFits}
 use Rattle.store.specs.Links.{put}
 use Rattle.store.specs.Heads.{HeadOf, Headed, chained}
@@ -86,54 +86,54 @@ headed-is s s₁ s₂ s₃ s₄ s₅ s₆ s₇ h l e₁ e₂ e₃ e₄ e₅ e₆
     (record { is = e₆ }) (record { is = e₇ })
 
 -- ---- the chain of all cells
-pub chained-length : (s : List ℕ) (P k : ℕ) → length (chained s P k) ≡ length s
+pub chained-length : (s : List ℕ) (base k : ℕ) → length (chained s base k) ≡ length s
 unfolding chained
-chained-length s P zero = refl
-chained-length s P (suc k) = put-length (chained s P k) (cellAt P (suc k)) 2 (suc k + 1) ∙ chained-length s P k
+chained-length s base zero = refl
+chained-length s base (suc k) = put-length (chained s base k) (cellAt base (suc k)) 2 (suc k + 1) ∙ chained-length s base k
 
-pub chained-next : (s t u : List ℕ) (P c a : ℕ) → 1 ≤ c → t ≡ chained s P (c - 1) → a ≡ cellAt P c → u ≡ put t a 2 (c + 1)
-    → u ≡ chained s P (c + 1 - 1)
+pub chained-next : (s t u : List ℕ) (base c a : ℕ) → 1 ≤ c → t ≡ chained s base (c - 1) → a ≡ cellAt base c → u ≡ put t a 2 (c + 1)
+    → u ≡ chained s base (c + 1 - 1)
 unfolding chained
-chained-next s t u P zero a l e i f = absurd (not-suc-le-zero l)
-chained-next s t u P (suc k) a l e i f =
+chained-next s t u base zero a l e i f = absurd (not-suc-le-zero l)
+chained-next s t u base (suc k) a l e i f =
     let n : suc k + 1 - 1 ≡ suc k = omega arith in
     let m : suc k - 1 ≡ k = omega arith in
-    f ∙ ap₂ (λ (x : List ℕ) (y : ℕ). put x y 2 (suc k + 1)) (e ∙ ap (chained s P) m) i ∙ sym (ap (chained s P) n)
+    f ∙ ap₂ (λ (x : List ℕ) (y : ℕ). put x y 2 (suc k + 1)) (e ∙ ap (chained s base) m) i ∙ sym (ap (chained s base) n)
 
-pub chained-none : (s : List ℕ) (P : ℕ) → s ≡ chained s P (1 - 1)
+pub chained-none : (s : List ℕ) (base : ℕ) → s ≡ chained s base (1 - 1)
 unfolding chained
-chained-none s P = refl
+chained-none s base = refl
 
-chained-off : (s : List ℕ) (P k b n : ℕ) → ((d : ℕ) → 1 ≤ d → d ≤ k → Apart (cellAt P d) 2 b n) → part (chained s P k) b n ≡ part s b n
+chained-off : (s : List ℕ) (base k b n : ℕ) → ((d : ℕ) → 1 ≤ d → d ≤ k → Apart (cellAt base d) 2 b n) → part (chained s base k) b n ≡ part s b n
 unfolding chained
-chained-off s P zero b n h = refl
-chained-off s P (suc k) b n h =
-    put-off (chained s P k) (cellAt P (suc k)) 2 (suc k + 1) b n (h (suc k) (omega arith) (omega arith))
-    ∙ chained-off s P k b n (λ d p q. h d p (omega arith))
+chained-off s base zero b n h = refl
+chained-off s base (suc k) b n h =
+    put-off (chained s base k) (cellAt base (suc k)) 2 (suc k + 1) b n (h (suc k) (omega arith) (omega arith))
+    ∙ chained-off s base k b n (λ d p q. h d p (omega arith))
 
-chained-on : (s : List ℕ) (P k d : ℕ) → 1 ≤ d → d ≤ k → cellAt P k + 2 ≤ length s → part (chained s P k) (cellAt P d) 2 ≡ little 2 (d + 1)
+chained-on : (s : List ℕ) (base k d : ℕ) → 1 ≤ d → d ≤ k → cellAt base k + 2 ≤ length s → part (chained s base k) (cellAt base d) 2 ≡ little 2 (d + 1)
 unfolding chained
-chained-on s P zero d p q l = absurd (omega arith)
-chained-on s P (suc k) d p q l = go (ℕ-discrete d (suc k)) (λ r. chained-on s P k d p r (omega arith))
+chained-on s base zero d p q l = absurd (omega arith)
+chained-on s base (suc k) d p q l = go (ℕ-discrete d (suc k)) (λ r. chained-on s base k d p r (omega arith))
   where
-    go : Dec (d ≡ suc k) → (d ≤ k → part (chained s P k) (cellAt P d) 2 ≡ little 2 (d + 1))
-        → part (chained s P (suc k)) (cellAt P d) 2 ≡ little 2 (d + 1)
-    go (yes e) r = rw e (put-same (chained s P k) (cellAt P (suc k)) 2 (suc k + 1) (omega (arith, chained-length s P k)))
+    go : Dec (d ≡ suc k) → (d ≤ k → part (chained s base k) (cellAt base d) 2 ≡ little 2 (d + 1))
+        → part (chained s base (suc k)) (cellAt base d) 2 ≡ little 2 (d + 1)
+    go (yes e) r = rw e (put-same (chained s base k) (cellAt base (suc k)) 2 (suc k + 1) (omega (arith, chained-length s base k)))
     go (no e) r =
-        put-off (chained s P k) (cellAt P (suc k)) 2 (suc k + 1) (cellAt P d) 2
-        (cells-apart P (suc k) d 2 2 (omega arith) p e (omega arith) (omega arith))
+        put-off (chained s base k) (cellAt base (suc k)) 2 (suc k + 1) (cellAt base d) 2
+        (cells-apart base (suc k) d 2 2 (omega arith) p e (omega arith) (omega arith))
         ∙ r (omega arith)
 
 -- a chain of cells c + 1, c + 2, .. C, each linked to the next
-linked-up : (s : List ℕ) (P C n c a : ℕ) → c + n ≡ C → ((d : ℕ) → 1 ≤ d → d < C → part s (cellAt P d) 2 ≡ little 2 (d + 1))
-    → part s (cellAt P C) 2 ≡ little 2 0 → (c < C → part s a 2 ≡ little 2 (c + 1)) → (c ≡ C → part s a 2 ≡ little 2 0)
-    → Linked s P a (tabulate n (λ j. c + suc j)) 0
+linked-up : (s : List ℕ) (base C n c a : ℕ) → c + n ≡ C → ((d : ℕ) → 1 ≤ d → d < C → part s (cellAt base d) 2 ≡ little 2 (d + 1))
+    → part s (cellAt base C) 2 ≡ little 2 0 → (c < C → part s a 2 ≡ little 2 (c + 1)) → (c ≡ C → part s a 2 ≡ little 2 0)
+    → Linked s base a (tabulate n (λ j. c + suc j)) 0
 unfolding tabulate
-linked-up s P C zero c a e h l x y = y (omega arith)
-linked-up s P C (suc n) c a e h l x y =
+linked-up s base C zero c a e h l x y = y (omega arith)
+linked-up s base C (suc n) c a e h l x y =
     let e₁ : c + 1 ≡ suc c = omega arith in
-    let r : Linked s P (cellAt P (c + 1)) (tabulate n (λ j. c + 1 + suc j)) 0 =
-    linked-up s P C n (c + 1) (cellAt P (c + 1)) (omega arith) h l (λ q. h (c + 1) (omega arith) q) (λ q. ap (λ (z : ℕ). part s (cellAt P z) 2) q
+    let r : Linked s base (cellAt base (c + 1)) (tabulate n (λ j. c + 1 + suc j)) 0 =
+    linked-up s base C n (c + 1) (cellAt base (c + 1)) (omega arith) h l (λ q. h (c + 1) (omega arith) q) (λ q. ap (λ (z : ℕ). part s (cellAt base z) 2) q
     ∙ l) in (
       x (omega arith),
       rw (tabulate-ext n (λ j. c + suc (suc j)) (λ j. c + 1 + suc j) (λ j _. omega arith)) r,
@@ -148,37 +148,37 @@ module _ (P C : ℕ) (p₁ : 1 ≤ P) (p₂ : P ≤ 1024) (c₁ : 1 ≤ C) (c₂
   long-t = h .long ∙ length-replicate {A = ℕ} (size P C) 0
 
   B : List ℕ
-  B = chained t P (C - 1)
+  B = chained t (cellsFrom P) (C - 1)
 
   -- bytes before the cells
-  low : (b n : ℕ) → b + n ≤ 16 + 6 * P → part B b n ≡ part t b n
+  low : (b n : ℕ) → b + n ≤ cellsFrom P → part B b n ≡ part t b n
   unfolding B
-  low b n l = chained-off t P (C - 1) b n (λ d p q r. omega arith)
+  low b n l = chained-off t (cellsFrom P) (C - 1) b n (λ d p q r. omega arith)
 
   -- bytes that nothing was put into
-  zero-at : (b n : ℕ) → 16 ≤ b → b + n ≤ size P C → ((d : ℕ) → 1 ≤ d → d ≤ C - 1 → Apart (cellAt P d) 2 b n) → part B b n ≡ replicate n 0
+  zero-at : (b n : ℕ) → 16 ≤ b → b + n ≤ size P C → ((d : ℕ) → 1 ≤ d → d ≤ C - 1 → Apart (cellAt (cellsFrom P) d) 2 b n) → part B b n ≡ replicate n 0
   unfolding B
-  zero-at b n l m a = chained-off t P (C - 1) b n a ∙ h .rest b n l ∙ part-zeros (size P C) b n m
+  zero-at b n l m a = chained-off t (cellsFrom P) (C - 1) b n a ∙ h .rest b n l ∙ part-zeros (size P C) b n m
 
-  free-chain : Linked B P 6 (tabulate C suc) 0
+  free-chain : Linked B (cellsFrom P) 6 (tabulate C suc) 0
   unfolding B fresh
   free-chain =
       rw (tabulate-ext C suc (λ j. 0 + suc j) (λ j _. omega arith))
-      (linked-up B P C C 0 6 (omega arith)
-      (λ d p q. chained-on t P (C - 1) d p (omega arith) (omega (arith, long-t)))
-      (zero-at (cellAt P C) 2 (omega arith) (omega arith) (λ d p q. cells-apart P d C 2 2 p c₁ (λ e. omega (arith, e)) (omega arith) (omega arith))
+      (linked-up B (cellsFrom P) C C 0 6 (omega arith)
+      (λ d p q. chained-on t (cellsFrom P) (C - 1) d p (omega arith) (omega (arith, long-t)))
+      (zero-at (cellAt (cellsFrom P) C) 2 (omega arith) (omega arith) (λ d p q. cells-apart (cellsFrom P) d C 2 2 p c₁ (λ e. omega (arith, e)) (omega arith) (omega arith))
       ∙ sym (little-zeros 2))
       (λ _. low 6 2 (omega arith) ∙ h .first-free ∙ ap (little 2) (k .first-is ∙ fresh-first C c₁))
       (λ e. absurd (omega (arith, e))))
 
   -- a cell's code is apart from every link
-  code-clear : (d : ℕ) → 1 ≤ d → d ≤ C → part B (cellAt P d + 2) 30 ≡ replicate 30 0
-  code-clear d p q = zero-at (cellAt P d + 2) 30 (omega arith) (omega arith) (λ e i j r. omega arith)
+  code-clear : (d : ℕ) → 1 ≤ d → d ≤ C → part B (cellAt (cellsFrom P) d + 2) 30 ≡ replicate 30 0
+  code-clear d p q = zero-at (cellAt (cellsFrom P) d + 2) 30 (omega arith) (omega arith) (λ e i j r. omega arith)
 
   spread : Spread B (fresh P C)
   unfolding fresh header concat little B
   spread = record {
-    size = chained-length t P (C - 1) ∙ long-t;
+    size = chained-length t (cellsFrom P) (C - 1) ∙ long-t;
     fixed =
         part-two B 0 4 2 _ _ (part-two B 0 2 2 _ _ (low 0 2 (omega arith) ∙ h .edition) (low 2 2 (omega arith) ∙ h .pages
         ∙ ap (little 2) (k .pages-is)))
@@ -187,17 +187,17 @@ module _ (P C : ℕ) (p₁ : 1 ≤ P) (p₂ : P ≤ 1024) (c₁ : 1 ≤ C) (c₂
     free-count = low 8 2 (omega arith) ∙ h .free ∙ ap (little 2) (k .free-is);
     gap = low 10 2 (omega arith) ∙ h .gap;
     hours = low 12 4 (omega arith) ∙ h .hours ∙ ap (little 4) (k .hours-is);
-    sums = λ q l. zero-at (16 + 6 * q) 4 (omega arith) (omega arith) (λ d p r i. omega arith) ∙ sym (ap (little 4) (page-none q) ∙ little-zeros 4);
+    sums = λ q l. zero-at (entryAt q) 4 (omega arith) (omega arith) (λ d p r i. omega arith) ∙ sym (ap (little 4) (page-none q) ∙ little-zeros 4);
     links = λ q l.
         rw (getD-tabulate {A = List ℕ} P (λ _. []) q [] l)
-        (zero-at (16 + 6 * q + 4) 2 (omega arith) (omega arith) (λ d p r i. omega arith) ∙ sym (little-zeros 2));
+        (zero-at (entryAt q + 4) 2 (omega arith) (omega arith) (λ d p r i. omega arith) ∙ sym (little-zeros 2));
     fills = λ q l. rw (getD-tabulate {A = List ℕ} P (λ _. []) q [] l) tt;
     zeros =
-        zeros-filled B P (tabulate C suc) (30 * length (tabulate C suc)) (omega arith)
+        zeros-filled B (cellsFrom P) (tabulate C suc) (30 * length (tabulate C suc)) (omega arith)
         (λ d q. let w = cell-is C d (omega (arith, occurrences-upto C d)) in code-clear d (w .0) (w .1));
   }
 
-  pub fresh-bytes : chained t P (C - 1) ≡ bytesOf (fresh P C)
+  pub fresh-bytes : chained t (cellsFrom P) (C - 1) ≡ bytesOf (fresh P C)
   unfolding B
   fresh-bytes =
       let g = fresh-good P C p₁ p₂ c₁ c₂ in
@@ -260,10 +260,10 @@ module _ (b : List ℕ) (P C : ℕ) where
   unfolding freshCall pick
   started-9 e = record { answer = rw e refl; bytes = rw e refl }
 
-  pub started : (z t u : List ℕ) (H : Header) → freshFits b P C ≡ true → z ≡ replicate (length b) 0 → HeadOf (fresh P C) H → Headed z H t
-      → u ≡ chained t P (C - 1) → Started b P C (answered 0) u
+  pub started : (z t u : List ℕ) (H : Header) {base : ℕ} → freshFits b P C ≡ true → z ≡ replicate (length b) 0 → HeadOf (fresh P C) H → Headed z H t
+      → base ≡ cellsFrom P → u ≡ chained t base (C - 1) → Started b P C (answered 0) u
   unfolding freshCall pick
-  started z t u H e a k h f =
+  started z t u H e a k h b f =
       let w = fitting e in
       let h₂ : Headed (replicate (size P C) 0) H t = rw (← w .long, ← a) h in
-      record { answer = rw e refl; bytes = rw e (f ∙ fresh-bytes P C (w .pages-low) (w .pages-high) (w .cells-low) (w .cells-high) t H k h₂) }
+      record { answer = rw e refl; bytes = rw e (f ∙ ap (λ (z : ℕ). chained t z (C - 1)) b ∙ fresh-bytes P C (w .pages-low) (w .pages-high) (w .cells-low) (w .cells-high) t H k h₂) }

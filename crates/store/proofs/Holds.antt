@@ -7,7 +7,7 @@ use lib.ListN.{length, getD, take, drop, replicate, length-append, length-take, 
 use lib.Seq.{drop-drop}
 use Rattle.lists.specs.Lists.{concat, occurrences, part, sum, tabulate}
 use Rattle.bits.specs.Numbers.{little}
-use Rattle.store.specs.Layout.{Model, bytesOf, cellAt, entry, header, laidAt, lay, layAll, layPages}
+use Rattle.store.specs.Layout.{Model, bytesOf, cellAt, entry, header, laidAt, lay, layAll, layPages, size, cellsFrom, entryAt}
 use Rattle.store.specs.PageCode.{cells}
 use Rattle.store.specs.Plain.{page}
 use Rattle.store.specs.Sound.{Good, isCell}
@@ -21,10 +21,10 @@ unfolding page
 page-length xs p = length-tabulate 64 (λ j. getD xs (64 * p + j) 0)
 
 pub record Holds (s : List ℕ) (m : Model) : Type 0 where
-  pub size : length s ≡ 16 + 6 * m .plain .pages + 32 * m .plain .cells
+  pub size : length s ≡ size (m .plain .pages) (m .plain .cells)
   pub head : part s 0 16 ≡ header m
-  pub entries : (p : ℕ) → p < m .plain .pages → part s (16 + 6 * p) 6 ≡ entry m p
-  pub cells : All (λ l. part s (cellAt (m .plain .pages) (l .cell)) 32 ≡ l .bytes) (layAll m)
+  pub entries : (p : ℕ) → p < m .plain .pages → part s (entryAt p) 6 ≡ entry m p
+  pub cells : All (λ l. part s (cellAt (cellsFrom (m .plain .pages)) (l .cell)) 32 ≡ l .bytes) (layAll m)
 
 header-length : (m : Model) → length (header m) ≡ 16
 unfolding header concat little
@@ -50,13 +50,13 @@ cell-length : (m : Model) → Good m → (j : ℕ) → j < m .plain .cells → l
 cell-length m g j l = at-length (suc j) (layAll m) (laid-length m g)
     (omega (arith, laid-count m g (suc j), cell-in (m .plain .cells) (suc j) (omega arith) (omega arith)))
 
-entry-of : (m : Model) (p : ℕ) → p < m .plain .pages → part (bytesOf m) (16 + 6 * p) 6 ≡ entry m p
+entry-of : (m : Model) (p : ℕ) → p < m .plain .pages → part (bytesOf m) (entryAt p) 6 ≡ entry m p
 unfolding bytesOf
 entry-of m p l =
     part-skip (header m) _ (6 * p) 6 16 (header-length m)
     ∙ concat-at (m .plain .pages) 6 (entry m) _ p (λ j _. entry-length m j) l
 
-cell-of : (m : Model) → Good m → (c : ℕ) → 1 ≤ c → c ≤ m .plain .cells → part (bytesOf m) (cellAt (m .plain .pages) c) 32 ≡ laidAt c (layAll m)
+cell-of : (m : Model) → Good m → (c : ℕ) → 1 ≤ c → c ≤ m .plain .cells → part (bytesOf m) (cellAt (cellsFrom (m .plain .pages)) c) 32 ≡ laidAt c (layAll m)
 unfolding bytesOf
 cell-of m g c a b =
     let P : ℕ = m .plain .pages in
@@ -64,7 +64,7 @@ cell-of m g c a b =
     let f : ℕ → List ℕ = λ j. laidAt (suc j) (layAll m) in
     let D : List ℕ = concat (tabulate C f) in
     let E : List ℕ = concat (tabulate P (entry m)) in
-    let e : 16 + 6 * P + 32 * (c - 1) ≡ 16 + (6 * P + 32 * (c - 1)) = omega arith in
+    let e : size P (c - 1) ≡ 16 + (6 * P + 32 * (c - 1)) = omega arith in
     let e₂ : suc (c - 1) ≡ c = omega arith in
     ap (λ (z : ℕ). part (bytesOf m) z 32) e
     ∙ part-skip (header m) (E ++ D) (6 * P + 32 * (c - 1)) 32 16 (header-length m)
@@ -73,7 +73,7 @@ cell-of m g c a b =
     ∙ concat-at C 32 f [] (c - 1) (λ j l. cell-length m g j l) (omega arith)
     ∙ ap (λ (z : ℕ). laidAt z (layAll m)) e₂
 
-size-of : (m : Model) → Good m → length (bytesOf m) ≡ 16 + 6 * m .plain .pages + 32 * m .plain .cells
+size-of : (m : Model) → Good m → length (bytesOf m) ≡ size (m .plain .pages) (m .plain .cells)
 unfolding bytesOf
 size-of m g =
     let P : ℕ = m .plain .pages in
@@ -96,7 +96,7 @@ holds-bytes m g = record {
   head = refl;
   entries = entry-of m;
   cells =
-      at-all (λ c. part (bytesOf m) (cellAt (m .plain .pages) c) 32) (layAll m)
+      at-all (λ c. part (bytesOf m) (cellAt (cellsFrom (m .plain .pages)) c) 32) (layAll m)
       (λ c. at-most-one m g c)
       (λ c h. let w = cell-is (m .plain .cells) c (omega (arith, laid-count m g c)) in cell-of m g c (w .0) (w .1));
 }
@@ -125,6 +125,6 @@ holds-only s m g h =
     cell-at j l =
         let P : ℕ = m .plain .pages in
         ap (take 32) (drop-drop (32 * j) (6 * P) (drop 16 s) ∙ drop-drop (6 * P + 32 * j) 16 s)
-        ∙ ap (λ (z : ℕ). part s z 32) {x = 16 + (6 * P + 32 * j)} {y = 16 + 6 * P + 32 * (suc j - 1)} (omega arith)
-        ∙ at-found (λ c. part s (cellAt P c) 32) (suc j) (layAll m) (h .cells)
+        ∙ ap (λ (z : ℕ). part s z 32) {x = 16 + (6 * P + 32 * j)} {y = size P (suc j - 1)} (omega arith)
+        ∙ at-found (λ c. part s (cellAt (cellsFrom P) c) 32) (suc j) (layAll m) (h .cells)
         (omega (arith, laid-count m g (suc j), cell-in (m .plain .cells) (suc j) (omega arith) (omega arith)))

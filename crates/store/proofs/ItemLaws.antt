@@ -21,7 +21,7 @@ use Rattle.tree.specs.Read.{counts}
 use Rattle.tree.proofs.Shape.{length-counts}
 use Rattle.store.specs.PageCode.{cells, pageBytes, pageCounts}
 use Rattle.store.specs.Plain.{page}
-use Rattle.store.specs.Layout.{Model, cellAt, header}
+use Rattle.store.specs.Layout.{Model, cellAt, header, size, cellsFrom, entryAt}
 use Rattle.store.specs.Reading.{Runs, chainFrom, chainIn, codeIn, firstIn, pageIn, read, readFor, spareIn, sumIn}
 use Rattle.store.specs.Sound.{Good, onChains, sound}
 use Rattle.store.specs.Items.{Items, pagesOf, cellsOf, hoursOf, onAll}
@@ -38,23 +38,23 @@ use Rattle.store.proofs.TotalLaws.{total-all}
 use Rattle.store.proofs.Verdict.{Found, head-each, says-sound}
 use Rattle.store.proofs.Writes.{Chain, Linked}
 
-chain-long : (s : List ℕ) (P k c : ℕ) → length (chainFrom s P k c) ≡ k
+chain-long : (s : List ℕ) (P k c : ℕ) → length (chainFrom s (cellsFrom P) k c) ≡ k
 unfolding chainFrom
 chain-long s P zero c = refl
-chain-long s P (suc k) c = ap suc (chain-long s P k (numberAt s (cellAt P c) 2))
+chain-long s P (suc k) c = ap suc (chain-long s P k (numberAt s (cellAt (cellsFrom P) c) 2))
 
 page-long : (s : List ℕ) (P p : ℕ) → length (pageIn s P p) ≡ 64
 unfolding pageIn pageCounts
-page-long s P p = length-counts 6 (sumIn s p) (bits (codeIn s P (chainIn s P p))) 0
+page-long s P p = length-counts 6 (sumIn s p) (bits (codeIn s (cellsFrom P) (chainIn s P p))) 0
 
 module _ (s : List ℕ) (bytes : (i : ℕ) → getD s i 0 < 256) where
   -- a chain of cells that runs to its end is linked
-  runs-linked : (P C a : ℕ) (cs : List ℕ) → 16 + 6 * P + 32 * C ≤ length s → a + 2 ≤ length s → Chain C cs → Runs s P (numberAt s a 2) cs
-      → Linked s P a cs 0
+  runs-linked : (P C a : ℕ) (cs : List ℕ) → size P C ≤ length s → a + 2 ≤ length s → Chain C cs → Runs s (cellsFrom P) (numberAt s a 2) cs
+      → Linked s (cellsFrom P) a cs 0
   runs-linked P C a [] z l j h = stored s bytes a 2 l ∙ ap (little 2) h
   runs-linked P C a (c ∷ cs) z l j h =
       let w = chain-head C c cs j in
-      (stored s bytes a 2 l ∙ ap (little 2) (h .0), runs-linked P C (cellAt P c) cs z (omega (arith, w .0, w .1)) (chain-tail j) (h .2))
+      (stored s bytes a 2 l ∙ ap (little 2) (h .0), runs-linked P C (cellAt (cellsFrom P) c) cs z (omega (arith, w .0, w .1)) (chain-tail j) (h .2))
 
   module _ (i : Items s) where
     abbrev P : ℕ
@@ -63,7 +63,7 @@ module _ (s : List ℕ) (bytes : (i : ℕ) → getD s i 0 < 256) where
     abbrev C : ℕ
     C = cellsOf s
 
-    big : 16 + 6 * P + 32 * C ≤ length s
+    big : size P C ≤ length s
     big = omega (arith, i .long)
 
     chain-sub : (cs : List ℕ) → ((d : ℕ) → occurrences d cs ≤ occurrences d (onAll s)) → Chain C cs
@@ -98,7 +98,7 @@ module _ (s : List ℕ) (bytes : (i : ℕ) → getD s i 0 < 256) where
           );
           long = chain-long s P (cells (sumIn s p)) (firstIn s p);
           chain = j;
-          linked = runs-linked P C (16 + 6 * p + 4) (chainIn s P p) big (omega (arith, big, i .cells-from)) j (i .page-chain p l);
+          linked = runs-linked P C (entryAt p + 4) (chainIn s P p) big (omega (arith, big, i .cells-from)) j (i .page-chain p l);
         }
 
     head-is : Each (headTests s)

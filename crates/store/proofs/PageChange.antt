@@ -9,7 +9,7 @@ use lib.ListN.{length, getD, take, drop, set, replicate, length-append, length-t
 use lib.Seq.{drop-append-add, drop-drop, getD-set-same, getD-set-other}
 use Rattle.lists.specs.Lists.{concat, occurrences, part, sum}
 use Rattle.bits.specs.Numbers.{little, number, numberAt}
-use Rattle.store.specs.Layout.{Model, bytesOf, cellAt, header, resize}
+use Rattle.store.specs.Layout.{Model, bytesOf, cellAt, header, resize, size, cellsFrom, entryAt}
 use Rattle.store.specs.Links.{Ready, Steps, cut, filled, joined, put, rewritten}
 use Rattle.store.specs.PageCode.{cells, pageBytes}
 use Rattle.store.specs.Plain.{need, page}
@@ -89,7 +89,7 @@ module _ (m : Model) (g : Good m) where
     p = i / 64
 
     abbrev e : ℕ
-    e = 16 + 6 * p + 4
+    e = entryAt p + 4
 
     abbrev n : ℕ
     n = cells (sum (page ys p))
@@ -175,49 +175,49 @@ module _ (m : Model) (g : Good m) where
     )
 
     -- the arguments of the lemmas on a moved chain
-    size-le : 16 + 6 * P + 32 * C ≤ length s
+    size-le : size P C ≤ length s
     size-le = omega (arith, h .size)
 
     t : List ℕ
-    t = cut (filled (joined s P e k) P e (length (X ++ Y₁)) code) P e (length X)
+    t = cut (filled (joined s (cellsFrom P) e k) (cellsFrom P) e (length (X ++ Y₁)) code) (cellsFrom P) e (length X)
 
-    mv : Moves s t P e cs fs (X ++ Y₁) B X Y code
+    mv : Moves s t (cellsFrom P) e cs fs (X ++ Y₁) B X Y code
     unfolding t
     mv =
-        moves s P C e cs fs code (g .cells-high) size-le (omega arith) (omega (arith, lp)) (page-and-spare p lp) (h .links p lp) (h .free)
+        moves s (cellsFrom P) C e cs fs code (g .cells-high) size-le (omega arith) (omega (arith, lp)) (page-and-spare p lp) (h .links p lp) (h .free)
         (X ++ Y₁) B X Y eA eX long
 
-    t-is : t ≡ cut (filled (joined s P e k) P e (max k n) code) P e n
+    t-is : t ≡ cut (filled (joined s (cellsFrom P) e k) (cellsFrom P) e (max k n) code) (cellsFrom P) e n
     unfolding t
-    t-is = ap₂ (λ (a b : ℕ). cut (filled (joined s P e k) P e a code) P e b) lA lX
+    t-is = ap₂ (λ (a b : ℕ). cut (filled (joined s (cellsFrom P) e k) (cellsFrom P) e a code) (cellsFrom P) e b) lA lX
 
     -- ---- the numbers
     spare-word : numberAt s 8 2 ≡ length fs
     spare-word = ap number (h .free-count) ∙ number-two (length fs) (omega (arith, spare-is m g, g .cells-high))
 
     final : List ℕ
-    final = put (put (put t 8 2 (numberAt s 8 2 + k - n)) (16 + 6 * p) 4 (sum (page ys p))) 12 4 (length ys)
+    final = put (put (put t 8 2 (numberAt s 8 2 + k - n)) (entryAt p) 4 (sum (page ys p))) 12 4 (length ys)
 
-    final-is : final ≡ rewritten s P p k n code (sum (page ys p)) (length ys)
+    final-is : final ≡ rewritten s (cellsFrom P) p k n code (sum (page ys p)) (length ys)
     unfolding final rewritten
-    final-is = ap (λ (z : List ℕ). put (put (put z 8 2 (numberAt s 8 2 + k - n)) (16 + 6 * p) 4 (sum (page ys p))) 12 4 (length ys)) t-is
+    final-is = ap (λ (z : List ℕ). put (put (put z 8 2 (numberAt s 8 2 + k - n)) (entryAt p) 4 (sum (page ys p))) 12 4 (length ys)) t-is
 
-    off : (b l : ℕ) → Apart 8 2 b l → Apart (16 + 6 * p) 4 b l → Apart 12 4 b l → part final b l ≡ part t b l
+    off : (b l : ℕ) → Apart 8 2 b l → Apart (entryAt p) 4 b l → Apart 12 4 b l → part final b l ≡ part t b l
     unfolding final
-    off b l x y z = put-off _ 12 4 (length ys) b l z ∙ put-off _ (16 + 6 * p) 4 (sum (page ys p)) b l y ∙ put-off t 8 2 (numberAt s 8 2 + k - n) b l x
+    off b l x y z = put-off _ 12 4 (length ys) b l z ∙ put-off _ (entryAt p) 4 (sum (page ys p)) b l y ∙ put-off t 8 2 (numberAt s 8 2 + k - n) b l x
 
-    far : (b l : ℕ) → 16 + 6 * P ≤ b → part final b l ≡ part t b l
+    far : (b l : ℕ) → cellsFrom P ≤ b → part final b l ≡ part t b l
     far b l r = off b l (λ q. absurd (omega arith)) (λ q. absurd (omega (arith, lp))) (λ q. absurd (omega arith))
 
-    new-size : length final ≡ 16 + 6 * P + 32 * C
+    new-size : length final ≡ size P C
     unfolding final
-    new-size = put-length _ 12 4 (length ys) ∙ put-length _ (16 + 6 * p) 4 (sum (page ys p)) ∙ put-length t 8 2 (numberAt s 8 2 + k - n) ∙ mv .long
+    new-size = put-length _ 12 4 (length ys) ∙ put-length _ (entryAt p) 4 (sum (page ys p)) ∙ put-length t 8 2 (numberAt s 8 2 + k - n) ∙ mv .long
         ∙ h .size
 
     new-count : part final 8 2 ≡ little 2 (length Y)
     unfolding final
     new-count =
-        put-off _ 12 4 (length ys) 8 2 (λ q. omega arith) ∙ put-off _ (16 + 6 * p) 4 (sum (page ys p)) 8 2 (λ q. omega arith)
+        put-off _ 12 4 (length ys) 8 2 (λ q. omega arith) ∙ put-off _ (entryAt p) 4 (sum (page ys p)) 8 2 (λ q. omega arith)
         ∙ put-same t 8 2 (numberAt s 8 2 + k - n) (omega (arith, mv .long, size-le))
         ∙ ap (little 2) {x = numberAt s 8 2 + k - n} {y = length Y} (omega (arith, spare-word, lY, lJ))
 
@@ -226,51 +226,51 @@ module _ (m : Model) (g : Good m) where
     new-hours = put-same _ 12 4 (length ys)
         (omega (
           arith,
-          put-length (put t 8 2 (numberAt s 8 2 + k - n)) (16 + 6 * p) 4 (sum (page ys p)),
+          put-length (put t 8 2 (numberAt s 8 2 + k - n)) (entryAt p) 4 (sum (page ys p)),
           put-length t 8 2 (numberAt s 8 2 + k - n),
           mv .long,
           size-le,
         ))
 
-    new-sum : part final (16 + 6 * p) 4 ≡ little 4 (sum (page ys p))
+    new-sum : part final (entryAt p) 4 ≡ little 4 (sum (page ys p))
     unfolding final
     new-sum =
-        put-off _ 12 4 (length ys) (16 + 6 * p) 4 (λ q. absurd (omega arith))
-        ∙ put-same _ (16 + 6 * p) 4 (sum (page ys p)) (omega (arith, lp, put-length t 8 2 (numberAt s 8 2 + k - n), mv .long, size-le))
+        put-off _ 12 4 (length ys) (entryAt p) 4 (λ q. absurd (omega arith))
+        ∙ put-same _ (entryAt p) 4 (sum (page ys p)) (omega (arith, lp, put-length t 8 2 (numberAt s 8 2 + k - n), mv .long, size-le))
 
-    sum-at : (q : ℕ) → q < P → Dec (q ≡ p) → part final (16 + 6 * q) 4 ≡ little 4 (sum (page ys q))
+    sum-at : (q : ℕ) → q < P → Dec (q ≡ p) → part final (entryAt q) 4 ≡ little 4 (sum (page ys q))
     sum-at q l (yes r) = rw r new-sum
     sum-at q l (no r) =
-        off (16 + 6 * q) 4 (λ b. absurd (omega arith)) (λ b. omega (arith, less q r b)) (λ b. absurd (omega arith))
-        ∙ mv .low (16 + 6 * q) 4 (omega arith) (λ b. absurd (omega arith)) (λ b. omega arith)
+        off (entryAt q) 4 (λ b. absurd (omega arith)) (λ b. omega (arith, less q r b)) (λ b. absurd (omega arith))
+        ∙ mv .low (entryAt q) 4 (omega arith) (λ b. absurd (omega arith)) (λ b. omega arith)
         ∙ h .sums q l ∙ ap (λ (z : List ℕ). little 4 (sum z)) (sym (page-off (m .plain .counts) ys i q o r))
       where
-        less : (q : ℕ) → (q ≡ p → ⊥) → 16 + 6 * q < 16 + 6 * p + 4 → q < p
+        less : (q : ℕ) → (q ≡ p → ⊥) → entryAt q < entryAt p + 4 → q < p
         less q r b = omega arith
 
-    link-at : (q : ℕ) → q < P → Dec (q ≡ p) → Linked final P (16 + 6 * q + 4) (getD (set (m .chains) p X) q []) 0
+    link-at : (q : ℕ) → q < P → Dec (q ≡ p) → Linked final (cellsFrom P) (entryAt q + 4) (getD (set (m .chains) p X) q []) 0
     link-at q l (yes r) =
         rw (r, getD-set-same (m .chains) p X [] lr)
-        (linked-same t final P e X 0 (off e 2 (λ b. absurd (omega arith)) (λ b. absurd (omega arith)) (λ b. absurd (omega arith)))
-        (λ d b. far (cellAt P d) 2 (omega arith)) (mv .own))
+        (linked-same t final (cellsFrom P) e X 0 (off e 2 (λ b. absurd (omega arith)) (λ b. absurd (omega arith)) (λ b. absurd (omega arith)))
+        (λ d b. far (cellAt (cellsFrom P) d) 2 (omega arith)) (mv .own))
     link-at q l (no r) =
         rw (getD-set-other (m .chains) p q X [] r)
-        (linked-same s final P (16 + 6 * q + 4) (getD (m .chains) q []) 0
-        (off (16 + 6 * q + 4) 2 (λ b. absurd (omega arith)) (λ b. omega arith) (λ b. absurd (omega arith))
-        ∙ mv .low (16 + 6 * q + 4) 2 (omega arith) (λ b. absurd (omega arith)) (λ b. omega arith))
-        (λ d b. let w = page-other p q lp l r d b in far (cellAt P d) 2 (omega arith) ∙ mv .other-link d (w .0) (w .1)) (h .links q l))
+        (linked-same s final (cellsFrom P) (entryAt q + 4) (getD (m .chains) q []) 0
+        (off (entryAt q + 4) 2 (λ b. absurd (omega arith)) (λ b. omega arith) (λ b. absurd (omega arith))
+        ∙ mv .low (entryAt q + 4) 2 (omega arith) (λ b. absurd (omega arith)) (λ b. omega arith))
+        (λ d b. let w = page-other p q lp l r d b in far (cellAt (cellsFrom P) d) 2 (omega arith) ∙ mv .other-link d (w .0) (w .1)) (h .links q l))
 
-    split : Filled t P X (pageBytes (page ys p)) × Filled t P Y₁ (replicate (240 - 30 * n) 0)
-    split = filled-split t P X Y₁ (pageBytes (page ys p)) (replicate (240 - 30 * n) 0) (omega (arith, lcode, lX)) (mv .coded)
+    split : Filled t (cellsFrom P) X (pageBytes (page ys p)) × Filled t (cellsFrom P) Y₁ (replicate (240 - 30 * n) 0)
+    split = filled-split t (cellsFrom P) X Y₁ (pageBytes (page ys p)) (replicate (240 - 30 * n) 0) (omega (arith, lcode, lX)) (mv .coded)
 
-    fill-at : (q : ℕ) → q < P → Dec (q ≡ p) → Filled final P (getD (set (m .chains) p X) q []) (pageBytes (page ys q))
+    fill-at : (q : ℕ) → q < P → Dec (q ≡ p) → Filled final (cellsFrom P) (getD (set (m .chains) p X) q []) (pageBytes (page ys q))
     fill-at q l (yes r) =
         rw (r, getD-set-same (m .chains) p X [] lr)
-        (filled-same t final P X (pageBytes (page ys p)) (λ d b. far (cellAt P d + 2) 30 (omega arith)) (split .0))
+        (filled-same t final (cellsFrom P) X (pageBytes (page ys p)) (λ d b. far (cellAt (cellsFrom P) d + 2) 30 (omega arith)) (split .0))
     fill-at q l (no r) =
         rw (getD-set-other (m .chains) p q X [] r, page-off (m .plain .counts) ys i q o r)
-        (filled-same s final P (getD (m .chains) q []) (pageBytes (page (m .plain .counts) q))
-        (λ d b. let w = page-other p q lp l r d b in far (cellAt P d + 2) 30 (omega arith) ∙ mv .other-code d (w .0) (w .1)) (h .fills q l))
+        (filled-same s final (cellsFrom P) (getD (m .chains) q []) (pageBytes (page (m .plain .counts) q))
+        (λ d b. let w = page-other p q lp l r d b in far (cellAt (cellsFrom P) d + 2) 30 (omega arith) ∙ mv .other-code d (w .0) (w .1)) (h .fills q l))
 
     -- the cells behind are free cells as they were
     in-spare : (d : ℕ) → occurrences d B ≤ occurrences d fs
@@ -280,14 +280,14 @@ module _ (m : Model) (g : Good m) where
         ∙ drop-append-add cs fs (max k n - k) in
         omega (arith, ap (occurrences d) e₁, occurrences-split d (max k n - k) fs)
 
-    new-zeros : Zeroed final P Y
-    new-zeros d b = far (cellAt P d + 2) 30 (omega arith) ∙ go (ℕ-discrete (occurrences d Y₁) 0)
+    new-zeros : Zeroed final (cellsFrom P) Y
+    new-zeros d b = far (cellAt (cellsFrom P) d + 2) 30 (omega arith) ∙ go (ℕ-discrete (occurrences d Y₁) 0)
       where
-        go : Dec (occurrences d Y₁ ≡ 0) → part t (cellAt P d + 2) 30 ≡ replicate 30 0
-        go (no r) = zeroed t P Y₁ (240 - 30 * n) (omega (arith, lY₁, eight, eight-old)) (split .1) d (omega arith)
+        go : Dec (occurrences d Y₁ ≡ 0) → part t (cellAt (cellsFrom P) d + 2) 30 ≡ replicate 30 0
+        go (no r) = zeroed t (cellsFrom P) Y₁ (240 - 30 * n) (omega (arith, lY₁, eight, eight-old)) (split .1) d (omega arith)
         go (yes r) =
             let q : 1 ≤ occurrences d B = omega (arith, occurrences-append d Y₁ B, ap (occurrences d) eY) in
-            mv .tail d q ∙ zeroed s P fs (30 * length fs) (omega arith) (h .zeros) d (omega (arith, in-spare d))
+            mv .tail d q ∙ zeroed s (cellsFrom P) fs (30 * length fs) (omega arith) (h .zeros) d (omega (arith, in-spare d))
 
     -- a page's link, with what stands before the cells
     spread-new : Spread final (resize m ys p n)
@@ -296,8 +296,8 @@ module _ (m : Model) (g : Good m) where
       size = new-size;
       fixed = off 0 6 (λ q. omega arith) (λ q. omega arith) (λ q. omega arith) ∙ mv .low 0 6 (omega arith) (λ q. omega arith) (λ q. omega arith)
           ∙ h .fixed;
-      free = linked-same t final P 6 Y 0 (off 6 2 (λ q. omega arith) (λ q. omega arith) (λ q. omega arith))
-          (λ d q. far (cellAt P d) 2 (omega arith)) (mv .rest);
+      free = linked-same t final (cellsFrom P) 6 Y 0 (off 6 2 (λ q. omega arith) (λ q. omega arith) (λ q. omega arith))
+          (λ d q. far (cellAt (cellsFrom P) d) 2 (omega arith)) (mv .rest);
       free-count = new-count;
       gap = off 10 2 (λ q. omega arith) (λ q. omega arith) (λ q. omega arith)
           ∙ mv .low 10 2 (omega arith) (λ q. absurd (omega arith)) (λ q. omega arith) ∙ h .gap;
@@ -305,21 +305,21 @@ module _ (m : Model) (g : Good m) where
       sums = λ q l. sum-at q l (ℕ-discrete q p);
       links = λ q l. link-at q l (ℕ-discrete q p);
       fills = λ q l. fill-at q l (ℕ-discrete q p);
-      zeros = zeros-filled final P Y (30 * length Y) (omega arith) new-zeros;
+      zeros = zeros-filled final (cellsFrom P) Y (30 * length Y) (omega arith) new-zeros;
     }
 
     -- the bytes are those of the changed model
-    pub rewritten-bytes : rewritten s P p k n code (sum (page ys p)) (length ys) ≡ bytesOf (resize m ys p n)
+    pub rewritten-bytes : rewritten s (cellsFrom P) p k n code (sum (page ys p)) (length ys) ≡ bytesOf (resize m ys p n)
     unfolding resize
     rewritten-bytes =
         let g₂ : Good (resize m ys p n) = keep m ys i g o li ly lt ln in
         sym final-is ∙ holds-only final (resize m ys p n) g₂ (spread-holds final (resize m ys p n) (g₂ .rows) spread-new)
 
     -- and what the code asks for holds
-    pub ready : Ready s P p k n code (sum (page ys p)) (length ys)
+    pub ready : Ready s (cellsFrom P) p k n code (sum (page ys p)) (length ys)
     ready = record {
-      pages = g .pages-high;
-      page = lp;
+      low = omega (arith, g .pages-high);
+      page = omega (arith, lp);
       size = omega (arith, size-le);
       long = rw (← lA) long;
       small = omega (arith, page-le ys p);
@@ -327,6 +327,6 @@ module _ (m : Model) (g : Good m) where
       fits = omega (arith, spare-word, spare-is m g, g .cells-high, eight-old);
       own = mv .steps₀;
       both = rw (← lA) (mv .steps₁);
-      kept = subst₂ (λ (a b : ℕ). Steps (filled (joined s P e k) P e a code) P e b) lA lX (mv .steps₂);
+      kept = subst₂ (λ (a b : ℕ). Steps (filled (joined s (cellsFrom P) e k) (cellsFrom P) e a code) (cellsFrom P) e b) lA lX (mv .steps₂);
       enough = omega (arith, spare-word, lJ, fits);
     }

@@ -69,18 +69,18 @@ concat-range C (suc n) f h d q = go (decLe 1 (occurrences d (f 0))) (λ r. conca
     go (no a) r = r (omega (arith, occurrences-append d (f 0) (concat (tabulate n (λ j. f (suc j))))))
 
 -- ---- blocks, from the code that is read
-pub code-filled : (s : List ℕ) (P C : ℕ) (cs code : List ℕ) → 16 + 6 * P + 32 * C ≤ length s → Chain C cs → codeIn s P cs ≡ code → Filled s P cs code
+pub code-filled : (s : List ℕ) (base C : ℕ) (cs code : List ℕ) → base + 32 * C ≤ length s → Chain C cs → codeIn s base cs ≡ code → Filled s base cs code
 unfolding codeIn
-code-filled s P C [] code l j e = tt
-code-filled s P C (c ∷ cs) code l j e =
+code-filled s base C [] code l j e = tt
+code-filled s base C (c ∷ cs) code l j e =
     let w = chain-head C c cs j in
-    let n : length (part s (cellAt P c + 2) 30) ≡ 30 = omega (
+    let n : length (part s (cellAt base c + 2) 30) ≡ 30 = omega (
       arith,
-      length-take 30 (drop (cellAt P c + 2) s),
-      length-drop (cellAt P c + 2) s,
+      length-take 30 (drop (cellAt base c + 2) s),
+      length-drop (cellAt base c + 2) s,
       w .0,
       w .1,
     ) in (
-      sym (take-at (part s (cellAt P c + 2) 30) (codeIn s P cs) 30 n) ∙ ap (take 30) e,
-      code-filled s P C cs (drop 30 code) l (chain-tail j) (sym (drop-at (part s (cellAt P c + 2) 30) (codeIn s P cs) 30 n) ∙ ap (drop 30) e),
+      sym (take-at (part s (cellAt base c + 2) 30) (codeIn s base cs) 30 n) ∙ ap (take 30) e,
+      code-filled s base C cs (drop 30 code) l (chain-tail j) (sym (drop-at (part s (cellAt base c + 2) 30) (codeIn s base cs) 30 n) ∙ ap (drop 30) e),
     )

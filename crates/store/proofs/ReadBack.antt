@@ -7,7 +7,7 @@ use lib.ListN.{length, getD, take, drop, replicate, length-append, length-replic
 use lib.Seq.{take-all, take-take, take-add}
 use Rattle.lists.specs.Lists.{concat, first, occurrences, part, sum, tabulate}
 use Rattle.bits.specs.Numbers.{little, number, numberAt}
-use Rattle.store.specs.Layout.{Model, cellAt, entry, header, lay, layAll, layPages}
+use Rattle.store.specs.Layout.{Model, cellAt, entry, header, lay, layAll, layPages, cellsFrom, entryAt}
 use Rattle.store.specs.PageCode.{cells, pageBytes, pageCounts}
 use Rattle.store.specs.Plain.{page}
 use Rattle.store.specs.Reading.{chainFrom, chainIn, codeIn, pageIn, read, readFor, spareIn, sumIn}
@@ -54,24 +54,24 @@ make-path : (P : ℕ) {C C′ : ℕ} {xs xs′ : List ℕ} {css css′ : List (L
 make-path P a b c d i = make P (a i) (b i) (c i) (d i)
 
 -- the cells of a chain, and its code
-pub walk-is : (s : List ℕ) (P : ℕ) (cs code : List ℕ) → All (λ l. part s (cellAt P (l .cell)) 32 ≡ l .bytes) (lay cs code)
-    → ((c : ℕ) → 1 ≤ occurrences c cs → c < 65536) → chainFrom s P (length cs) (first cs) ≡ cs
+pub walk-is : (s : List ℕ) (base : ℕ) (cs code : List ℕ) → All (λ l. part s (cellAt base (l .cell)) 32 ≡ l .bytes) (lay cs code)
+    → ((c : ℕ) → 1 ≤ occurrences c cs → c < 65536) → chainFrom s base (length cs) (first cs) ≡ cs
 unfolding chainFrom lay first occurrences little
-walk-is s P [] code a h = refl
-walk-is s P (c ∷ cs) code a h =
-    let e : numberAt s (cellAt P c) 2 ≡ first cs =
-    ap number (part-front s (little 2 (first cs) ++ take 30 code) (cellAt P c) 32 2 (a .0) (omega arith))
+walk-is s base [] code a h = refl
+walk-is s base (c ∷ cs) code a h =
+    let e : numberAt s (cellAt base c) 2 ≡ first cs =
+    ap number (part-front s (little 2 (first cs) ++ take 30 code) (cellAt base c) 32 2 (a .0) (omega arith))
     ∙ number-two (first cs) (first-low cs 65536 (omega arith) (λ d q. h d (omega arith))) in
-    ap (λ (z : List ℕ). c ∷ z) (ap (chainFrom s P (length cs)) e ∙ walk-is s P cs (drop 30 code) (a .1) (λ d q. h d (omega arith)))
+    ap (λ (z : List ℕ). c ∷ z) (ap (chainFrom s base (length cs)) e ∙ walk-is s base cs (drop 30 code) (a .1) (λ d q. h d (omega arith)))
 
-pub code-is : (s : List ℕ) (P : ℕ) (cs code : List ℕ) → All (λ l. part s (cellAt P (l .cell)) 32 ≡ l .bytes) (lay cs code)
-    → codeIn s P cs ≡ take (30 * length cs) code
+pub code-is : (s : List ℕ) (base : ℕ) (cs code : List ℕ) → All (λ l. part s (cellAt base (l .cell)) 32 ≡ l .bytes) (lay cs code)
+    → codeIn s base cs ≡ take (30 * length cs) code
 unfolding codeIn lay little
-code-is s P [] code a = refl
-code-is s P (c ∷ cs) code a =
+code-is s base [] code a = refl
+code-is s base (c ∷ cs) code a =
     let e : 30 * suc (length cs) ≡ 30 + 30 * length cs = omega arith in
-    ap₂ _++_ (part-in s (little 2 (first cs) ++ take 30 code) (cellAt P c) 32 2 30 (a .0) (omega arith)
-    ∙ take-take 30 30 code (omega arith)) (code-is s P cs (drop 30 code) (a .1))
+    ap₂ _++_ (part-in s (little 2 (first cs) ++ take 30 code) (cellAt base c) 32 2 30 (a .0) (omega arith)
+    ∙ take-take 30 30 code (omega arith)) (code-is s base cs (drop 30 code) (a .1))
     ∙ sym (ap (λ (z : ℕ). take z code) e ∙ take-add 30 (30 * length cs) code)
 
 module _ (s : List ℕ) (m : Model) (g : Good m) (h : Holds s m) where
@@ -88,17 +88,17 @@ module _ (s : List ℕ) (m : Model) (g : Good m) (h : Holds s m) where
   spare-low c q = on-low c (omega (arith, occurrences-append c (concat (m .chains)) (m .spare)))
 
   chain-laid : (p : ℕ) → p < m .plain .pages
-      → All (λ l. part s (cellAt (m .plain .pages) (l .cell)) 32 ≡ l .bytes) (lay (getD (m .chains) p []) (pageBytes (page (m .plain .counts) p)))
+      → All (λ l. part s (cellAt (cellsFrom (m .plain .pages)) (l .cell)) 32 ≡ l .bytes) (lay (getD (m .chains) p []) (pageBytes (page (m .plain .counts) p)))
   unfolding layAll
   chain-laid p l =
       let e : 0 + p ≡ p = omega arith in
-      rw e at (pages-all (λ l. part s (cellAt (m .plain .pages) (l .cell)) 32 ≡ l .bytes) (m .plain .counts) 0 (m .chains) p (omega (arith, g .rows))
-      (all-left (λ l. part s (cellAt (m .plain .pages) (l .cell)) 32 ≡ l .bytes) (layPages (m .plain .counts) 0 (m .chains))
+      rw e at (pages-all (λ l. part s (cellAt (cellsFrom (m .plain .pages)) (l .cell)) 32 ≡ l .bytes) (m .plain .counts) 0 (m .chains) p (omega (arith, g .rows))
+      (all-left (λ l. part s (cellAt (cellsFrom (m .plain .pages)) (l .cell)) 32 ≡ l .bytes) (layPages (m .plain .counts) 0 (m .chains))
       (lay (m .spare) (replicate (30 * length (m .spare)) 0)) (h .cells)))
 
-  spare-laid : All (λ l. part s (cellAt (m .plain .pages) (l .cell)) 32 ≡ l .bytes) (lay (m .spare) (replicate (30 * length (m .spare)) 0))
+  spare-laid : All (λ l. part s (cellAt (cellsFrom (m .plain .pages)) (l .cell)) 32 ≡ l .bytes) (lay (m .spare) (replicate (30 * length (m .spare)) 0))
   unfolding layAll
-  spare-laid = all-right (λ l. part s (cellAt (m .plain .pages) (l .cell)) 32 ≡ l .bytes) (layPages (m .plain .counts) 0 (m .chains))
+  spare-laid = all-right (λ l. part s (cellAt (cellsFrom (m .plain .pages)) (l .cell)) 32 ≡ l .bytes) (layPages (m .plain .counts) 0 (m .chains))
       (lay (m .spare) (replicate (30 * length (m .spare)) 0)) (h .cells)
 
   -- the fields
@@ -129,31 +129,31 @@ module _ (s : List ℕ) (m : Model) (g : Good m) (h : Holds s m) where
   pub sum-is : (p : ℕ) → p < m .plain .pages → sumIn s p ≡ sum (page (m .plain .counts) p)
   unfolding sumIn entry little
   sum-is p l =
-      ap number (part-front s (entry m p) (16 + 6 * p) 6 4 (h .entries p l) (omega arith))
+      ap number (part-front s (entry m p) (entryAt p) 6 4 (h .entries p l) (omega arith))
       ∙ number-four (sum (page (m .plain .counts) p)) (omega (arith, page-le (m .plain .counts) p, g .total))
 
-  pub chain-first : (p : ℕ) → p < m .plain .pages → numberAt s (16 + 6 * p + 4) 2 ≡ first (getD (m .chains) p [])
+  pub chain-first : (p : ℕ) → p < m .plain .pages → numberAt s (entryAt p + 4) 2 ≡ first (getD (m .chains) p [])
   unfolding entry little
   chain-first p l =
-      ap number (part-in s (entry m p) (16 + 6 * p) 6 4 2 (h .entries p l) (omega arith))
+      ap number (part-in s (entry m p) (entryAt p) 6 4 2 (h .entries p l) (omega arith))
       ∙ number-two (first (getD (m .chains) p [])) (first-low (getD (m .chains) p []) 65536 (omega arith) (chain-low p l))
 
   pub chain-is : (p : ℕ) → p < m .plain .pages → chainIn s (m .plain .pages) p ≡ getD (m .chains) p []
   unfolding chainIn
   chain-is p l =
-      ap₂ (chainFrom s (m .plain .pages)) (ap cells (sum-is p l) ∙ sym (g .lengths p l)) (chain-first p l)
-      ∙ walk-is s (m .plain .pages) (getD (m .chains) p []) (pageBytes (page (m .plain .counts) p)) (chain-laid p l) (chain-low p l)
+      ap₂ (chainFrom s (cellsFrom (m .plain .pages))) (ap cells (sum-is p l) ∙ sym (g .lengths p l)) (chain-first p l)
+      ∙ walk-is s (cellsFrom (m .plain .pages)) (getD (m .chains) p []) (pageBytes (page (m .plain .counts) p)) (chain-laid p l) (chain-low p l)
 
-  pub code-in : (p : ℕ) → p < m .plain .pages → codeIn s (m .plain .pages) (chainIn s (m .plain .pages) p) ≡ pageBytes (page (m .plain .counts) p)
+  pub code-in : (p : ℕ) → p < m .plain .pages → codeIn s (cellsFrom (m .plain .pages)) (chainIn s (m .plain .pages) p) ≡ pageBytes (page (m .plain .counts) p)
   code-in p l =
       let x : List ℕ = page (m .plain .counts) p in
-      ap (codeIn s (m .plain .pages)) (chain-is p l)
-      ∙ code-is s (m .plain .pages) (getD (m .chains) p []) (pageBytes x) (chain-laid p l)
+      ap (codeIn s (cellsFrom (m .plain .pages))) (chain-is p l)
+      ∙ code-is s (cellsFrom (m .plain .pages)) (getD (m .chains) p []) (pageBytes x) (chain-laid p l)
       ∙ take-all (30 * length (getD (m .chains) p [])) (pageBytes x) (omega (arith, length-page x, g .lengths p l))
 
-  pub spare-in : codeIn s (m .plain .pages) (m .spare) ≡ replicate (30 * length (m .spare)) 0
+  pub spare-in : codeIn s (cellsFrom (m .plain .pages)) (m .spare) ≡ replicate (30 * length (m .spare)) 0
   spare-in =
-      code-is s (m .plain .pages) (m .spare) (replicate (30 * length (m .spare)) 0) spare-laid
+      code-is s (cellsFrom (m .plain .pages)) (m .spare) (replicate (30 * length (m .spare)) 0) spare-laid
       ∙ take-all (30 * length (m .spare)) (replicate (30 * length (m .spare)) 0) (omega (arith, length-replicate {A = ℕ} (30 * length (m .spare)) 0))
 
   pub page-is : (p : ℕ) → p < m .plain .pages → pageIn s (m .plain .pages) p ≡ page (m .plain .counts) p
@@ -173,4 +173,4 @@ module _ (s : List ℕ) (m : Model) (g : Good m) (h : Holds s m) where
       (ap₂ take hours-is (ap concat (tabulate-ext P (pageIn s P) (page (m .plain .counts)) page-is)) ∙ counts-back P (m .plain .counts) (g .hours))
       (tabulate-ext P (chainIn s P) (λ p. getD (m .chains) p []) chain-is ∙ ap (λ (z : ℕ). tabulate z (λ p. getD (m .chains) p [])) (sym (g .rows))
       ∙ tabulate-getD (m .chains) [])
-      (ap₂ (chainFrom s P) spare-count first-is ∙ walk-is s P (m .spare) (replicate (30 * length (m .spare)) 0) spare-laid spare-low)
+      (ap₂ (chainFrom s (cellsFrom P)) spare-count first-is ∙ walk-is s (cellsFrom P) (m .spare) (replicate (30 * length (m .spare)) 0) spare-laid spare-low)

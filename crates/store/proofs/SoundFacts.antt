@@ -8,7 +8,7 @@ use lib.ListN.{length}
 use Rattle.lists.specs.Lists.{sum}
 use Rattle.bits.specs.Numbers.{numberAt}
 use Rattle.store.specs.Plain.{need, page}
-use Rattle.store.specs.Layout.{Model, bytesOf, entryAt}
+use Rattle.store.specs.Layout.{Model, bytesOf, entryAt, size}
 use Rattle.store.specs.Reading.{read, readFor, sumIn}
 use Rattle.store.specs.Sound.{Good, sound}
 use Rattle.store.proofs.Holds.{Holds, holds-bytes}
@@ -25,7 +25,7 @@ pub record Facts (s : List ℕ) : Type 0 where
   pub cells-are : numberAt s 4 2 ≡ read s .plain .cells
   pub free-is : numberAt s 8 2 ≡ length (read s .spare)
   pub hours-are : numberAt s 12 4 ≡ length (read s .plain .counts)
-  pub long : length s ≡ 16 + 6 * numberAt s 2 2 + 32 * numberAt s 4 2
+  pub long : length s ≡ size (numberAt s 2 2) (numberAt s 4 2)
   pub pages-low : 1 ≤ numberAt s 2 2
   pub pages-high : numberAt s 2 2 ≤ 1024
   pub cells-low : 1 ≤ numberAt s 4 2

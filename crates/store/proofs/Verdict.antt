@@ -11,7 +11,7 @@ use borrow.Author.Tests.{le-leb, leb-true, eq-eqb, eqb-true}
 use Rattle.lists.specs.Lists.{concat, every, occurrences, part, same, sum, tabulate}
 use Rattle.bits.specs.Numbers.{little, numberAt}
 use Rattle.bits.proofs.Little.{stored}
-use Rattle.store.specs.Layout.{Model, bytesOf, header}
+use Rattle.store.specs.Layout.{Model, bytesOf, header, size, cellsFrom, entryAt}
 use Rattle.store.specs.PageCode.{cells, pageBytes}
 use Rattle.store.specs.Plain.{need, page}
 use Rattle.store.specs.Reading.{chainFrom, chainIn, codeIn, pageIn, read, readFor, spareIn, sumIn}
@@ -58,7 +58,7 @@ pub record Headed (s : List ℕ) : Type 0 where
   pub pages-high : numberAt s 2 2 ≤ 1024
   pub cells-low : 1 ≤ numberAt s 4 2
   pub cells-high : numberAt s 4 2 ≤ 1800
-  pub size : length s ≡ 16 + 6 * numberAt s 2 2 + 32 * numberAt s 4 2
+  pub size : length s ≡ size (numberAt s 2 2) (numberAt s 4 2)
   pub hours : numberAt s 12 4 ≤ 64 * numberAt s 2 2
   pub total : sum (tabulate (numberAt s 2 2) (sumIn s)) ≤ 4294967295
 
@@ -87,14 +87,14 @@ head-each s h = (
 -- the pages' chains, then the free one
 unfoldable pub chainsWalk : List ℕ → Walk
 chainsWalk s = and-then (checkPages s (numberAt s 2 2) (numberAt s 4 2) (numberAt s 12 4) (numberAt s 2 2) 0 (replicate 1801 0))
-    (λ m. walkMarks s (numberAt s 2 2) (numberAt s 4 2) (numberAt s 8 2) m 6)
+    (λ m. walkMarks s (cellsFrom (numberAt s 2 2)) (numberAt s 4 2) (numberAt s 8 2) m 6)
 
 -- every cell is marked, and the free cells are clear
 unfoldable pub endTests : List ℕ → List ℕ → List Bool
 endTests s m =
     same (tabulate (numberAt s 4 2) (λ j. getD m (suc j) 0)) (replicate (numberAt s 4 2) 1)
     ∷ eqb (sum (tabulate (numberAt s 2 2) (λ p. cells (sumIn s p))) + numberAt s 8 2) (numberAt s 4 2)
-    ∷ same (codeIn s (numberAt s 2 2) (chainFrom s (numberAt s 2 2) (numberAt s 8 2) (numberAt s 6 2))) (replicate (30 * numberAt s 8 2) 0)
+    ∷ same (codeIn s (cellsFrom (numberAt s 2 2)) (chainFrom s (cellsFrom (numberAt s 2 2)) (numberAt s 8 2) (numberAt s 6 2))) (replicate (30 * numberAt s 8 2) 0)
     ∷ []
 
 unfoldable pub checked : List ℕ → Bool
@@ -111,7 +111,7 @@ module _ (s : List ℕ) (bytes : (i : ℕ) → getD s i 0 < 256) where
   N = numberAt s 12 4
 
   abbrev F : List ℕ
-  F = chainFrom s P (numberAt s 8 2) (numberAt s 6 2)
+  F = chainFrom s (cellsFrom P) (numberAt s 8 2) (numberAt s 6 2)
 
   abbrev chains : List (List ℕ)
   chains = tabulate P (chainIn s P)
@@ -122,10 +122,10 @@ module _ (s : List ℕ) (bytes : (i : ℕ) → getD s i 0 < 256) where
     pub page-good : (p : ℕ) → p < P → PageGood s P C N p
     pub free-long : length F ≡ numberAt s 8 2
     pub free-chain : Chain C F
-    pub free-linked : Linked s P 6 F 0
+    pub free-linked : Linked s (cellsFrom P) 6 F 0
     pub marks-of : (j : ℕ) → j < C → occurrences (suc j) (concat chains ++ F) ≡ 1
     pub number : sum (tabulate P (λ p. cells (sumIn s p))) + numberAt s 8 2 ≡ C
-    pub clear : codeIn s P F ≡ replicate (30 * numberAt s 8 2) 0
+    pub clear : codeIn s (cellsFrom P) F ≡ replicate (30 * numberAt s 8 2) 0
 
   pages-are : concat (pagesOf s P 0 P) ≡ concat chains
   pages-are = ap concat (tabulate-ext P (λ j. chainIn s P (0 + j)) (chainIn s P) (λ j _. ap (chainIn s P) {x = 0 + j} {y = j} (omega arith)))
@@ -138,12 +138,12 @@ module _ (s : List ℕ) (bytes : (i : ℕ) → getD s i 0 < 256) where
       (right (every (headTests s)) (ends-well (chainsWalk s) (λ m. every (endTests s m))) e) in
       let lP : P ≤ 1024 = leb-true P 1024 (hd .1 .1 .1 .1 .0) in
       let lC : C ≤ 1800 = leb-true C 1800 (hd .1 .1 .1 .1 .1 .1 .0) in
-      let sz : 16 + 6 * P + 32 * C ≤ length s = omega (arith, eqb-true (length s) (16 + 6 * P + 32 * C) (hd .1 .1 .1 .1 .1 .1 .1 .0)) in
-      let t = goes-then (checkPages s P C N P 0 (replicate 1801 0)) (λ m. walkMarks s P C (numberAt s 8 2) m 6) (w .0) (w .1) in
+      let sz : size P C ≤ length s = omega (arith, eqb-true (length s) (size P C) (hd .1 .1 .1 .1 .1 .1 .1 .0)) in
+      let t = goes-then (checkPages s P C N P 0 (replicate 1801 0)) (λ m. walkMarks s (cellsFrom P) C (numberAt s 8 2) m 6) (w .0) (w .1) in
       let lz : C < length (replicate {A = ℕ} 1801 0) = omega (arith, length-replicate {A = ℕ} 1801 0) in
       let g = pages-good s P C N lC lP bytes sz P 0 (replicate 1801 0) (t .0) [] (omega arith) lz (zeros-marked C) (t .1) in
       let l₁ : C < length (t .0) = omega (arith, g .length-marks) in
-      let f = walked s P C lC bytes sz (numberAt s 8 2) (t .0) (w .0) 6 l₁ (omega arith) (t .2) in
+      let f = walked s (cellsFrom P) C lC bytes sz (numberAt s 8 2) (t .0) (w .0) 6 l₁ (omega arith) (t .2) in
       let k : Marked C (w .0) (concat (pagesOf s P 0 P) ++ F) = rw (f .marked)
       (marks C F (t .0) (concat (pagesOf s P 0 P)) l₁ (f .chain) (f .unmarked) (g .marked)) in
       let ed = each (endTests s (w .0)) (w .2) in
@@ -156,7 +156,7 @@ module _ (s : List ℕ) (bytes : (i : ℕ) → getD s i 0 < 256) where
         marks-of = λ j l. ap (λ (z : List ℕ). occurrences (suc j) (z ++ F)) (sym pages-are) ∙ sym (k (suc j) (omega arith))
             ∙ same-ones C (λ j. getD (w .0) (suc j) 0) (ed .0) j l;
         number = eqb-true (sum (tabulate P (λ p. cells (sumIn s p))) + numberAt s 8 2) C (ed .1 .0);
-        clear = same-is (codeIn s P F) (replicate (30 * numberAt s 8 2) 0) (ed .1 .1 .0);
+        clear = same-is (codeIn s (cellsFrom P) F) (replicate (30 * numberAt s 8 2) 0) (ed .1 .1 .0);
       }
 
   -- it is a good model, and these bytes hold it
@@ -168,7 +168,7 @@ module _ (s : List ℕ) (bytes : (i : ℕ) → getD s i 0 < 256) where
     m = readFor s P
 
     head-facts : (16 ≤ length s) × (part s 0 2 ≡ 1 ∷ 0 ∷ []) × (part s 10 2 ≡ 0 ∷ 0 ∷ []) × (1 ≤ P) × (P ≤ 1024) × (1 ≤ C) × (C ≤ 1800)
-        × (length s ≡ 16 + 6 * P + 32 * C) × (N ≤ 64 * P) × (sum (tabulate P (sumIn s)) ≤ 4294967295)
+        × (length s ≡ size P C) × (N ≤ 64 * P) × (sum (tabulate P (sumIn s)) ≤ 4294967295)
     unfolding headTests
     head-facts =
         let h = f .head in (
@@ -179,13 +179,13 @@ module _ (s : List ℕ) (bytes : (i : ℕ) → getD s i 0 < 256) where
           leb-true P 1024 (h .1 .1 .1 .1 .0),
           leb-true 1 C (h .1 .1 .1 .1 .1 .0),
           leb-true C 1800 (h .1 .1 .1 .1 .1 .1 .0),
-          eqb-true (length s) (16 + 6 * P + 32 * C) (h .1 .1 .1 .1 .1 .1 .1 .0),
+          eqb-true (length s) (size P C) (h .1 .1 .1 .1 .1 .1 .1 .0),
           leb-true N (64 * P) (h .1 .1 .1 .1 .1 .1 .1 .1 .0),
           leb-true (sum (tabulate P (sumIn s))) 4294967295 (h .1 .1 .1 .1 .1 .1 .1 .1 .1 .0),
         )
 
     page-facts : (p : ℕ) → p < P
-        → (length (pageIn s P p) ≡ 64) × (sum (pageIn s P p) ≡ sumIn s p) × (codeIn s P (chainIn s P p) ≡ pageBytes (pageIn s P p))
+        → (length (pageIn s P p) ≡ 64) × (sum (pageIn s P p) ≡ sumIn s p) × (codeIn s (cellsFrom P) (chainIn s P p) ≡ pageBytes (pageIn s P p))
         × (pageIn s P p ≡ quiet N p (pageIn s P p))
     unfolding pageTests
     page-facts p l =
@@ -253,9 +253,9 @@ module _ (s : List ℕ) (bytes : (i : ℕ) → getD s i 0 < 256) where
       links = λ q l. rw (getD-tabulate P (chainIn s P) q [] l) (f .page-good q l .linked);
       fills = λ q l.
           rw (getD-tabulate P (chainIn s P) q [] l)
-          (code-filled s P C (chainIn s P q) (pageBytes (page (take N (concat (tabulate P (pageIn s P)))) q)) (omega (arith, head-facts .7))
+          (code-filled s (cellsFrom P) C (chainIn s P q) (pageBytes (page (take N (concat (tabulate P (pageIn s P)))) q)) (omega (arith, head-facts .7))
           (f .page-good q l .chain) (page-facts q l .2 ∙ ap pageBytes (sym (counts-page q l))));
-      zeros = code-filled s P C F (replicate (30 * length F) 0) (omega (arith, head-facts .7)) (f .free-chain) (f .clear
+      zeros = code-filled s (cellsFrom P) C F (replicate (30 * length F) 0) (omega (arith, head-facts .7)) (f .free-chain) (f .clear
           ∙ ap (λ (z : ℕ). replicate (30 * z) 0) (sym (f .free-long)));
     }
       where
@@ -263,10 +263,10 @@ module _ (s : List ℕ) (bytes : (i : ℕ) → getD s i 0 < 256) where
         fixed = part-two s 0 4 2 _ _ (part-two s 0 2 2 _ _ (head-facts .1) (stored s bytes 2 2 (omega (arith, head-facts .0))))
             (stored s bytes 4 2 (omega (arith, head-facts .0)))
 
-        sum-part : (q : ℕ) → q < P → part s (16 + 6 * q) 4 ≡ little 4 (sum (page (take N (concat (tabulate P (pageIn s P)))) q))
-        sum-part q l = stored s bytes (16 + 6 * q) 4 (omega (arith, head-facts .7)) ∙ ap (little 4) (sum-of q l)
+        sum-part : (q : ℕ) → q < P → part s (entryAt q) 4 ≡ little 4 (sum (page (take N (concat (tabulate P (pageIn s P)))) q))
+        sum-part q l = stored s bytes (entryAt q) 4 (omega (arith, head-facts .7)) ∙ ap (little 4) (sum-of q l)
           where
-            sum-of : (q : ℕ) → q < P → numberAt s (16 + 6 * q) 4 ≡ sum (page (take N (concat (tabulate P (pageIn s P)))) q)
+            sum-of : (q : ℕ) → q < P → numberAt s (entryAt q) 4 ≡ sum (page (take N (concat (tabulate P (pageIn s P)))) q)
             sum-of q l = sym (page-facts q l .1) ∙ ap sum (sym (counts-page q l))
 
     pub says-sound : sound s ≡ true
@@ -339,7 +339,7 @@ module _ (s : List ℕ) (bytes : (i : ℕ) → getD s i 0 < 256) where
     abbrev Z : List ℕ
     Z = replicate 1801 0
 
-    size-fits : 16 + 6 * P + 32 * C ≤ length s
+    size-fits : size P C ≤ length s
     unfolding readFor spareIn
     size-fits = omega (arith, h .size)
 
@@ -361,7 +361,7 @@ module _ (s : List ℕ) (bytes : (i : ℕ) → getD s i 0 < 256) where
     spare-chain : Chain C F
     spare-chain = chain-sub F (λ d. omega arith)
 
-    spare-linked : Linked s P 6 F 0
+    spare-linked : Linked s (cellsFrom P) 6 F 0
     unfolding readFor spareIn
     spare-linked = sp .free
 
@@ -374,10 +374,10 @@ module _ (s : List ℕ) (bytes : (i : ℕ) → getD s i 0 < 256) where
     walk-is : chainsWalk s ≡ whole last-marks
     unfolding chainsWalk last-marks
     walk-is =
-        ap (λ (z : Walk). and-then z (λ m. walkMarks s P C (numberAt s 8 2) m 6)) (through .1)
-        ∙ then-whole (through .0) (λ m. walkMarks s P C (numberAt s 8 2) m 6)
-        ∙ ap (λ (z : ℕ). walkMarks s P C z (through .0) 6) (sym long-eq)
-        ∙ walk-through s P C cells-small F (through .0) 6 spare-chain spare-linked free-new
+        ap (λ (z : Walk). and-then z (λ m. walkMarks s (cellsFrom P) C (numberAt s 8 2) m 6)) (through .1)
+        ∙ then-whole (through .0) (λ m. walkMarks s (cellsFrom P) C (numberAt s 8 2) m 6)
+        ∙ ap (λ (z : ℕ). walkMarks s (cellsFrom P) C z (through .0) 6) (sym long-eq)
+        ∙ walk-through s (cellsFrom P) C cells-small F (through .0) 6 spare-chain spare-linked free-new
 
     last-marked : Marked C last-marks (concat (pagesOf s P 0 P) ++ F)
     unfolding last-marks
@@ -392,7 +392,7 @@ module _ (s : List ℕ) (bytes : (i : ℕ) → getD s i 0 < 256) where
         (tabulate-ext P (λ p. cells (sumIn s p)) (λ p. cells (sum (page xs p))) (λ p l. ap cells (sum-eq p l)))
         ∙ omega (arith, spare-is (readFor s P) g, long-eq)
 
-    clear-is : codeIn s P F ≡ replicate (30 * numberAt s 8 2) 0
+    clear-is : codeIn s (cellsFrom P) F ≡ replicate (30 * numberAt s 8 2) 0
     unfolding readFor spareIn
     clear-is = spare-in s (readFor s P) g h ∙ ap (λ (z : ℕ). replicate (30 * z) 0) long-eq
 

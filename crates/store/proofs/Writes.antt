@@ -65,13 +65,13 @@ put-same s a w x h = rw length-little at (sets-same (little w x) s a (rw length-
 
 -- ---- chains of links: from the link at a through cs, the last of which holds x
 abbrev pub Linked : List ℕ → ℕ → ℕ → List ℕ → ℕ → Type 0
-Linked s P a [] x = part s a 2 ≡ little 2 x
-Linked s P a (c ∷ cs) x = (part s a 2 ≡ little 2 c) × Linked s P (cellAt P c) cs x
+Linked s base a [] x = part s a 2 ≡ little 2 x
+Linked s base a (c ∷ cs) x = (part s a 2 ≡ little 2 c) × Linked s base (cellAt base c) cs x
 
 -- the last link
 unfoldable pub endOf : ℕ → ℕ → List ℕ → ℕ
-endOf P a [] = a
-endOf P a (c ∷ cs) = endOf P (cellAt P c) cs
+endOf base a [] = a
+endOf base a (c ∷ cs) = endOf base (cellAt base c) cs
 
 -- the cells of a chain, none of them twice
 pub record Chain (C : ℕ) (cs : List ℕ) : Type 0 where
@@ -79,13 +79,13 @@ pub record Chain (C : ℕ) (cs : List ℕ) : Type 0 where
   pub from : (d : ℕ) → 1 ≤ occurrences d cs → 1 ≤ d
   pub upto : (d : ℕ) → 1 ≤ occurrences d cs → d ≤ C
 
-pub cells-apart : (P c d m n : ℕ) → 1 ≤ c → 1 ≤ d → (d ≡ c → ⊥) → m ≤ 32 → n ≤ 32 → Apart (cellAt P c) m (cellAt P d) n
-cells-apart P c d m n p q ne i j h = go (decLe d c)
+pub cells-apart : (base c d m n : ℕ) → 1 ≤ c → 1 ≤ d → (d ≡ c → ⊥) → m ≤ 32 → n ≤ 32 → Apart (cellAt base c) m (cellAt base d) n
+cells-apart base c d m n p q ne i j h = go (decLe d c)
   where
-    go : Dec (d ≤ c) → cellAt P d + n ≤ cellAt P c
+    go : Dec (d ≤ c) → cellAt base d + n ≤ cellAt base c
     go (yes l) = go₂ (ℕ-discrete d c) l
       where
-        go₂ : Dec (d ≡ c) → d ≤ c → cellAt P d + n ≤ cellAt P c
+        go₂ : Dec (d ≡ c) → d ≤ c → cellAt base d + n ≤ cellAt base c
         go₂ (yes e) l = absurd (ne e)
         go₂ (no e) l = omega arith
     go (no l) = absurd (omega arith)

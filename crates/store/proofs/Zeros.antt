@@ -12,34 +12,34 @@ use Rattle.lists.proofs.Occurrences.{one-other, one-same}
 use Rattle.lists.proofs.Zeros.{drop-zeros, take-zeros}
 use Rattle.store.proofs.Filling.{Filled}
 
-pub filled-split : (s : List ℕ) (P : ℕ) (xs ys u v : List ℕ) → length u ≡ 30 * length xs → Filled s P (xs ++ ys) (u ++ v)
-    → Filled s P xs u × Filled s P ys v
-filled-split s P [] ys [] v e h = (tt, h)
-filled-split s P [] ys (x ∷ u) v e h = absurd (omega (arith, e))
-filled-split s P (x ∷ xs) ys u v e h =
-    let w = filled-split s P xs ys (drop 30 u) v (omega (arith, length-drop 30 u)) (rw (drop-append-le 30 u v (omega arith)) at (h .1)) in
+pub filled-split : (s : List ℕ) (base : ℕ) (xs ys u v : List ℕ) → length u ≡ 30 * length xs → Filled s base (xs ++ ys) (u ++ v)
+    → Filled s base xs u × Filled s base ys v
+filled-split s base [] ys [] v e h = (tt, h)
+filled-split s base [] ys (x ∷ u) v e h = absurd (omega (arith, e))
+filled-split s base (x ∷ xs) ys u v e h =
+    let w = filled-split s base xs ys (drop 30 u) v (omega (arith, length-drop 30 u)) (rw (drop-append-le 30 u v (omega arith)) at (h .1)) in
     ((h .0 ∙ take-append-le 30 u v (omega arith), w .0), w .1)
 
 abbrev pub Zeroed : List ℕ → ℕ → List ℕ → Type 0
-Zeroed s P cs = (d : ℕ) → 1 ≤ occurrences d cs → part s (cellAt P d + 2) 30 ≡ replicate 30 0
+Zeroed s base cs = (d : ℕ) → 1 ≤ occurrences d cs → part s (cellAt base d + 2) 30 ≡ replicate 30 0
 
-pub zeroed : (s : List ℕ) (P : ℕ) (cs : List ℕ) (n : ℕ) → 30 * length cs ≤ n → Filled s P cs (replicate n 0) → Zeroed s P cs
+pub zeroed : (s : List ℕ) (base : ℕ) (cs : List ℕ) (n : ℕ) → 30 * length cs ≤ n → Filled s base cs (replicate n 0) → Zeroed s base cs
 unfolding occurrences
-zeroed s P [] n l h d q = absurd (omega arith)
-zeroed s P (c ∷ cs) n l h d q = go (ℕ-discrete d c)
-    (λ r. zeroed s P cs (n - 30) (omega arith) (rw (drop-zeros n 30) at (h .1)) d r)
+zeroed s base [] n l h d q = absurd (omega arith)
+zeroed s base (c ∷ cs) n l h d q = go (ℕ-discrete d c)
+    (λ r. zeroed s base cs (n - 30) (omega arith) (rw (drop-zeros n 30) at (h .1)) d r)
   where
-    go : Dec (d ≡ c) → (1 ≤ occurrences d cs → part s (cellAt P d + 2) 30 ≡ replicate 30 0) → part s (cellAt P d + 2) 30 ≡ replicate 30 0
+    go : Dec (d ≡ c) → (1 ≤ occurrences d cs → part s (cellAt base d + 2) 30 ≡ replicate 30 0) → part s (cellAt base d + 2) 30 ≡ replicate 30 0
     go (yes e) r = rw e (h .0 ∙ take-zeros n 30 (omega arith))
     go (no e) r = r (omega (arith, one-other d c e))
 
-pub zeros-filled : (s : List ℕ) (P : ℕ) (cs : List ℕ) (n : ℕ) → 30 * length cs ≤ n → Zeroed s P cs → Filled s P cs (replicate n 0)
+pub zeros-filled : (s : List ℕ) (base : ℕ) (cs : List ℕ) (n : ℕ) → 30 * length cs ≤ n → Zeroed s base cs → Filled s base cs (replicate n 0)
 unfolding occurrences
-zeros-filled s P [] n l h = tt
-zeros-filled s P (c ∷ cs) n l h = (
+zeros-filled s base [] n l h = tt
+zeros-filled s base (c ∷ cs) n l h = (
   h c (omega (arith, one-same c))
       ∙ sym (take-zeros n 30 (omega arith)),
-  rw (drop-zeros n 30) (zeros-filled s P cs (n - 30) (omega arith) (λ d q. h d (omega arith))),
+  rw (drop-zeros n 30) (zeros-filled s base cs (n - 30) (omega arith) (λ d q. h d (omega arith))),
 )
 
 -- a list whose elements were all made 0

@@ -7,7 +7,7 @@ use lib.ListN.{length, getD, set}
 use lib.Dec.{leb, ltb, eqb}
 use Rattle.lists.specs.Lists.{every, part, pick, same, sum, tabulate}
 use Rattle.bits.specs.Numbers.{numberAt}
-use Rattle.store.specs.Layout.{cellAt}
+use Rattle.store.specs.Layout.{cellAt, cellsFrom, entryAt, size}
 use Rattle.store.specs.PageCode.{cells, pageBytes}
 use Rattle.store.specs.Reading.{chainIn, codeIn, pageIn, sumIn}
 
@@ -28,10 +28,10 @@ and-then broken f = broken
 -- 'marks each cell once and ends at the first broken chain': k cells from the link at a on, each of them a cell without a mark; then the
 -- chain ends
 unfoldable pub walkMarks : List ℕ → ℕ → ℕ → ℕ → List ℕ → ℕ → Walk
-walkMarks s P C zero m a = go-on (eqb (numberAt s a 2) 0) (whole m)
-walkMarks s P C (suc k) m a =
+walkMarks s base C zero m a = go-on (eqb (numberAt s a 2) 0) (whole m)
+walkMarks s base C (suc k) m a =
     go-on (leb 1 (numberAt s a 2) && (leb (numberAt s a 2) C && eqb (getD m (numberAt s a 2) 0) 0))
-    (walkMarks s P C k (set m (numberAt s a 2) 1) (cellAt P (numberAt s a 2)))
+    (walkMarks s base C k (set m (numberAt s a 2) 1) (cellAt base (numberAt s a 2)))
 
 -- the counts of page p, zero from hour N on
 abbrev pub quiet : ℕ → ℕ → List ℕ → List ℕ
@@ -42,7 +42,7 @@ unfoldable pub pageTests : List ℕ → ℕ → ℕ → ℕ → List Bool
 pageTests s P N p =
     eqb (length (pageIn s P p)) 64
     ∷ eqb (sum (pageIn s P p)) (sumIn s p)
-    ∷ same (codeIn s P (chainIn s P p)) (pageBytes (pageIn s P p))
+    ∷ same (codeIn s (cellsFrom P) (chainIn s P p)) (pageBytes (pageIn s P p))
     ∷ same (pageIn s P p) (quiet N p (pageIn s P p))
     ∷ []
 
@@ -50,7 +50,7 @@ pageTests s P N p =
 unfoldable pub checkPages : List ℕ → ℕ → ℕ → ℕ → ℕ → ℕ → List ℕ → Walk
 checkPages s P C N zero p m = whole m
 checkPages s P C N (suc n) p m =
-    and-then (walkMarks s P C (cells (sumIn s p)) m (16 + 6 * p + 4)) (λ m′. go-on (every (pageTests s P N p)) (checkPages s P C N n (suc p) m′))
+    and-then (walkMarks s (cellsFrom P) C (cells (sumIn s p)) m (entryAt p + 4)) (λ m′. go-on (every (pageTests s P N p)) (checkPages s P C N n (suc p) m′))
 
 -- what a walk's marks say; a walk that broke off says no
 unfoldable pub ends-well : Walk → (List ℕ → Bool) → Bool
@@ -67,7 +67,7 @@ headTests s =
     ∷ leb (numberAt s 2 2) 1024
     ∷ leb 1 (numberAt s 4 2)
     ∷ leb (numberAt s 4 2) 1800
-    ∷ eqb (length s) (16 + 6 * numberAt s 2 2 + 32 * numberAt s 4 2)
+    ∷ eqb (length s) (size (numberAt s 2 2) (numberAt s 4 2))
     ∷ leb (numberAt s 12 4) (64 * numberAt s 2 2)
     ∷ leb (sum (tabulate (numberAt s 2 2) (sumIn s))) 4294967295
     ∷ []

@@ -44,5 +44,5 @@ pub record Headed (s : List ℕ) (h : Header) (t : List ℕ) : Type 0 where
 
 -- each of the cells 1 to k linked to the next
 unfoldable pub chained : List ℕ → ℕ → ℕ → List ℕ
-chained s P zero = s
-chained s P (suc k) = put (chained s P k) (cellAt P (suc k)) 2 (suc k + 1)
+chained s base zero = s
+chained s base (suc k) = put (chained s base k) (cellAt base (suc k)) 2 (suc k + 1)

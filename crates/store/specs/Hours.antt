@@ -9,7 +9,7 @@ use Rattle.lists.specs.Lists.{pick}
 use Rattle.bits.specs.Numbers.{numberAt}
 use Rattle.store.specs.PageCode.{cells}
 use Rattle.store.specs.Plain.{Answer, Outcome, change}
-use Rattle.store.specs.Layout.{bytesOf}
+use Rattle.store.specs.Layout.{bytesOf, cellsFrom}
 use Rattle.store.specs.Reading.{read, sumIn}
 use Rattle.store.specs.Sound.{sound}
 use Rattle.store.specs.Call.{apply}
@@ -20,11 +20,11 @@ pub record Asked (s : List ℕ) (i : ℕ) : Type 0 where
   pub inside : i < 64 * numberAt s 2 2
   pub reached : i ≤ length (read s .plain .counts)
 
--- page p of a sound store of P pages: its sum, and its cells
-pub record OfPage (s : List ℕ) (P p sum k : ℕ) : Type 0 where
+-- page p of a sound store, whose cells start at base: its sum, and its cells
+pub record OfPage (s : List ℕ) (base p sum k : ℕ) : Type 0 where
   pub is-sound : sound s ≡ true
-  pub pages-is : P ≡ numberAt s 2 2
-  pub inside : p < P
+  pub base-is : base ≡ cellsFrom (numberAt s 2 2)
+  pub inside : p < numberAt s 2 2
   pub sum-is : sum ≡ sumIn s p
   pub cells-is : k ≡ cells sum
 

@@ -7,7 +7,7 @@ use lib.ListN.{length, getD, replicate}
 use Rattle.lists.specs.Lists.{concat, occurrences, part, sum, tabulate}
 use Rattle.bits.specs.Numbers.{numberAt}
 use Rattle.store.specs.PageCode.{pageBytes}
-use Rattle.store.specs.Layout.{size}
+use Rattle.store.specs.Layout.{cellsFrom, size}
 use Rattle.store.specs.Reading.{Runs, chainIn, codeIn, firstIn, pageIn, spareIn, sumIn}
 use Rattle.store.specs.Sound.{isCell}
 
@@ -37,15 +37,15 @@ pub record Items (s : List ℕ) : Type 0 where
   pub edition : part s 0 2 ≡ 1 ∷ 0 ∷ []
   pub gap : part s 10 2 ≡ 0 ∷ 0 ∷ []
   -- 'A page of sum s has ceil(R(64, s) / 240) cells, none for sum 0': the chain of so many cells runs from the first cell to its end
-  pub page-chain : (p : ℕ) → p < pagesOf s → Runs s (pagesOf s) (firstIn s p) (chainIn s (pagesOf s) p)
+  pub page-chain : (p : ℕ) → p < pagesOf s → Runs s (cellsFrom (pagesOf s)) (firstIn s p) (chainIn s (pagesOf s) p)
   -- 'Its code runs along its chain, unused bits zero': it is the code of the counts that it says, and these have the page's sum
-  pub page-code : (p : ℕ) → p < pagesOf s → codeIn s (pagesOf s) (chainIn s (pagesOf s) p) ≡ pageBytes (pageIn s (pagesOf s) p)
+  pub page-code : (p : ℕ) → p < pagesOf s → codeIn s (cellsFrom (pagesOf s)) (chainIn s (pagesOf s) p) ≡ pageBytes (pageIn s (pagesOf s) p)
   pub page-sum : (p : ℕ) → p < pagesOf s → sum (pageIn s (pagesOf s) p) ≡ sumIn s p
   -- 'Hours from N on are zero'
   pub beyond : (p j : ℕ) → p < pagesOf s → j < 64 → hoursOf s ≤ 64 * p + j → getD (pageIn s (pagesOf s) p) j 0 ≡ 0
   -- 'first free cell', 'number of free cells': the free chain of so many cells runs to its end; 'Free cells hold 30 zero bytes'
-  pub free-chain : Runs s (pagesOf s) (numberAt s 6 2) (spareIn s (pagesOf s))
-  pub free-clear : codeIn s (pagesOf s) (spareIn s (pagesOf s)) ≡ replicate (30 * numberAt s 8 2) 0
+  pub free-chain : Runs s (cellsFrom (pagesOf s)) (numberAt s 6 2) (spareIn s (pagesOf s))
+  pub free-clear : codeIn s (cellsFrom (pagesOf s)) (spareIn s (pagesOf s)) ≡ replicate (30 * numberAt s 8 2) 0
   -- 'N ≤ 64P, the total fits'
   pub hours : hoursOf s ≤ 64 * pagesOf s
   pub total : sum (tabulate (pagesOf s) (sumIn s)) ≤ 4294967295

@@ -14,15 +14,28 @@ pub record Model : Type 0 where
   pub chains : List (List ℕ)
   pub spare : List ℕ
 
--- 'Length is 16 + 6P + 32C bytes exactly, the parts in this order': the header, an entry for each page, the cells, numbered from 1
-abbrev pub size : ℕ → ℕ → ℕ
-size P C = 16 + 6 * P + 32 * C
+-- the bytes of the header and of a page entry
+abbrev pub headerLength : ℕ
+headerLength = 16
 
+abbrev pub entryLength : ℕ
+entryLength = 6
+
+-- where page p's entry starts
 abbrev pub entryAt : ℕ → ℕ
-entryAt p = 16 + 6 * p
+entryAt p = headerLength + entryLength * p
 
+-- where the cells of a store of P pages start: behind the last entry
+abbrev pub cellsFrom : ℕ → ℕ
+cellsFrom P = entryAt P
+
+-- where cell c starts, of cells that are numbered from 1 and start at base
 abbrev pub cellAt : ℕ → ℕ → ℕ
-cellAt P c = 16 + 6 * P + 32 * (c - 1)
+cellAt base c = base + 32 * (c - 1)
+
+-- 'Length is 16 + 6P + 32C bytes exactly, the parts in this order': the header, an entry for each page, the cells
+abbrev pub size : ℕ → ℕ → ℕ
+size P C = cellsFrom P + 32 * C
 
 -- 'byte 0 is 1 (edition), byte 1 zero, 2-3 P, 4-5 C, 6-7 first free cell (0 if none), 8-9 number of free cells, 10-11 zero,
 -- 12-15 N (hours logged)'

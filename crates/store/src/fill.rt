@@ -3,7 +3,7 @@ use crate::header::Header;
 use crate::header::cell_at;
 use crate::links::link;
 ghost use mathlib.Core.Path.{_≡_};
-ghost use Prim.Native.Nat.{_+_, _*_, _≤_};
+ghost use Prim.Native.Nat.{_+_, _*_, _≤_, _<_};
 ghost use lib.ListN.{length};
 ghost use lib.Seq.{sets};
 ghost use Rattle.lists.specs.Lists.{part};
@@ -22,14 +22,14 @@ pub fn put_block(s: &mut [u8], at: usize, code: &[u8], from: usize)
 }
 
 // Puts the code into the n cells from the link at address e on, 30 bytes each.
-pub(crate) fn fill(s: &mut [u8], pages: usize, e: usize, n: usize, code: &[u8])
-    requires { ⌜ (pages ≤ 1024) × (30 * n ≤ length (now code)) × Steps (now s) pages e n ⌝ }
-    ensures { λ _. ⌜ now (s .exit) ≡ filled (now (s .entry)) pages e n (now (code .entry)) ⌝ }
+pub(crate) fn fill(s: &mut [u8], base: usize, e: usize, n: usize, code: &[u8])
+    requires { ⌜ (base < 65536) × (30 * n ≤ length (now code)) × Steps (now s) base e n ⌝ }
+    ensures { λ _. ⌜ now (s .exit) ≡ filled (now (s .entry)) base e n (now (code .entry)) ⌝ }
 {
     let mut at = e;
     let mut j = 0;
     while j < n {
-        at = cell_at(pages, link(s, at));
+        at = cell_at(base, link(s, at));
         put_block(s, at + 2, code, Header::CODE * j);
         j = j + 1;
     }

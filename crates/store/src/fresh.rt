@@ -2,12 +2,12 @@
 use crate::answer::Answer;
 use crate::header::Header;
 use crate::header::cell_at;
+use crate::header::cells_from;
 use crate::header::put_header;
 use crate::put::put_two;
 ghost use mathlib.Core.Path.{_≡_};
-ghost use Prim.Native.Nat.{_+_, _-_, _*_, _≤_};
+ghost use Prim.Native.Nat.{_+_, _-_, _*_, _≤_, _<_};
 ghost use lib.ListN.{length, replicate};
-ghost use Rattle.store.specs.Layout.{size};
 ghost use Rattle.store.specs.Heads.{chained};
 ghost use Rattle.store.specs.Call.{Started, freshFits};
 ghost use Rattle.store.specs.Answers.{told};
@@ -43,13 +43,13 @@ fn clear(s: &mut [u8])
 }
 
 // Links each cell to the next one; the last keeps its link.
-fn chain_cells(s: &mut [u8], pages: usize, cells: usize)
-    requires { ⌜ (pages ≤ 1024) × (1 ≤ cells) × (cells ≤ 1800) × (length (now s) ≡ size pages cells) ⌝ }
-    ensures { λ _. ⌜ now (s .exit) ≡ chained (now (s .entry)) pages (cells - 1) ⌝ }
+fn chain_cells(s: &mut [u8], base: usize, cells: usize)
+    requires { ⌜ (base < 65536) × (1 ≤ cells) × (cells ≤ 1800) × (length (now s) ≡ base + 32 * cells) ⌝ }
+    ensures { λ _. ⌜ now (s .exit) ≡ chained (now (s .entry)) base (cells - 1) ⌝ }
 {
     let mut c = 1;
     while c < cells {
-        put_two(s, cell_at(pages, c), c + 1);
+        put_two(s, cell_at(base, c), c + 1);
         c = c + 1;
     }
 }
@@ -65,6 +65,6 @@ pub fn fresh(s: &mut [u8], pages: u32, cells: u32) -> Answer
     }
     clear(s);
     put_header(s, Header::fresh(p, c));
-    chain_cells(s, p, c);
+    chain_cells(s, cells_from(p), c);
     Answer::Number(0)
 }

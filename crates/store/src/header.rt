@@ -4,7 +4,7 @@ use crate::put::put_two;
 ghost use mathlib.Core.Path.{_≡_};
 ghost use Prim.Native.Nat.{_≤_, _<_};
 ghost use lib.ListN.{length};
-ghost use Rattle.store.specs.Layout.{entryAt, cellAt, fresh as freshModel};
+ghost use Rattle.store.specs.Layout.{entryAt, cellAt, cellsFrom, fresh as freshModel};
 ghost use Rattle.store.specs.Heads.{Heads, HeadOf, Headed};
 
 pub struct Header {
@@ -82,16 +82,24 @@ pub(crate) fn put_header(s: &mut [u8], h: Header)
 
 // Where page p's entry starts.
 pub fn entry_at(p: usize) -> usize
-    requires { ⌜ p ≤ 1024 ⌝ }
+    requires { ⌜ p < 65536 ⌝ }
     ensures { λ r. ⌜ r ≡ entryAt p ⌝ }
 {
     Header::SIZE + Header::ENTRY * p
 }
 
-// Where cell c starts.
-pub fn cell_at(pages: usize, c: usize) -> usize
-    requires { ⌜ (pages ≤ 1024) × (1 ≤ c) × (c < 65536) ⌝ }
-    ensures { λ r. ⌜ r ≡ cellAt pages c ⌝ }
+// Where the cells of a store of so many pages start: behind the last entry.
+pub fn cells_from(pages: usize) -> usize
+    requires { ⌜ pages < 65536 ⌝ }
+    ensures { λ r. ⌜ r ≡ cellsFrom pages ⌝ }
 {
-    Header::SIZE + Header::ENTRY * pages + Header::CELL * (c - 1)
+    entry_at(pages)
+}
+
+// Where cell c starts, of cells that start at base.
+pub fn cell_at(base: usize, c: usize) -> usize
+    requires { ⌜ (base < 65536) × (1 ≤ c) × (c < 65536) ⌝ }
+    ensures { λ r. ⌜ r ≡ cellAt base c ⌝ }
+{
+    base + Header::CELL * (c - 1)
 }

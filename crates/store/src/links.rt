@@ -16,35 +16,35 @@ pub fn link(s: &[u8], at: usize) -> usize
 }
 
 // The address of the link that k cells from the link at address a lead to.
-pub(crate) fn link_after(s: &[u8], pages: usize, a: usize, k: usize) -> usize
-    requires { ⌜ (pages ≤ 1024) × Steps (now s) pages a k ⌝ }
-    ensures { λ r. ⌜ (r ≡ linkAfter (now (s .entry)) pages a k) × (r + 2 ≤ length (now (s .entry))) ⌝ }
+pub(crate) fn link_after(s: &[u8], base: usize, a: usize, k: usize) -> usize
+    requires { ⌜ (base < 65536) × Steps (now s) base a k ⌝ }
+    ensures { λ r. ⌜ (r ≡ linkAfter (now (s .entry)) base a k) × (r + 2 ≤ length (now (s .entry))) ⌝ }
 {
     let mut at = a;
     let mut left = k;
     while 0 < left {
-        at = cell_at(pages, link(s, at));
+        at = cell_at(base, link(s, at));
         left = left - 1;
     }
     at
 }
 
 // Puts the free chain behind the chain of k cells from the link at address e on.
-pub(crate) fn join(s: &mut [u8], pages: usize, e: usize, k: usize)
-    requires { ⌜ (pages ≤ 1024) × (8 ≤ length (now s)) × Steps (now s) pages e k ⌝ }
-    ensures { λ _. ⌜ now (s .exit) ≡ joined (now (s .entry)) pages e k ⌝ }
+pub(crate) fn join(s: &mut [u8], base: usize, e: usize, k: usize)
+    requires { ⌜ (base < 65536) × (8 ≤ length (now s)) × Steps (now s) base e k ⌝ }
+    ensures { λ _. ⌜ now (s .exit) ≡ joined (now (s .entry)) base e k ⌝ }
 {
-    let end = link_after(s, pages, e, k);
+    let end = link_after(s, base, e, k);
     let free = link(s, 6);
     put_two(s, end, free);
 }
 
 // Cuts the chain from the link at address e on after k cells: the rest is the free chain.
-pub(crate) fn cut(s: &mut [u8], pages: usize, e: usize, k: usize)
-    requires { ⌜ (pages ≤ 1024) × (8 ≤ length (now s)) × Steps (now s) pages e k ⌝ }
-    ensures { λ _. ⌜ now (s .exit) ≡ cutAt (now (s .entry)) pages e k ⌝ }
+pub(crate) fn cut(s: &mut [u8], base: usize, e: usize, k: usize)
+    requires { ⌜ (base < 65536) × (8 ≤ length (now s)) × Steps (now s) base e k ⌝ }
+    ensures { λ _. ⌜ now (s .exit) ≡ cutAt (now (s .entry)) base e k ⌝ }
 {
-    let end = link_after(s, pages, e, k);
+    let end = link_after(s, base, e, k);
     let rest = link(s, end);
     put_two(s, 6, rest);
     put_two(s, end, 0);

@@ -15,7 +15,7 @@ ghost use Rattle.store.specs.Links.{rewritten, Ready};
 // are one, and the cells given back are cleared by the zeros at the code's end.
 pub fn rewrite(
     s: &mut [u8],
-    pages: usize,
+    base: usize,
     p: usize,
     old: usize,
     new: usize,
@@ -23,16 +23,16 @@ pub fn rewrite(
     sum: u64,
     hours: usize,
 )
-    requires { ⌜ Ready (now s) pages p old new (now code) sum hours ⌝ }
-    ensures { λ _. ⌜ now (s .exit) ≡ rewritten (now (s .entry)) pages p old new (now (code .entry)) sum hours ⌝ }
+    requires { ⌜ Ready (now s) base p old new (now code) sum hours ⌝ }
+    ensures { λ _. ⌜ now (s .exit) ≡ rewritten (now (s .entry)) base p old new (now (code .entry)) sum hours ⌝ }
 {
     let entry = entry_at(p);
     let own = entry + 4;
     let free = link(s, 8);
     let most = lists::larger(old, new);
-    join(s, pages, own, old);
-    fill(s, pages, own, most, code);
-    cut(s, pages, own, new);
+    join(s, base, own, old);
+    fill(s, base, own, most, code);
+    cut(s, base, own, new);
     put_two(s, 8, free + old - new);
     put_four(s, entry, sum);
     put_four(s, 12, hours as u64);

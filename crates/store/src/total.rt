@@ -2,16 +2,17 @@
 use crate::header::entry_at;
 ghost use mathlib.Core.Bool.{true};
 ghost use mathlib.Core.Path.{_≡_};
-ghost use Prim.Native.Nat.{_+_, _*_, _≤_};
+ghost use Prim.Native.Nat.{_≤_};
 ghost use lib.ListN.{length};
 ghost use Rattle.lists.specs.Lists.{sum, tabulate};
 ghost use Rattle.bits.specs.Numbers.{numberAt};
+ghost use Rattle.store.specs.Layout.{cellsFrom};
 ghost use Rattle.store.specs.Reading.{read, sumIn};
 ghost use Rattle.store.specs.Sound.{sound};
 
 // The sums of so many pages, of any bytes that have their entries. It fits: 1,024 pages of less than 2^32.
 pub fn page_sums(s: &[u8], pages: usize) -> u64
-    requires { ⌜ (pages ≤ 1024) × (16 + 6 * pages ≤ length (now s)) ⌝ }
+    requires { ⌜ (pages ≤ 1024) × (cellsFrom pages ≤ length (now s)) ⌝ }
     ensures { λ r. ⌜ r ≡ sum (tabulate pages (sumIn (now (s .entry)))) ⌝ }
 {
     let mut all = 0;

@@ -1,5 +1,7 @@
 -- `pages::entry::entry_of` meets its contract. Assumes nothing.
+use mathlib.Core.Path.{ap, _∙_}
 use native.Mathlib.Omega.{arith}
+use Rattle.store.specs.Layout.{cellsFrom}
 use Rattle.store.proofs.SoundFacts.{facts, sum-read}
 use borrow.Author.Needs.{needs}
 use Rattle.pages.proofs.entry.entry_of.Statement.{statement}
@@ -14,21 +16,24 @@ get4-requires c κs = omega (arith, facts (c .before .before .args .s .now) (c .
 link-requires : tie.Need-link-requires
 link-requires c κs = omega (arith, facts (c .before .before .before .args .s .now) (c .before .before .before .pre .0) .long)
 
+cells-from-requires : tie.Need-cells-from-requires
+cells-from-requires c κs = omega (arith, c .link .ensures .small)
+
 cells-of-requires : tie.Need-cells-of-requires
 cells-of-requires c κs = search needs
 
 returns : tie.Need-returns
 returns c =
-    let a = c .before .before .before .before .before .args in
-    let q = c .before .before .before .before .before .pre in
+    let a = c .before .before .before .before .before .before .args in
+    let q = c .before .before .before .before .before .before .pre in
     record {
       is-sound = q .0;
-      pages-is = c .before .link .ensures .is;
-      inside = omega (arith, c .before .link .ensures .is);
-      sum-is = sum-read (a .s .now) (a .p) _ _ (c .before .before .before .entry-at .ensures) (c .before .before .get4 .ensures .is);
+      base-is = c .before .cells-from .ensures ∙ ap cellsFrom (c .before .before .link .ensures .is);
+      inside = q .1;
+      sum-is = sum-read (a .s .now) (a .p) _ _ (c .before .before .before .before .entry-at .ensures) (c .before .before .before .get4 .ensures .is);
       cells-is = c .cells-of .ensures .0;
     }
 
 pub entry-of-spec : {M : Type 1} → statement M
 entry-of-spec =
-    tie.close (tie.spec entry-at-requires get4-requires link-requires cells-of-requires returns)
+    tie.close (tie.spec entry-at-requires get4-requires link-requires cells-from-requires cells-of-requires returns)

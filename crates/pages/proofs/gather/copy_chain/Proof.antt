@@ -14,12 +14,12 @@ use Rattle.pages.proofs.gather.copy_chain.Statement.{statement}
 use Rattle.pages.proofs.gather.copy_chain.Tie as tie
 
 abbrev Inv-loop : tie.InvT-loop
-Inv-loop s pages e k out₀ at₀ j₀ out at j =
-    (j ≤ k) × (length out ≡ length out₀) × Steps s pages at (k - j)
-    × (splice out₀ 0 (codeFrom s pages e k) ≡ splice out (30 * j) (codeFrom s pages at (k - j)))
+Inv-loop s base e k out₀ at₀ j₀ out at j =
+    (j ≤ k) × (length out ≡ length out₀) × Steps s base at (k - j)
+    × (splice out₀ 0 (codeFrom s base e k) ≡ splice out (30 * j) (codeFrom s base at (k - j)))
 
 abbrev μ-loop : tie.MeasureT-loop
-μ-loop s pages e k out₀ at₀ j₀ out at j = k - j
+μ-loop s base e k out₀ at₀ j₀ out at j = k - j
 
 loop-holds : tie.Need-loop-holds Inv-loop μ-loop
 loop-holds c =
@@ -31,13 +31,13 @@ link-requires : tie.Need-link-requires Inv-loop μ-loop
 link-requires c κs =
     let a = c .before .before .before .before .args in
     let l = c .before .loop in
-    step-of (a .s .now) (a .pages) (l .at) (a .k - l .j) (omega arith) (l .inv .2) .fits
+    step-of (a .s .now) (a .base) (l .at) (a .k - l .j) (omega arith) (l .inv .2) .fits
 
 cell-at-requires : tie.Need-cell-at-requires Inv-loop μ-loop
 cell-at-requires c κs =
     let a = c .before .before .before .before .before .args in
     let l = c .before .before .loop in
-    let w = step-of (a .s .now) (a .pages) (l .at) (a .k - l .j) (omega arith) (l .inv .2) in
+    let w = step-of (a .s .now) (a .base) (l .at) (a .k - l .j) (omega arith) (l .inv .2) in
     omega (arith, w .cell, c .link .ensures .is, c .link .ensures .small)
 
 mul-put-block : tie.Need-mul-put-block Inv-loop μ-loop
@@ -50,7 +50,7 @@ put-block-requires : tie.Need-put-block-requires Inv-loop μ-loop
 put-block-requires c κs =
     let a = c .before .before .before .before .before .before .before .args in
     let l = c .before .before .before .before .loop in
-    let w = step-of (a .s .now) (a .pages) (l .at) (a .k - l .j) (omega arith) (l .inv .2) in
+    let w = step-of (a .s .now) (a .base) (l .at) (a .k - l .j) (omega arith) (l .inv .2) in
     (omega arith, rw (c .before .cell-at .ensures, c .before .before .link .ensures .is) (omega (arith, w .room)))
 
 add-j : tie.Need-add-j Inv-loop μ-loop
@@ -67,7 +67,7 @@ loop-again c =
     let e = c .before .before .before .before .cell-at in
     let p = c .before .before .put-block in
     let w =
-    turned (a .s .now) (l .out) (p .last .0) (a .pages) (l .at) (n .link .result) (e .result) (a .k) (l .j) (omega arith) (l .inv .2) (omega arith)
+    turned (a .s .now) (l .out) (p .last .0) (a .base) (l .at) (n .link .result) (e .result) (a .k) (l .j) (omega arith) (l .inv .2) (omega arith)
     (n .link .ensures .is) (e .ensures) (p .ensures) in
     (omega arith, p .kept .0 ∙ l .inv .1, w .0, l .inv .3 ∙ w .1)
 
@@ -78,7 +78,7 @@ returns : tie.Need-returns Inv-loop μ-loop
 returns c =
     let a = c .before .before .before .before .args in
     let l = c .before .loop in
-    all-copied (a .s .now) (l .out) (a .pages) (l .at) (a .k - l .j) (30 * l .j) (omega arith) ∙ sym (l .inv .3)
+    all-copied (a .s .now) (l .out) (a .base) (l .at) (a .k - l .j) (30 * l .j) (omega arith) ∙ sym (l .inv .3)
 
 pub copy-chain-spec : {M : Type 1} → statement M
 copy-chain-spec =

@@ -1,7 +1,7 @@
 -- `pages::gather::gather_at` meets its contract: on a sound store the page's chain can be walked, and its cells hold the page's code
 -- (`gathered`). Assumes nothing.
 use native.Mathlib.Omega.{arith}
-use Rattle.pages.proofs.SoundPage.{few, gathered, page-steps, pages-few}
+use Rattle.pages.proofs.SoundPage.{base-low, few, gathered, page-steps, pages-few}
 use borrow.Author.Needs.{needs}
 use Rattle.pages.proofs.gather.gather_at.Statement.{statement}
 use Rattle.pages.proofs.gather.gather_at.Tie as tie
@@ -18,7 +18,7 @@ slice-aggregate-copy-chain c = search needs
 copy-chain-requires : tie.Need-copy-chain-requires
 copy-chain-requires c κs =
     let o = c .before .before .before .pre in
-    (pages-few o, omega (arith, few o), page-steps o _ (c .before .entry-at .ensures))
+    (base-low o, omega (arith, few o), page-steps o _ (c .before .entry-at .ensures))
 
 returns : tie.Need-returns
 returns c =

@@ -1,7 +1,8 @@
 -- `soundness::chains::chains_fit` meets its contract. The invariants: the answer is that of the pages, and of the page's cells, that are
 -- left; the code of the cells that were passed is gathered. Assumes nothing.
-use mathlib.Core.Path.{_≡_, refl, sym, ap, _∙_}
+use mathlib.Core.Path.{_≡_, refl, sym, ap, ap₂, _∙_}
 use mathlib.Core.Bool.{Bool, true, false}
+use mathlib.Core.List.{List}
 use mathlib.Core.Logic.{⊎-elim}
 use Prim.Native.Nat.{ℕ, _+_, _-_, _*_, _≤_}
 use native.Mathlib.Omega.{arith}
@@ -11,6 +12,7 @@ use lib.Dec.{eqb}
 use borrow.Author.Tests.{eqb-false, eqb-true, not-false, not-true}
 use Rattle.lists.specs.Lists.{part}
 use Rattle.bits.specs.Numbers.{numberAt}
+use Rattle.store.specs.Layout.{cellAt, cellsFrom}
 use Rattle.soundness.specs.Chains.{chainsFit, freeFits}
 use Rattle.soundness.proofs.HeadTest.{Bounds, bounds, headed}
 use Rattle.soundness.proofs.ChainTest.{SoFar, cell-broken, cell-next, cellsOn, gather-next, gather-start, page-next}
@@ -24,42 +26,47 @@ clash : (b : Bool) → b ≡ false → b ≡ true → ⊥
 clash b p q = let z : _≡_ {A = ℕ} 0 1 = cc in omega arith
 
 abbrev Inv-loop : tie.InvT-loop
-Inv-loop s pages cells hours marks₀ code₀ ok₀ p entry sum k at₀ j₀ marks code ok at j =
+Inv-loop s pages cells hours base marks₀ code₀ ok₀ p entry sum k at₀ j₀ marks code ok at j =
     (j ≤ k) × (length marks ≡ 1801) × (length code ≡ 240) × (ok ≡ true) × (at + 2 ≤ length s)
     × (chainsFit s ≡ cellsOn s pages cells hours p (k - j) marks at) × SoFar s pages p j (k - j) code (numberAt s at 2)
 
 abbrev μ-loop : tie.MeasureT-loop
-μ-loop s pages cells hours marks₀ code₀ ok₀ p entry sum k at₀ j₀ marks code ok at j = k - j
+μ-loop s pages cells hours base marks₀ code₀ ok₀ p entry sum k at₀ j₀ marks code ok at j = k - j
 
 abbrev Inv-pages : tie.InvT-pages
-Inv-pages s pages cells hours marks₀ code₀ ok₀ p₀ marks code ok p =
+Inv-pages s pages cells hours base marks₀ code₀ ok₀ p₀ marks code ok p =
     (p ≤ pages) × (length marks ≡ 1801) × (length code ≡ 240) × (ok ≡ true) × (chainsFit s ≡ pagesOn s pages cells hours p marks)
 
 abbrev μ-pages : tie.MeasureT-pages
-μ-pages s pages cells hours marks₀ code₀ ok₀ p₀ marks code ok p = pages - p
+μ-pages s pages cells hours base marks₀ code₀ ok₀ p₀ marks code ok p = pages - p
 
 -- what the header holds to
-held : (o : tie.After-of Inv-loop μ-loop Inv-pages μ-pages) → Bounds (o .before .before .args .s .now) (o .of .result)
-held o = bounds (o .before .before .args .s .now) (o .of .result) (o .before .before .pre) (o .of .ensures)
+held : (o : tie.After-cells-from Inv-loop μ-loop Inv-pages μ-pages) → Bounds (o .before .before .before .args .s .now) (o .before .of .result)
+held o = bounds (o .before .before .before .args .s .now) (o .before .of .result) (o .before .before .before .pre) (o .before .of .ensures)
 
 -- past the test of a cell: the header's place, and what is known of the cell
-abbrev header-of : tie.Else1 Inv-loop μ-loop Inv-pages μ-pages → tie.After-of Inv-loop μ-loop Inv-pages μ-pages
+abbrev header-of : tie.Else1 Inv-loop μ-loop Inv-pages μ-pages → tie.After-cells-from Inv-loop μ-loop Inv-pages μ-pages
 header-of fine = fine .before .before .before .before .before .before .before .before .before .before
 
-known : (fine : tie.Else1 Inv-loop μ-loop Inv-pages μ-pages) → Bounds (header-of fine .before .before .args .s .now) (header-of fine .of .result)
+known : (fine : tie.Else1 Inv-loop μ-loop Inv-pages μ-pages)
+    → Bounds (header-of fine .before .before .before .args .s .now) (header-of fine .before .of .result)
     × (1 ≤ fine .before .before .link .result)
-    × (fine .before .before .link .result ≤ header-of fine .of .result .cells)
+    × (fine .before .before .link .result ≤ header-of fine .before .of .result .cells)
+    × (header-of fine .cells-from .result ≡ cellsFrom (header-of fine .before .of .result .pages))
 known fine =
     let w = cell-range _ (fine .before .before .link .result) (fine .before .is-cell .ensures) (fine .if1 .left) in
-    (held (header-of fine), w .0, w .1)
+    (held (header-of fine), w .0, w .1, header-of fine .cells-from .ensures)
 
 of-requires : tie.Need-of-requires Inv-loop μ-loop Inv-pages μ-pages
 of-requires c κs = omega (arith, headed (c .before .args .s .now) (c .before .pre) .long)
 
+cells-from-requires : tie.Need-cells-from-requires Inv-loop μ-loop Inv-pages μ-pages
+cells-from-requires c κs = omega (arith, c .of .ensures .pages-small)
+
 pages-holds : tie.Need-pages-holds Inv-loop μ-loop Inv-pages μ-pages
 pages-holds c =
-    let s = c .before .before .args .s .now in
-    (omega arith, refl, refl, refl, pages-start s (c .of .result) (c .of .ensures))
+    let s = c .before .before .before .args .s .now in
+    (omega arith, refl, refl, refl, pages-start s (c .before .of .result) (c .before .of .ensures))
 
 entry-at-requires : tie.Need-entry-at-requires Inv-loop μ-loop Inv-pages μ-pages
 entry-at-requires c κs =
@@ -90,7 +97,7 @@ loop-holds c =
     let at-pages = c .before .before .before .before in
     let l = at-pages .pages in
     let o = at-pages .before in
-    let s = o .before .before .args .s .now in
+    let s = o .before .before .before .args .s .now in
     let h = held o in (
       omega arith,
       l .inv .1,
@@ -98,7 +105,7 @@ loop-holds c =
       l .inv .3,
       omega (arith, e .ensures),
       l .inv .4 ∙ page-start _ _ _ _ (l .p) (l .marks) (e .ensures) (g .ensures) (k .ensures .0) (omega arith),
-      gather-start _ _ (o .of .result .cells) (o .of .result .hours) (l .p) (l .marks) (e .ensures) (g .ensures) (k .ensures .0) (l .code),
+      gather-start _ _ (o .before .of .result .cells) (o .before .of .result .hours) (l .p) (l .marks) (e .ensures) (g .ensures) (k .ensures .0) (l .code),
     )
 
 link-requires : tie.Need-link-requires Inv-loop μ-loop Inv-pages μ-pages
@@ -154,19 +161,20 @@ loop-again c =
     let at-pages = at-loop .before .before .before .before .before in
     let p = at-pages .pages .p in
     let o = at-pages .before in
-    let s = o .before .before .args .s .now in
+    let s = o .before .before .before .args .s .now in
     let w = known fine in
     let none = eqb-true (getD (l .marks) (d .result) 0) 0 (not-false (eqb (getD (l .marks) (d .result) 0) 0) (new .if2 .left)) in
     let good = good-cell _ (d .result) (t .ensures) (l .marks) (fine .if1 .left) none in
-    let far : r .result + 32 ≤ length s = omega (arith, r .ensures) in
+    let at : r .result ≡ cellAt (cellsFrom (o .before .of .result .pages)) (d .result) = r .ensures ∙ ap (λ (z : ℕ). cellAt z (d .result)) (w .3) in
+    let far : r .result + 32 ≤ length s = omega (arith, at) in
     let room : 30 * l .j + 30 ≤ length (l .code) = omega (arith, k .ensures .1) in (
       omega arith,
       length-set (l .marks) (d .result) 1 ∙ l .inv .1,
       ap length (b .ensures) ∙ length-sets (l .code) (30 * l .j) (part s (r .result + 2) 30) ∙ l .inv .2,
       l .inv .3,
       omega arith,
-      l .inv .5 ∙ cell-next _ _ _ _ p (l .marks) (k .result) (l .j) (d .ensures) (omega arith) (r .ensures) good,
-      gather-next _ _ (o .of .result .cells) (o .of .result .hours) p (l .marks) (k .result) (l .j) (d .ensures) (omega arith) (r .ensures)
+      l .inv .5 ∙ cell-next _ _ _ _ p (l .marks) (k .result) (l .j) (d .ensures) (omega arith) at good,
+      gather-next _ _ (o .before .of .result .cells) (o .before .of .result .hours) p (l .marks) (k .result) (l .j) (d .ensures) (omega arith) at
           (l .code) (b .last .0) room far (b .ensures) (l .inv .6),
     )
 
@@ -183,7 +191,7 @@ page-fits-requires c κs =
     let g = at-loop .before .before .get4 in
     let o = at-loop .before .before .before .before .before .before in
     let h = held o in (
-      record { long = l .inv .2; small = omega (arith, g .ensures .small); page = omega arith; hours = o .of .ensures .hours-small },
+      record { long = l .inv .2; small = omega (arith, g .ensures .small); page = omega arith; hours = o .before .of .ensures .hours-small },
       at-loop .before .cells-of .ensures .0,
     )
 
@@ -222,9 +230,11 @@ free-fits-requires c κs =
     let left = c .before in
     let l = left .before .pages in
     let o = left .before .before in
-    let h = held o in (
-      h .size,
-      h .pages-high,
+    let h = held o in
+    let b = o .cells-from .ensures in (
+      omega (arith, h .size, b),
+      omega (arith, b),
+      omega (arith, h .pages-high, b),
       h .cells-high,
       ⊎-elim (λ w. ap length (w .1) ∙ l .inv .1) (⊎-elim (λ w. ap length (w .9) ∙ w .4 .inv .1) (λ w. ap length (w .8) ∙ w .4 .inv .1))
           (left .pages-test .came),
@@ -235,12 +245,12 @@ returns c =
     let left = c .before .before in
     let l = left .before .pages in
     let o = left .before .before in
-    let s = o .before .before .args .s .now in
+    let s = o .before .before .before .args .s .now in
     let ok = c .before .if5 .taken in
     ⊎-elim
     (λ w.
     c .free-fits .ensures
-    ∙ ap (freeFits s (o .of .result .pages) (o .of .result .cells)) (w .1)
+    ∙ ap₂ (λ (z : ℕ) (m : List ℕ). freeFits s z (o .before .of .result .cells) m) (o .cells-from .ensures) (w .1)
     ∙ sym (l .inv .4 ∙ pages-end _ _ _ _ (l .p) (l .marks) (w .0 .left)))
     (⊎-elim (λ w. absurd (clash _ (w .10) ok)) (λ w. absurd (clash _ (w .9) ok)))
     (left .pages-test .came)
@@ -279,6 +289,7 @@ chains-fit-spec =
     Inv-pages
     μ-pages
     of-requires
+    cells-from-requires
     pages-holds
     entry-at-requires
     get4-requires

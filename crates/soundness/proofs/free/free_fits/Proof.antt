@@ -11,11 +11,11 @@ use Rattle.soundness.proofs.free.free_fits.Statement.{statement}
 use Rattle.soundness.proofs.free.free_fits.Tie as tie
 
 abbrev Inv-loop : tie.InvT-loop
-Inv-loop s pages cells marks₀ free at₀ j₀ marks at j =
-    (j ≤ free) × (length marks ≡ 1801) × (at + 2 ≤ length s) × (freeFits s pages cells marks₀ ≡ freeFrom s pages cells (free - j) marks at)
+Inv-loop s base cells marks₀ free at₀ j₀ marks at j =
+    (j ≤ free) × (length marks ≡ 1801) × (at + 2 ≤ length s) × (freeFits s base cells marks₀ ≡ freeFrom s base cells (free - j) marks at)
 
 abbrev μ-loop : tie.MeasureT-loop
-μ-loop s pages cells marks₀ free at₀ j₀ marks at j = free - j
+μ-loop s base cells marks₀ free at₀ j₀ marks at j = free - j
 
 -- the cell that a link names, once it was tested
 cell-of : (fine : tie.Else1 Inv-loop μ-loop)
@@ -29,7 +29,7 @@ link-requires c κs = search needs
 loop-holds : tie.Need-loop-holds Inv-loop μ-loop
 loop-holds c =
     let a = c .before .before .args in
-    (omega arith, c .before .before .pre .3, omega arith, free-start (a .s .now) (a .pages) (a .cells) (a .met) (c .link .ensures))
+    (omega arith, c .before .before .pre .4, omega arith, free-start (a .s .now) (a .base) (a .cells) (a .met) (c .link .ensures))
 
 link-requires-2 : tie.Need-link-requires-2 Inv-loop μ-loop
 link-requires-2 c κs = search needs

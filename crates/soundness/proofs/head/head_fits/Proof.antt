@@ -13,6 +13,7 @@ use Rattle.soundness.proofs.HeadTest.{head-fails, head-last, pair-test}
 use borrow.Author.Needs.{needs}
 use Rattle.soundness.proofs.head.head_fits.Statement.{statement}
 use Rattle.soundness.proofs.head.head_fits.Tie as tie
+use Rattle.store.specs.Layout.{size}
 
 returns : tie.Need-returns
 unfolding headTests
@@ -93,7 +94,7 @@ returns-8 c =
     let read = c .before .before .before .before .before in
     let s = read .before .before .before .before .before .before .before .args .s .now in
     let h = read .of .ensures in
-    let size = 16 + 6 * numberAt s 2 2 + 32 * numberAt s 4 2 in
+    let size = size (numberAt s 2 2) (numberAt s 4 2) in
     head-fails s 7 (ne-eqb (length s) size (λ e. c .if8 .taken (omega (arith, e, h .pages-is, h .cells-is))))
 
 mul-if9 : tie.Need-mul-if9

@@ -12,11 +12,11 @@ use Rattle.store.proofs.fill.fill.Statement.{statement}
 use Rattle.store.proofs.fill.fill.Tie as tie
 
 abbrev Inv-loop : tie.InvT-loop
-Inv-loop s₀ pages e n code at₀ j₀ s at j =
-    (j ≤ n) × (length s ≡ length s₀) × (Steps s pages at (n - j)) × (filled s₀ pages e n code ≡ filled s pages at (n - j) (drop (30 * j) code))
+Inv-loop s₀ base e n code at₀ j₀ s at j =
+    (j ≤ n) × (length s ≡ length s₀) × (Steps s base at (n - j)) × (filled s₀ base e n code ≡ filled s base at (n - j) (drop (30 * j) code))
 
 abbrev μ-loop : tie.MeasureT-loop
-μ-loop s₀ pages e n code at₀ j₀ s at j = n - j
+μ-loop s₀ base e n code at₀ j₀ s at j = n - j
 
 loop-holds : tie.Need-loop-holds Inv-loop μ-loop
 loop-holds c =
@@ -28,13 +28,13 @@ link-requires : tie.Need-link-requires Inv-loop μ-loop
 link-requires c κs =
     let a = c .before .before .before .before .before .args in
     let l = c .before .before .loop in
-    fill-next (l .s) (a .pages) (l .at) (a .n - l .j) (drop (30 * l .j) (a .code .now)) (omega arith) (l .inv .2) .fits
+    fill-next (l .s) (a .base) (l .at) (a .n - l .j) (drop (30 * l .j) (a .code .now)) (omega arith) (l .inv .2) .fits
 
 cell-at-requires : tie.Need-cell-at-requires Inv-loop μ-loop
 cell-at-requires c κs =
     let a = c .before .before .before .before .before .before .args in
     let l = c .before .before .before .loop in
-    let w = fill-next (l .s) (a .pages) (l .at) (a .n - l .j) (drop (30 * l .j) (a .code .now)) (omega arith) (l .inv .2) in
+    let w = fill-next (l .s) (a .base) (l .at) (a .n - l .j) (drop (30 * l .j) (a .code .now)) (omega arith) (l .inv .2) in
     omega (arith, w .cell, c .link .ensures .is, c .link .ensures .small)
 
 add-put-block : tie.Need-add-put-block Inv-loop μ-loop
@@ -47,7 +47,7 @@ put-block-requires : tie.Need-put-block-requires Inv-loop μ-loop
 put-block-requires c κs =
     let a = c .before .before .before .before .before .before .before .before .args in
     let l = c .before .before .before .before .before .loop in
-    let w = fill-next (l .s) (a .pages) (l .at) (a .n - l .j) (drop (30 * l .j) (a .code .now)) (omega arith) (l .inv .2) in
+    let w = fill-next (l .s) (a .base) (l .at) (a .n - l .j) (drop (30 * l .j) (a .code .now)) (omega arith) (l .inv .2) in
     (rw (c .before .cell-at .ensures, c .before .before .link .ensures .is) (omega (arith, w .room)), omega arith)
 
 add-j : tie.Need-add-j Inv-loop μ-loop
@@ -64,7 +64,7 @@ loop-again c =
     let e = c .before .before .before .before .cell-at .ensures in
     let f = c .before .before .put-block .ensures ∙ ap (λ (z : ℕ). sets (l .s) (z + 2) (part (a .code .now) (30 * l .j) 30)) e in
     let w =
-    fill-again (l .s) (c .before .before .put-block .last .0) (a .pages) (l .at) (b .link .result) (a .n) (l .j) (a .code .now) (omega arith)
+    fill-again (l .s) (c .before .before .put-block .last .0) (a .base) (l .at) (b .link .result) (a .n) (l .j) (a .code .now) (omega arith)
     (l .inv .2)
     (b .link .ensures .is) f in
     (omega arith, omega arith, rw e (w .0), l .inv .3 ∙ rw e (w .1))
@@ -76,7 +76,7 @@ returns : tie.Need-returns Inv-loop μ-loop
 returns c =
     let a = c .before .before .before .before .args in
     let l = c .before .loop in
-    sym (l .inv .3 ∙ fill-done (l .s) (a .pages) (l .at) (a .n - l .j) (drop (30 * l .j) (a .code .now)) (omega arith))
+    sym (l .inv .3 ∙ fill-done (l .s) (a .base) (l .at) (a .n - l .j) (drop (30 * l .j) (a .code .now)) (omega arith))
 
 pub fill-spec : {M : Type 1} → statement M
 fill-spec =

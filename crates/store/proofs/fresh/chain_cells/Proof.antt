@@ -11,13 +11,13 @@ use Rattle.store.proofs.fresh.chain_cells.Statement.{statement}
 use Rattle.store.proofs.fresh.chain_cells.Tie as tie
 
 abbrev Inv-loop : tie.InvT-loop
-Inv-loop s₀ pages cells c₀ s c = (1 ≤ c) × (c ≤ cells) × (length s ≡ length s₀) × (s ≡ chained s₀ pages (c - 1))
+Inv-loop s₀ base cells c₀ s c = (1 ≤ c) × (c ≤ cells) × (length s ≡ length s₀) × (s ≡ chained s₀ base (c - 1))
 
 abbrev μ-loop : tie.MeasureT-loop
-μ-loop s₀ pages cells c₀ s c = cells - c
+μ-loop s₀ base cells c₀ s c = cells - c
 
 loop-holds : tie.Need-loop-holds Inv-loop μ-loop
-loop-holds c = (omega arith, omega arith, refl, chained-none (c .before .args .s .now) (c .before .args .pages))
+loop-holds c = (omega arith, omega arith, refl, chained-none (c .before .args .s .now) (c .before .args .base))
 
 cell-at-requires : tie.Need-cell-at-requires Inv-loop μ-loop
 cell-at-requires c κs = search needs
@@ -38,9 +38,9 @@ loop-again : tie.Need-loop-again Inv-loop μ-loop
 loop-again c =
     let a = c .before .before .before .before .before .before .before .before .args in
     let l = c .before .before .before .before .before .before .loop in
-    let e = chained-next (a .s .now) (l .s) _ (a .pages) (l .c) _ (l .inv .0) (l .inv .3) (c .before .before .before .cell-at .ensures)
+    let e = chained-next (a .s .now) (l .s) _ (a .base) (l .c) _ (l .inv .0) (l .inv .3) (c .before .before .before .cell-at .ensures)
     (c .before .before .put-two .ensures) in
-    (omega arith, omega arith, ap (λ (z : List ℕ). length z) e ∙ chained-length (a .s .now) (a .pages) (l .c + 1 - 1), e)
+    (omega arith, omega arith, ap (λ (z : List ℕ). length z) e ∙ chained-length (a .s .now) (a .base) (l .c + 1 - 1), e)
 
 same-length : tie.Need-same-length Inv-loop μ-loop
 same-length c = search needs
@@ -49,7 +49,7 @@ returns : tie.Need-returns Inv-loop μ-loop
 returns c =
     let a = c .before .before .before .args in
     let l = c .before .loop in
-    l .inv .3 ∙ ap (λ (z : ℕ). chained (a .s .now) (a .pages) (z - 1)) {x = l .c} {y = a .cells} (omega arith)
+    l .inv .3 ∙ ap (λ (z : ℕ). chained (a .s .now) (a .base) (z - 1)) {x = l .c} {y = a .cells} (omega arith)
 
 pub chain-cells-spec : {M : Type 1} → statement M
 chain-cells-spec =

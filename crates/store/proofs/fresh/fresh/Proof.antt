@@ -39,27 +39,37 @@ put-header-requires c κs =
     let w = fitting (a .s .now) (a .pages) (a .cells) e in
     omega (arith, w .long)
 
-chain-cells-requires : tie.Need-chain-cells-requires
-chain-cells-requires c κs =
+cells-from-requires : tie.Need-cells-from-requires
+cells-from-requires c κs =
     let d = c .before .before .before .before .before .before .before .before .before .before in
     let a = d .before .before .before .before .args in
     let e : freshFits (a .s .now) (a .pages) (a .cells) ≡ true = sym (d .before .fits2 .ensures) ∙ not-false _ (d .if1 .left) in
     let w = fitting (a .s .now) (a .pages) (a .cells) e in
-    (w .pages-high, w .cells-low, w .cells-high, omega (arith, w .long))
+    omega (arith, w .pages-high)
+
+chain-cells-requires : tie.Need-chain-cells-requires
+chain-cells-requires c κs =
+    let d = c .before .before .before .before .before .before .before .before .before .before .before in
+    let a = d .before .before .before .before .args in
+    let e : freshFits (a .s .now) (a .pages) (a .cells) ≡ true = sym (d .before .fits2 .ensures) ∙ not-false _ (d .if1 .left) in
+    let w = fitting (a .s .now) (a .pages) (a .cells) e in
+    let b = c .cells-from .ensures in
+    (omega (arith, b, w .pages-high), w .cells-low, w .cells-high, omega (arith, b, w .long))
 
 same-length-2 : tie.Need-same-length-2
 same-length-2 c = search needs
 
 returns-2 : tie.Need-returns-2
 returns-2 c =
-    let d = c .before .before .before .before .before .before .before .before .before .before .before .before .before in
+    let d = c .before .before .before .before .before .before .before .before .before .before .before .before .before .before in
     let a = d .before .before .before .before .args in
     let e : freshFits (a .s .now) (a .pages) (a .cells) ≡ true = sym (d .before .fits2 .ensures) ∙ not-false _ (d .if1 .left) in
-    let k = c .before .before .before .before .before .before .before .fresh .ensures in
-    let h = c .before .before .before .before .before .before .put-header .ensures in
+    let k = c .before .before .before .before .before .before .before .before .fresh .ensures in
+    let h = c .before .before .before .before .before .before .before .put-header .ensures in
+    let b = c .before .before .before .cells-from .ensures in
     started (a .s .now) (a .pages) (a .cells) _ _ _ _ e
-    (c .before .before .before .before .before .before .before .before .before .before .before .clear .ensures) k h
-    (c .before .before .chain-cells .ensures)
+    (c .before .before .before .before .before .before .before .before .before .before .before .before .clear .ensures) k h
+    b (c .before .before .chain-cells .ensures)
 
 pub fresh-spec : {M : Type 1} → statement M
 fresh-spec =
@@ -71,6 +81,7 @@ fresh-spec =
     clear-requires
     fresh-requires
     put-header-requires
+    cells-from-requires
     chain-cells-requires
     same-length-2
     returns-2)

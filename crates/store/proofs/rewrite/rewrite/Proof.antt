@@ -20,21 +20,21 @@ larger-requires c κs = search needs
 join-requires : tie.Need-join-requires
 join-requires c κs =
     let q = c .before .before .before .before .before .before .before .pre in
-    (q .pages, omega arith, rw (c .before .before .before .before .entry-at .ensures) (q .own))
+    (q .low, omega arith, rw (c .before .before .before .before .entry-at .ensures) (q .own))
 
 fill-requires : tie.Need-fill-requires
 fill-requires c κs =
     let b = c .before .before .before .before .before .before .before .before in
     let q = b .before .before .before .pre in
     let l = c .before .before .before .before .before .larger .ensures in
-    (q .pages, rw l (q .long), rw (c .before .before .before .join .ensures, b .entry-at .ensures, l) (q .both))
+    (q .low, rw l (q .long), rw (c .before .before .before .join .ensures, b .entry-at .ensures, l) (q .both))
 
 cut-requires : tie.Need-cut-requires
 cut-requires c κs =
     let b = c .before .before .before .before .before .before .before in
     let q = b .before .before .before .before .before .before .before .before .pre in
     let l = b .before .before .larger .ensures in (
-      q .pages,
+      q .low,
       omega arith,
       rw (c .before .before .before .fill .ensures, b .join .ensures, b .before .before .before .before .before .entry-at .ensures, l) (q .kept),
     )
@@ -62,7 +62,7 @@ returns c =
     let b = c .before .before .before .before .before .before .before .before .before .before in
     let d = b .before .before .before .before .before .before .before .before .before .before .before .before in
     let a = d .before .before .before .before .before .before .before .before .args in
-    rewritten-is (a .s .now) _ _ _ _ _ _ (a .code .now) (a .pages) (a .p) _ (a .old) (a .new) _ _ (a .sum) (a .hours)
+    rewritten-is (a .s .now) _ _ _ _ _ _ (a .code .now) (a .base) (a .p) _ (a .old) (a .new) _ _ (a .sum) (a .hours)
     (d .before .before .before .before .before .entry-at .ensures) (d .before .before .before .link .ensures .is) (d .before .before .larger .ensures)
     (d .join .ensures)
     (b .before .before .before .before .before .before .before .before .fill .ensures) (b .before .before .before .before .cut .ensures)
