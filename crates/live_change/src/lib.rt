@@ -12,7 +12,7 @@ use store::total::total;
 ghost use mathlib.Core.Bool.{true};
 ghost use mathlib.Core.Path.{_≡_};
 ghost use Prim.Native.Nat.{_+_, max};
-ghost use Rattle.bits.specs.Numbers.{numberAt};
+ghost use Rattle.store.specs.Reading.{hoursOf};
 ghost use Rattle.store.specs.Plain.{Append, Set};
 ghost use Rattle.store.specs.Sound.{sound};
 ghost use Rattle.store.specs.Call.{Called};
@@ -22,7 +22,7 @@ ghost use Rattle.store.specs.Answers.{told};
 // Makes the count of hour i v in a sound store, whose number of hours becomes the one given. The page's cells are worked out once for the
 // old sum and once for the new one, and nothing is written before they are known to suffice.
 fn change_hour(s: &mut [u8], i: usize, v: u32, hours: usize) -> Answer
-    requires { ⌜ Asked (now s) i × (hours ≡ max (numberAt (now s) 12 4) (i + 1)) ⌝ }
+    requires { ⌜ Asked (now s) i × (hours ≡ max (hoursOf (now s)) (i + 1)) ⌝ }
     ensures { λ r. ⌜ Changes (now (s .entry)) i v (told r) (now (s .exit)) ⌝ }
 {
     let head = Header::of(s);

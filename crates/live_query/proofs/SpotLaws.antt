@@ -8,7 +8,7 @@ use native.Mathlib.Decide.{decLe}
 use Rattle.lists.specs.Lists.{reached, reading, sum}
 use Rattle.bits.specs.Numbers.{numberAt}
 use Rattle.store.specs.Plain.{page}
-use Rattle.store.specs.Reading.{read}
+use Rattle.store.specs.Reading.{listIn, pagesOf}
 use Rattle.store.specs.Sound.{sound}
 use Rattle.store.proofs.SoundFacts.{facts, sum-read}
 use Rattle.pages.proofs.Prefix.{before-all, before-fits, reading-next, reading-none}
@@ -25,10 +25,10 @@ pub record Going (xs : List ℕ) (P q p before all : ℕ) : Type 0 where
 
 module _ (s : List ℕ) (e : sound s ≡ true) where
   abbrev xs : List ℕ
-  xs = read s .plain .counts
+  xs = listIn s
 
   abbrev P : ℕ
-  P = numberAt s 2 2
+  P = pagesOf s
 
   sum-at : (p a r : ℕ) → p < P → a ≡ entryAt p → r ≡ numberAt s a 4 → r ≡ sum (page xs p)
   sum-at p a r l ea er = sum-read s p a r ea er ∙ facts s e .sums p l

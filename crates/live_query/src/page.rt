@@ -5,16 +5,15 @@ ghost use mathlib.Core.Bool.{true};
 ghost use mathlib.Core.Path.{_≡_};
 ghost use Prim.Native.Nat.{_+_, _≤_, _<_};
 ghost use Rattle.lists.specs.Lists.{reached, sum};
-ghost use Rattle.bits.specs.Numbers.{numberAt};
 ghost use Rattle.store.specs.Plain.{page};
-ghost use Rattle.store.specs.Reading.{read};
+ghost use Rattle.store.specs.Reading.{listIn, pagesOf};
 ghost use Rattle.store.specs.Sound.{sound};
 ghost use Rattle.live_query.specs.Code.Page.{Walked};
 
 // Count j of page p and acc, and with keep = 1 the counts before it in the page too.
 pub(crate) fn walk_page(s: &[u8], p: usize, j: usize, acc: u64, keep: u64) -> u64
-    requires { ⌜ (sound (now s) ≡ true) × (p < numberAt (now s) 2 2) × (j < 64) × (acc < 4294967296) × (keep ≤ 1) ⌝ }
-    ensures { λ r. ⌜ Walked (page (read (now (s .entry)) .plain .counts) p) j acc keep r ⌝ }
+    requires { ⌜ (sound (now s) ≡ true) × (p < pagesOf (now s)) × (j < 64) × (acc < 4294967296) × (keep ≤ 1) ⌝ }
+    ensures { λ r. ⌜ Walked (page (listIn (now (s .entry))) p) j acc keep r ⌝ }
 {
     let e = entry_of(s, p);
     let code = gather_at(s, e.base, p, e.cells);
@@ -23,9 +22,9 @@ pub(crate) fn walk_page(s: &[u8], p: usize, j: usize, acc: u64, keep: u64) -> u6
 
 // The least index in page p whose prefix sum in it is q or more, and n.
 pub(crate) fn search_page(s: &[u8], p: usize, q: u64, n: u64) -> u64
-    requires { ⌜ (sound (now s) ≡ true) × (p < numberAt (now s) 2 2) × (n < 4294967296) ⌝ }
-    requires { ⌜ (1 ≤ q) × (q ≤ sum (page (read (now s) .plain .counts) p)) ⌝ }
-    ensures { λ r. ⌜ r ≡ n + reached q (page (read (now (s .entry)) .plain .counts) p) ⌝ }
+    requires { ⌜ (sound (now s) ≡ true) × (p < pagesOf (now s)) × (n < 4294967296) ⌝ }
+    requires { ⌜ (1 ≤ q) × (q ≤ sum (page (listIn (now s)) p)) ⌝ }
+    ensures { λ r. ⌜ r ≡ n + reached q (page (listIn (now (s .entry))) p) ⌝ }
 {
     let e = entry_of(s, p);
     let code = gather_at(s, e.base, p, e.cells);

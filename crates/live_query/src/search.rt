@@ -10,9 +10,8 @@ ghost use mathlib.Core.Bool.{true};
 ghost use mathlib.Core.Path.{_≡_};
 ghost use Prim.Native.Nat.{_≤_, _<_};
 ghost use Rattle.lists.specs.Lists.{reached, sum};
-ghost use Rattle.bits.specs.Numbers.{numberAt};
 ghost use Rattle.store.specs.Plain.{Reach};
-ghost use Rattle.store.specs.Reading.{read};
+ghost use Rattle.store.specs.Reading.{listIn, pagesOf};
 ghost use Rattle.store.specs.Sound.{sound};
 ghost use Rattle.store.specs.Call.{Called};
 ghost use Rattle.store.specs.Answers.{told};
@@ -26,8 +25,8 @@ struct Spot {
 
 // The page in which q is reached, and what is left of q there.
 fn page_of(s: &[u8], q: u64) -> Spot
-    requires { ⌜ (sound (now s) ≡ true) × (1 ≤ q) × (q ≤ sum (read (now s) .plain .counts)) ⌝ }
-    ensures { λ r. ⌜ Spots (read (now (s .entry)) .plain .counts) (numberAt (now (s .entry)) 2 2) q (r .page) (r .rest) ⌝ }
+    requires { ⌜ (sound (now s) ≡ true) × (1 ≤ q) × (q ≤ sum (listIn (now s))) ⌝ }
+    ensures { λ r. ⌜ Spots (listIn (now (s .entry))) (pagesOf (now (s .entry))) q (r .page) (r .rest) ⌝ }
 {
     let mut page = 0;
     let mut before = 0;
@@ -45,8 +44,8 @@ fn page_of(s: &[u8], q: u64) -> Spot
 
 // The least index whose prefix sum is q or more.
 fn reach_in(s: &[u8], q: u64) -> u64
-    requires { ⌜ (sound (now s) ≡ true) × (q ≤ sum (read (now s) .plain .counts)) ⌝ }
-    ensures { λ r. ⌜ r ≡ reached q (read (now (s .entry)) .plain .counts) ⌝ }
+    requires { ⌜ (sound (now s) ≡ true) × (q ≤ sum (listIn (now s))) ⌝ }
+    ensures { λ r. ⌜ r ≡ reached q (listIn (now (s .entry))) ⌝ }
 {
     if q == 0 {
         return 0;

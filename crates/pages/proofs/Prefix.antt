@@ -9,9 +9,8 @@ use lib.Seq.{take-all}
 use Rattle.lists.specs.Lists.{reading, sum, tabulate}
 use Rattle.lists.proofs.Pages.{reading-behind}
 use Rattle.lists.proofs.Sums.{sum-next, sum-take-le}
-use Rattle.bits.specs.Numbers.{numberAt}
 use Rattle.store.specs.Plain.{page}
-use Rattle.store.specs.Reading.{read, sumIn}
+use Rattle.store.specs.Reading.{listIn, pagesOf, sumIn}
 use Rattle.store.specs.Sound.{sound}
 use Rattle.store.proofs.SoundFacts.{facts}
 
@@ -25,10 +24,10 @@ reading-next xs p = ap (λ (z : ℕ). reading xs (64 * z)) (add-one p) ∙ readi
 
 module _ (s : List ℕ) (e : sound s ≡ true) where
   abbrev xs : List ℕ
-  xs = read s .plain .counts
+  xs = listIn s
 
   -- the sums of the first p entries
-  pub sums-before : (p : ℕ) → p ≤ numberAt s 2 2 → sum (tabulate p (sumIn s)) ≡ reading xs (64 * p)
+  pub sums-before : (p : ℕ) → p ≤ pagesOf s → sum (tabulate p (sumIn s)) ≡ reading xs (64 * p)
   unfolding tabulate sum
   sums-before zero l = refl
   sums-before (suc p) l =
@@ -40,5 +39,5 @@ module _ (s : List ℕ) (e : sound s ≡ true) where
   pub before-fits : (i : ℕ) → reading xs i ≤ 4294967295
   before-fits i = omega (arith, sum-take-le i xs, facts s e .total-fits)
 
-  pub before-all : reading xs (64 * numberAt s 2 2) ≡ sum xs
-  before-all = ap sum (take-all (64 * numberAt s 2 2) xs (omega (arith, facts s e .hours-fit, facts s e .hours-are)))
+  pub before-all : reading xs (64 * pagesOf s) ≡ sum xs
+  before-all = ap sum (take-all (64 * pagesOf s) xs (omega (arith, facts s e .hours-fit, facts s e .hours-are)))

@@ -6,11 +6,10 @@ use native.Mathlib.Omega.{arith}
 use lib.ListN.{length, getD, replicate}
 use Rattle.lists.specs.Lists.{fill, splice, sum}
 use Rattle.lists.proofs.Zeros.{splice-zeros}
-use Rattle.bits.specs.Numbers.{numberAt}
 use Rattle.store.specs.PageCode.{cells, pageBytes}
 use Rattle.store.specs.Plain.{page}
 use Rattle.store.specs.Layout.{Model, cellsFrom, entryAt}
-use Rattle.store.specs.Reading.{chainIn, codeIn, read, sumIn}
+use Rattle.store.specs.Reading.{chainIn, codeIn, pagesOf, read, sumIn}
 use Rattle.store.specs.Sound.{Good}
 use Rattle.store.specs.Links.{Steps}
 use Rattle.store.specs.Hours.{OfPage}
@@ -50,7 +49,7 @@ module _ {s : List ℕ} {base p t k : ℕ} (o : OfPage s base p t k) where
   pub few : k ≤ 8
   few = omega (arith, o .cells-is, cells-most t (omega (arith, sum-small)))
 
-  pub pages-few : numberAt s 2 2 ≤ 1024
+  pub pages-few : pagesOf s ≤ 1024
   pages-few = f .pages-high
 
   pub base-low : base < 65536
@@ -63,16 +62,16 @@ module _ {s : List ℕ} {base p t k : ℕ} (o : OfPage s base p t k) where
       let n : length cs ≡ k = g .lengths p inside ∙ ap cells (sym sum-same) ∙ sym (o .cells-is) in
       let size = f .holds .size in
       rw (q, base-same, ← n)
-      (walk-steps s (cellsFrom (m .plain .pages)) (m .plain .cells) (entryAt p + 4) cs 0 (g .cells-high) (omega arith) (omega (arith, inside))
+      (walk-steps s (cellsFrom (m .plain .pages)) (m .plain .cells) (entryAt p + 4) cs 0 (g .limits .cells-high) (omega arith) (omega (arith, inside))
       (chain-left cs (m .spare) (page-and-spare m g p inside)) (spread-of s m (g .rows) (f .holds) .links p inside))
 
   -- and holds the code of its counts
-  code-same : codeIn s base (chainIn s (numberAt s 2 2) p) ≡ pageBytes x
+  code-same : codeIn s base (chainIn s (pagesOf s) p) ≡ pageBytes x
   code-same = rw (base-same, f .pages-are) (code-in s m g (f .holds) p inside)
 
-  chain-same : (a : ℕ) → a ≡ entryAt p → codeFrom s base (a + 4) k ≡ codeIn s base (chainIn s (numberAt s 2 2) p)
+  chain-same : (a : ℕ) → a ≡ entryAt p → codeFrom s base (a + 4) k ≡ codeIn s base (chainIn s (pagesOf s) p)
   unfolding chainIn
-  chain-same a q = rw (o .base-is) (ap₂ (λ (i j : ℕ). codeFrom s (cellsFrom (numberAt s 2 2)) (i + 4) j) q (o .cells-is ∙ ap cells (o .sum-is)))
+  chain-same a q = rw (o .base-is) (ap₂ (λ (i j : ℕ). codeFrom s (cellsFrom (pagesOf s)) (i + 4) j) q (o .cells-is ∙ ap cells (o .sum-is)))
 
   pub gathered : (a : ℕ) (r : List ℕ) → a ≡ entryAt p → r ≡ splice (replicate 240 0) 0 (codeFrom s base (a + 4) k) → Gathered s p r
   unfolding fill
@@ -84,7 +83,7 @@ module _ {s : List ℕ} {base p t k : ℕ} (o : OfPage s base p t k) where
       ∙ splice-zeros 240 (pageBytes x)
       ∙ ap (λ (i : ℕ). pageBytes x ++ replicate (240 - i) 0) n in
       record {
-        cells-are = b ∙ ap (λ (y : List ℕ). y ++ z) (sym code-same ∙ ap (λ (i : ℕ). codeIn s i (chainIn s (numberAt s 2 2) p)) (o .base-is));
+        cells-are = b ∙ ap (λ (y : List ℕ). y ++ z) (sym code-same ∙ ap (λ (i : ℕ). codeIn s i (chainIn s (pagesOf s) p)) (o .base-is));
         code-is = b;
       }
 

@@ -4,16 +4,15 @@ use crate::gather::gather_at;
 ghost use mathlib.Core.Bool.{true};
 ghost use mathlib.Core.Path.{_≡_};
 ghost use Prim.Native.Nat.{_<_};
-ghost use Rattle.bits.specs.Numbers.{numberAt};
 ghost use Rattle.store.specs.Plain.{page};
-ghost use Rattle.store.specs.Reading.{read};
+ghost use Rattle.store.specs.Reading.{listIn, pagesOf};
 ghost use Rattle.store.specs.Sound.{sound};
 ghost use Rattle.store.specs.Hours.{OfPage};
 
 // The counts of page p of a sound store, of the sum and cells given.
 pub fn counts_at(s: &[u8], base: usize, p: usize, sum: u64, k: usize) -> [u32; 64]
     requires { ⌜ OfPage (now s) base p sum k ⌝ }
-    ensures { λ r. ⌜ r ≡ page (read (now (s .entry)) .plain .counts) p ⌝ }
+    ensures { λ r. ⌜ r ≡ page (listIn (now (s .entry))) p ⌝ }
 {
     let code = gather_at(s, base, p, k);
     let mut counts = [0u32; 64];
@@ -23,8 +22,8 @@ pub fn counts_at(s: &[u8], base: usize, p: usize, sum: u64, k: usize) -> [u32; 6
 
 // The same, where nothing of the page is known yet.
 pub fn page_counts(s: &[u8], p: usize) -> [u32; 64]
-    requires { ⌜ (sound (now s) ≡ true) × (p < numberAt (now s) 2 2) ⌝ }
-    ensures { λ r. ⌜ r ≡ page (read (now (s .entry)) .plain .counts) p ⌝ }
+    requires { ⌜ (sound (now s) ≡ true) × (p < pagesOf (now s)) ⌝ }
+    ensures { λ r. ⌜ r ≡ page (listIn (now (s .entry))) p ⌝ }
 {
     let e = entry_of(s, p);
     counts_at(s, e.base, p, e.sum, e.cells)

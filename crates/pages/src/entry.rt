@@ -6,7 +6,7 @@ use store::page_bytes::cells_of;
 ghost use mathlib.Core.Bool.{true};
 ghost use mathlib.Core.Path.{_≡_};
 ghost use Prim.Native.Nat.{_<_};
-ghost use Rattle.bits.specs.Numbers.{numberAt};
+ghost use Rattle.store.specs.Reading.{pagesOf};
 ghost use Rattle.store.specs.Sound.{sound};
 ghost use Rattle.store.specs.Hours.{OfPage};
 
@@ -18,7 +18,7 @@ pub struct Entry {
 }
 
 pub fn entry_of(s: &[u8], p: usize) -> Entry
-    requires { ⌜ (sound (now s) ≡ true) × (p < numberAt (now s) 2 2) ⌝ }
+    requires { ⌜ (sound (now s) ≡ true) × (p < pagesOf (now s)) ⌝ }
     ensures { λ r. ⌜ OfPage (now (s .entry)) (r .base) p (r .sum) (r .cells) ⌝ }
 {
     let sum = bits::numbers::get4(s, entry_at(p));

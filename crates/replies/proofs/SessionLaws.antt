@@ -6,13 +6,14 @@ use Prim.Native.Nat.{ℕ}
 use native.Mathlib.Omega.{arith}
 use lib.ListN.{length, replicate, length-replicate}
 use lib.Dec.{leb}
-use borrow.Author.Tests.{leb-true, eq-eqb}
+use borrow.Author.Tests.{eq-eqb}
 use Rattle.lists.specs.Lists.{concat, every, pick}
-use Rattle.lists.proofs.Tests.{each}
+use Rattle.store.proofs.LimitLaws.{limits-hold}
+use Rattle.store.specs.Limits.{fits}
 use Rattle.store.specs.Plain.{Call, plainFresh, refused}
 use Rattle.store.specs.Layout.{Model, bytesOf, fresh, size}
 use Rattle.store.specs.Sound.{Good, sound}
-use Rattle.store.specs.Call.{Result, after, call, freshCall, freshFits}
+use Rattle.store.specs.Call.{Result, after, call, freshCall}
 use Rattle.store.proofs.FreshLaws.{fresh-good}
 use Rattle.store.proofs.SoundFacts.{facts}
 use Rattle.store.proofs.StepLaws.{after-good, after-plain}
@@ -71,16 +72,13 @@ asks-agree c s b (store m g) = record {
 limits : ℕ → ℕ → Bool
 limits P C = every (leb 1 P ∷ leb P 1024 ∷ leb 1 C ∷ leb C 1800 ∷ [])
 
-fits-limits : (P C : ℕ) → freshFits (replicate (size P C) 0) P C ≡ limits P C
-unfolding freshFits every limits
+fits-limits : (P C : ℕ) → fits (replicate (size P C) 0) P C ≡ limits P C
+unfolding fits every limits
 fits-limits P C = rw (eq-eqb (length {A = ℕ} (replicate (size P C) 0)) (size P C) (length-replicate (size P C) 0))
 
 fresh-shows : (P C : ℕ) → limits P C ≡ true → Shows (bytesOf (fresh P C)) (holds (plainFresh P C))
 unfolding limits fresh
-fresh-shows P C e =
-    let w = each (leb 1 P ∷ leb P 1024 ∷ leb 1 C ∷ leb C 1800 ∷ []) e in
-    store (fresh P C)
-    (fresh-good P C (leb-true 1 P (w .0)) (leb-true P 1024 (w .1 .0)) (leb-true 1 C (w .1 .1 .0)) (leb-true C 1800 (w .1 .1 .1 .0)))
+fresh-shows P C e = store (fresh P C) (fresh-good P C (limits-hold P C e))
 
 starts-agree : (P C : ℕ) (s : List ℕ) (b : Board) → Shows s b → Agrees (renews P C s) (plainStart P C b)
 unfolding renews starts freshCall pick limits

@@ -9,10 +9,11 @@ use lib.Seq.{take-at, length-take-le}
 use lib.Dec.{leb, eqb}
 use Rattle.lists.specs.Lists.{pick, every}
 use Rattle.lists.proofs.Parts.{take-smaller}
+use Rattle.store.specs.Limits.{fits}
 use Rattle.store.specs.Plain.{Call}
 use Rattle.store.specs.Plain.{Answer as Said, changed, answered, refused}
 use Rattle.store.specs.Layout.{size, bytesOf, fresh}
-use Rattle.store.specs.Call.{Called, Result, Started, call, freshCall, freshFits}
+use Rattle.store.specs.Call.{Called, Result, Started, call, freshCall}
 use Rattle.session.specs.declared.line.Command.{Command}
 use Rattle.session.specs.declared.line.Command.the-variants.{Fresh}
 use Rattle.session.specs.declared.output.Reply.{Reply}
@@ -60,8 +61,8 @@ leaves-it {c} {d} {s} {u} {n} {p} e f w =
     of-part e f (record { reply = ap (λ (z : Turn). z .reply) (sym w); store = ap (λ (z : Turn). z .store) (sym w) })
 
 -- fresh goes by its buffer's length alone
-fits-same : (b d : List ℕ) (P C : ℕ) → length b ≡ length d → freshFits b P C ≡ freshFits d P C
-unfolding freshFits
+fits-same : (b d : List ℕ) (P C : ℕ) → length b ≡ length d → fits b P C ≡ fits d P C
+unfolding fits
 fits-same b d P C e = ap (λ (k : ℕ). every (leb 1 P ∷ leb P 1024 ∷ leb 1 C ∷ leb C 1800 ∷ eqb k (size P C) ∷ [])) e
 
 second-fourth : (a b c d x : Bool) → (b && d) ≡ false → (a && (b && (c && (d && x)))) ≡ false
@@ -70,25 +71,25 @@ second-fourth true false c d x e = refl
 second-fourth true true false d x e = refl
 second-fourth true true true d x e = rw e
 
-fits-no : (b : List ℕ) (P C : ℕ) → (leb P 1024 && leb C 1800) ≡ false → freshFits b P C ≡ false
-unfolding freshFits every
+fits-no : (b : List ℕ) (P C : ℕ) → (leb P 1024 && leb C 1800) ≡ false → fits b P C ≡ false
+unfolding fits every
 fits-no b P C e = second-fourth (leb 1 P) (leb P 1024) (leb 1 C) (leb C 1800) (eqb (length b) (size P C) && true) e
 
-fresh-yes : (b : List ℕ) (P C : ℕ) → freshFits b P C ≡ true → freshCall b P C ≡ record { answer = answered 0; bytes = bytesOf (fresh P C) }
+fresh-yes : (b : List ℕ) (P C : ℕ) → fits b P C ≡ true → freshCall b P C ≡ record { answer = answered 0; bytes = bytesOf (fresh P C) }
 unfolding freshCall pick
 fresh-yes b P C e = rw e
 
-fresh-no : (b : List ℕ) (P C : ℕ) → freshFits b P C ≡ false → freshCall b P C ≡ record { answer = refused 9; bytes = b }
+fresh-no : (b : List ℕ) (P C : ℕ) → fits b P C ≡ false → freshCall b P C ≡ record { answer = refused 9; bytes = b }
 unfolding freshCall pick
 fresh-no b P C e = rw e
 
 -- the buffer that the code takes, of n bytes, serves as one of the right length
 pub buffer : (b : List ℕ) (P C : ℕ) → length b ≡ pick (leb P 1024 && leb C 1800) (size P C) 0
-    → freshFits b P C ≡ freshFits (replicate (size P C) 0) P C
+    → fits b P C ≡ fits (replicate (size P C) 0) P C
 unfolding pick
 buffer b P C h = go (leb P 1024 && leb C 1800) refl
   where
-    go : (t : Bool) → (leb P 1024 && leb C 1800) ≡ t → freshFits b P C ≡ freshFits (replicate (size P C) 0) P C
+    go : (t : Bool) → (leb P 1024 && leb C 1800) ≡ t → fits b P C ≡ fits (replicate (size P C) 0) P C
     go true e = fits-same b (replicate (size P C) 0) P C (h ∙ rw e (sym (length-replicate (size P C) 0)))
     go false e = fits-no b P C e ∙ sym (fits-no (replicate (size P C) 0) P C e)
 
@@ -100,7 +101,7 @@ pub not-answered : (m k : ℕ) → _≡_ {A = Said} (answered m) (refused k) →
 not-answered m k e = let z : _≡_ {A = ℕ} 0 1 = cc in omega arith
 
 -- n on a buffer b that serves as one of the right length
-module _ (P C : ℕ) (s b : List ℕ) (same : freshFits b P C ≡ freshFits (replicate (size P C) 0) P C) (a : Said)
+module _ (P C : ℕ) (s b : List ℕ) (same : fits b P C ≡ fits (replicate (size P C) 0) P C) (a : Said)
     (q : a ≡ freshCall b P C .answer) where
   zeros : List ℕ
   zeros = replicate (size P C) 0
@@ -108,9 +109,9 @@ module _ (P C : ℕ) (s b : List ℕ) (same : freshFits b P C ≡ freshFits (rep
   -- refused: the turn keeps the store, and the buffer is as it was
   pub refused-it : (k : ℕ) → a ≡ refused k → (renews P C s ≡ record { reply = Refused k; store = s }) × (freshCall b P C .bytes ≡ b)
   unfolding renews starts zeros
-  refused-it k e = go (freshFits b P C) refl
+  refused-it k e = go (fits b P C) refl
     where
-      go : (t : Bool) → freshFits b P C ≡ t → (renews P C s ≡ record { reply = Refused k; store = s }) × (freshCall b P C .bytes ≡ b)
+      go : (t : Bool) → fits b P C ≡ t → (renews P C s ≡ record { reply = Refused k; store = s }) × (freshCall b P C .bytes ≡ b)
       go true f = absurd (not-answered 0 k (sym (ap (λ (r : Result). r .answer) (fresh-yes b P C f)) ∙ sym q ∙ e))
       go false f =
           let r : a ≡ refused 9 = q ∙ ap (λ (r : Result). r .answer) (fresh-no b P C f) in
@@ -122,9 +123,9 @@ module _ (P C : ℕ) (s b : List ℕ) (same : freshFits b P C ≡ freshFits (rep
 
   pub started-it : (a ≡ refused 9 → ⊥) → renews P C s ≡ record { reply = Done; store = freshCall b P C .bytes }
   unfolding renews starts zeros
-  started-it h = go (freshFits b P C) refl
+  started-it h = go (fits b P C) refl
     where
-      go : (t : Bool) → freshFits b P C ≡ t → renews P C s ≡ record { reply = Done; store = freshCall b P C .bytes }
+      go : (t : Bool) → fits b P C ≡ t → renews P C s ≡ record { reply = Done; store = freshCall b P C .bytes }
       go true f =
           ap (λ (r : Result). starts r s (r .answer)) (fresh-yes zeros P C (sym same ∙ f))
           ∙ ap (λ (r : Result). record { reply = Done; store = r .bytes }) (sym (fresh-yes b P C f))
@@ -133,7 +134,7 @@ module _ (P C : ℕ) (s b : List ℕ) (same : freshFits b P C ≡ freshFits (rep
 -- n on the first n bytes of the buffer s
 module _ (P C : ℕ) (s : List ℕ) (u n : ℕ) (h : 63760 ≤ length s) (l : n ≡ pick (leb P 1024 && leb C 1800) (size P C) 0) (m : n ≤ 63760)
     (a : Said) (t : List ℕ) (q : Started (take n s) P C a t) where
-  serves : freshFits (take n s) P C ≡ freshFits (replicate (size P C) 0) P C
+  serves : fits (take n s) P C ≡ fits (replicate (size P C) 0) P C
   serves = buffer (take n s) P C (length-take-le n s (omega arith) ∙ l)
 
   pub renew-refuses : (k : ℕ) (r : Response) → a ≡ refused k → r .used ≡ u → r .reply ≡ Refused k → Responds (Fresh P C) s u r (t ++ drop n s)

@@ -7,8 +7,9 @@ use lib.ListN.{getD, replicate}
 use borrow.Author.Tests.{eq-eqb}
 use Rattle.lists.specs.Lists.{every, same}
 use Rattle.bits.specs.Numbers.{numberAt}
-use Rattle.store.specs.Reading.{chainFrom, codeIn}
+use Rattle.store.specs.Reading.{cellsOf, chainFrom, codeIn, hoursOf, pagesOf}
 use Rattle.store.specs.Sound.{sound}
+use Rattle.store.specs.Limits.{maxCells}
 use Rattle.store.specs.Checked.{Walk, and-then, broken, checkPages, ends-well, headTests, walkMarks, whole}
 use Rattle.store.proofs.Verdict.{chainsWalk, checked, endTests, verdict}
 use Rattle.soundness.specs.Chains.{allMarked, chainsFit, freeFits, freeFrom}
@@ -24,18 +25,18 @@ three true true false h = refl
 three true false false h = refl
 three false b c h = refl
 
-module _ (s : List ℕ) (lC : numberAt s 4 2 ≤ 1800) where
+module _ (s : List ℕ) (lC : cellsOf s ≤ maxCells) where
   abbrev P : ℕ
-  P = numberAt s 2 2
+  P = pagesOf s
 
   abbrev C : ℕ
-  C = numberAt s 4 2
+  C = cellsOf s
 
   abbrev F : ℕ
   F = numberAt s 8 2
 
   abbrev pages : Walk
-  pages = checkPages s (numberAt s 2 2) (numberAt s 4 2) (numberAt s 12 4) (numberAt s 2 2) 0 (replicate 1801 0)
+  pages = checkPages s (pagesOf s) (cellsOf s) (hoursOf s) (pagesOf s) 0 (replicate 1801 0)
 
   -- the tests at the end: that the chains have all cells needs none of its own
   free-is : (m : List ℕ) (w : Walk) → pages ≡ whole m → walkMarks s (cellsFrom P) C F m 6 ≡ w
@@ -43,7 +44,7 @@ module _ (s : List ℕ) (lC : numberAt s 4 2 ≤ 1800) where
       ≡ (ends-well w (allMarked C) && same (codeIn s (cellsFrom P) (chainFrom s (cellsFrom P) F (numberAt s 6 2))) (replicate (30 * F) 0))
   unfolding ends-well endTests allMarked
   free-is m broken h q = refl
-  free-is m (whole m′) h q = three (allMarked C m′) _ _ (λ e. eq-eqb _ _ (number-all s P C (numberAt s 12 4) F m m′ lC h q e))
+  free-is m (whole m′) h q = three (allMarked C m′) _ _ (λ e. eq-eqb _ _ (number-all s P C (hoursOf s) F m m′ lC h q e))
 
   chains-is : (w : Walk) → pages ≡ w
       → ends-well (and-then w (λ m. walkMarks s (cellsFrom P) C F m 6)) (λ m. every (endTests s m)) ≡ ends-well w (freeFits s (cellsFrom P) C)
@@ -57,5 +58,5 @@ unfolding checked chainsWalk chainsFit
 check-is s b = go (every (headTests s)) refl ∙ verdict s b
   where
     go : (h : Bool) → every (headTests s) ≡ h → (h && chainsFit s) ≡ (h && ends-well (chainsWalk s) (λ m. every (endTests s m)))
-    go true e = sym (chains-is s (headed s e .cells-high) (pages s (headed s e .cells-high)) refl)
+    go true e = sym (chains-is s (headed s e .fitting .limits .cells-high) (pages s (headed s e .fitting .limits .cells-high)) refl)
     go false e = refl

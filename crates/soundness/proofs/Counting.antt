@@ -18,6 +18,7 @@ use Rattle.bits.specs.Numbers.{numberAt}
 use Rattle.store.specs.Layout.{cellAt, cellsFrom, entryAt}
 use Rattle.store.specs.PageCode.{cells}
 use Rattle.store.specs.Reading.{sumIn}
+use Rattle.store.specs.Limits.{maxCells}
 use Rattle.store.specs.Checked.{Walk, checkPages, go-on, pageTests, walkMarks, whole}
 use Rattle.store.proofs.CheckChain.{goes-on, goes-then, whole-is}
 use Rattle.soundness.specs.Chains.{allMarked}
@@ -80,7 +81,7 @@ sum-ones zero = refl
 sum-ones (suc n) = omega (arith, sum-ones n)
 
 -- where every cell is marked, the pages and the free chain, of f cells, have as many cells as there are
-pub number-all : (s : List ℕ) (P C N f : ℕ) (m m′ : List ℕ) → C ≤ 1800 → checkPages s P C N P 0 (replicate 1801 0) ≡ whole m
+pub number-all : (s : List ℕ) (P C N f : ℕ) (m m′ : List ℕ) → C ≤ maxCells → checkPages s P C N P 0 (replicate 1801 0) ≡ whole m
     → walkMarks s (cellsFrom P) C f m 6 ≡ whole m′ → allMarked C m′ ≡ true → sum (tabulate P (λ p. cells (sumIn s p))) + f ≡ C
 unfolding allMarked
 number-all s P C N f m m′ l h w e =

@@ -1,7 +1,7 @@
 -- The header's tests, one by one. Assumes nothing.
-use mathlib.Core.Path.{_≡_, sym, ap, ap₂, _∙_}
-use mathlib.Core.Bool.{true, false}
-use mathlib.Core.List.{List, [], _∷_}
+use mathlib.Core.Path.{_≡_, refl, sym, ap, ap₂, _∙_}
+use mathlib.Core.Bool.{Bool, true, false}
+use mathlib.Core.List.{List, [], _∷_, _++_}
 use Prim.Native.Nat.{ℕ, _+_, _*_, _≤_, _<_}
 use native.Mathlib.Omega.{arith}
 use lib.ListN.{length, getD, drop, length-drop}
@@ -12,10 +12,12 @@ use Rattle.lists.specs.Lists.{every, part, same, sum, tabulate}
 use Rattle.lists.proofs.Tests.{agree, each, every-last, every-no, every-of, same-eq, same-is}
 use Rattle.bits.specs.Numbers.{number, numberAt}
 use Rattle.store.specs.Heads.{Heads}
-use Rattle.store.specs.Reading.{sumIn}
+use Rattle.store.specs.Reading.{cellsOf, hoursOf, pagesOf, sumIn}
 use Rattle.store.specs.declared.header.Header.{Header}
 use Rattle.store.specs.Checked.{headTests}
-use Rattle.store.specs.Layout.{size}
+use Rattle.store.specs.Limits.{Fitting, fitTests, fits, maxCells, maxPages, maxTotal}
+use Rattle.store.proofs.LimitLaws.{fits-so}
+use Rattle.store.specs.Layout.{headerLength, size}
 
 -- test k of the header fails
 pub head-fails : (s : List ℕ) (k : ℕ) → getD (headTests s) k true ≡ false → false ≡ every (headTests s)
@@ -42,43 +44,37 @@ pub record Headed (s : List ℕ) : Type 0 where
   pub long : 16 ≤ length s
   pub edition : numberAt s 0 2 ≡ 1
   pub gap : numberAt s 10 2 ≡ 0
-  pub pages-low : 1 ≤ numberAt s 2 2
-  pub pages-high : numberAt s 2 2 ≤ 1024
-  pub cells-low : 1 ≤ numberAt s 4 2
-  pub cells-high : numberAt s 4 2 ≤ 1800
-  pub size : length s ≡ size (numberAt s 2 2) (numberAt s 4 2)
-  pub hours : numberAt s 12 4 ≤ 64 * numberAt s 2 2
+  pub fitting : Fitting s (pagesOf s) (cellsOf s)
+  pub hours : hoursOf s ≤ 64 * pagesOf s
 
 -- they leave the last: the total
-pub head-last : (s : List ℕ) → Headed s → leb (sum (tabulate (numberAt s 2 2) (sumIn s))) 4294967295 ≡ every (headTests s)
+pub head-last : (s : List ℕ) → Headed s → leb (sum (tabulate (pagesOf s) (sumIn s))) 4294967295 ≡ every (headTests s)
 unfolding headTests
 head-last s h =
-    let P : ℕ = numberAt s 2 2 in
-    let C : ℕ = numberAt s 4 2 in
+    let P : ℕ = pagesOf s in
+    let C : ℕ = cellsOf s in
+    let w = h .fitting in
+    let l = w .limits in
     sym (every-last
-    (leb 16 (length s)
+    (leb headerLength (length s)
     ∷ same (part s 0 2) (1 ∷ 0 ∷ [])
     ∷ same (part s 10 2) (0 ∷ 0 ∷ [])
-    ∷ leb 1 P
-    ∷ leb P 1024
-    ∷ leb 1 C
-    ∷ leb C 1800
-    ∷ eqb (length s) (size P C)
-    ∷ leb (numberAt s 12 4) (64 * P)
-    ∷ []) (leb (sum (tabulate P (sumIn s))) 4294967295)
+    ∷ fitTests s P C
+    ++ leb (hoursOf s) (64 * P)
+    ∷ []) (leb (sum (tabulate P (sumIn s))) maxTotal)
     (every-of _ (
-      le-leb 16 (length s) (h .long),
+      le-leb headerLength (length s) (h .long),
       (
         pair-test s 0 1 (omega arith) (omega arith) ∙ eq-eqb _ _ (h .edition),
         (
           pair-test s 10 0 (omega arith) (omega arith) ∙ eq-eqb _ _ (h .gap),
           (
-            le-leb 1 P (h .pages-low),
+            le-leb 1 P (l .pages-low),
             (
-              le-leb P 1024 (h .pages-high),
+              le-leb P maxPages (l .pages-high),
               (
-                le-leb 1 C (h .cells-low),
-                (le-leb C 1800 (h .cells-high), (eq-eqb _ _ (h .size), (le-leb (numberAt s 12 4) (64 * P) (h .hours), tt))),
+                le-leb 1 C (l .cells-low),
+                (le-leb C maxCells (l .cells-high), (eq-eqb _ _ (w .long), (le-leb (hoursOf s) (64 * P) (h .hours), tt))),
               ),
             ),
           ),
@@ -97,25 +93,39 @@ headed s e =
       long = long;
       edition = eqb-true _ _ (sym (pair-test s 0 1 (omega arith) (omega arith)) ∙ w .1 .0);
       gap = eqb-true _ _ (sym (pair-test s 10 0 (omega arith) (omega arith)) ∙ w .1 .1 .0);
-      pages-low = leb-true 1 (numberAt s 2 2) (tests .0);
-      pages-high = leb-true (numberAt s 2 2) 1024 (tests .1 .0);
-      cells-low = leb-true 1 (numberAt s 4 2) (tests .1 .1 .0);
-      cells-high = leb-true (numberAt s 4 2) 1800 (tests .1 .1 .1 .0);
-      size = eqb-true (length s) (size (numberAt s 2 2) (numberAt s 4 2)) (tests .1 .1 .1 .1 .0);
-      hours = leb-true (numberAt s 12 4) (64 * numberAt s 2 2) (tests .1 .1 .1 .1 .1 .0);
+      fitting = record {
+        limits = record {
+          pages-low = leb-true 1 (pagesOf s) (tests .0);
+          pages-high = leb-true (pagesOf s) maxPages (tests .1 .0);
+          cells-low = leb-true 1 (cellsOf s) (tests .1 .1 .0);
+          cells-high = leb-true (cellsOf s) maxCells (tests .1 .1 .1 .0);
+        };
+        long = eqb-true (length s) (size (pagesOf s) (cellsOf s)) (tests .1 .1 .1 .1 .0);
+      };
+      hours = leb-true (hoursOf s) (64 * pagesOf s) (tests .1 .1 .1 .1 .1 .0);
     }
+
+-- pages, cells or a length that are wrong
+pub unfit : (s : List ℕ) → fits s (pagesOf s) (cellsOf s) ≡ false → false ≡ every (headTests s)
+unfit s e = go (every (headTests s)) refl
+  where
+    go : (b : Bool) → every (headTests s) ≡ b → false ≡ b
+    go true q =
+        let w : fits s (pagesOf s) (cellsOf s) ≡ true = fits-so s (pagesOf s) (cellsOf s) (headed s q .fitting) in
+        let z : _≡_ {A = ℕ} 0 1 = cc in absurd (omega arith)
+    go false q = refl
 
 -- what the walk over the pages needs of it, by the header that was read
 pub record Bounds (s : List ℕ) (h : Header) : Type 0 where
-  pub pages-high : h .pages ≤ 1024
-  pub cells-high : h .cells ≤ 1800
+  pub pages-high : h .pages ≤ maxPages
+  pub cells-high : h .cells ≤ maxCells
   pub size : length s ≡ size (h .pages) (h .cells)
 
 pub bounds : (s : List ℕ) (h : Header) → every (headTests s) ≡ true → Heads s h → Bounds s h
 bounds s h e f =
     let w = headed s e in
     record {
-      pages-high = omega (arith, w .pages-high, f .pages-is);
-      cells-high = omega (arith, w .cells-high, f .cells-is);
-      size = omega (arith, w .size, f .pages-is, f .cells-is);
+      pages-high = omega (arith, w .fitting .limits .pages-high, f .pages-is);
+      cells-high = omega (arith, w .fitting .limits .cells-high, f .cells-is);
+      size = omega (arith, w .fitting .long, f .pages-is, f .cells-is);
     }

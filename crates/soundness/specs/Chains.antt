@@ -6,7 +6,7 @@ use lib.ListN.{getD, replicate}
 use Rattle.lists.specs.Lists.{same, tabulate}
 use Rattle.bits.specs.Numbers.{numberAt}
 use Rattle.store.specs.Layout.{cellsFrom}
-use Rattle.store.specs.Reading.{chainFrom, codeIn}
+use Rattle.store.specs.Reading.{cellsOf, chainFrom, codeIn, hoursOf, pagesOf}
 use Rattle.store.specs.Checked.{checkPages, ends-well, walkMarks}
 
 -- every cell, 1 to C, has its mark
@@ -24,6 +24,6 @@ freeFits s base C m = freeFrom s base C (numberAt s 8 2) m 6
 -- the pages' chains, walked with no marks at first, and then the free chain
 unfoldable pub chainsFit : List ℕ → Bool
 chainsFit s =
-    let P = numberAt s 2 2 in
-    let C = numberAt s 4 2 in
-    ends-well (checkPages s P C (numberAt s 12 4) P 0 (replicate 1801 0)) (freeFits s (cellsFrom P) C)
+    let P = pagesOf s in
+    let C = cellsOf s in
+    ends-well (checkPages s P C (hoursOf s) P 0 (replicate 1801 0)) (freeFits s (cellsFrom P) C)

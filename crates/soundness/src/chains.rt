@@ -7,24 +7,14 @@ use store::header::Header;
 use store::header::cell_at;
 use store::header::cells_from;
 use store::header::entry_at;
+use store::limits::one_to;
 use store::links::link;
 use store::page_bytes::cells_of;
-ghost use mathlib.Core.Bool.{true, _&&_};
+ghost use mathlib.Core.Bool.{true};
 ghost use mathlib.Core.Path.{_≡_};
-ghost use lib.Dec.{leb};
 ghost use Rattle.lists.specs.Lists.{every};
 ghost use Rattle.store.specs.Checked.{headTests};
 ghost use Rattle.soundness.specs.Chains.{chainsFit};
-
-// Whether c is the number of a cell.
-pub(crate) fn is_cell(c: usize, cells: usize) -> bool
-    ensures { λ r. ⌜ r ≡ (leb 1 c && leb c cells) ⌝ }
-{
-    if c == 0 {
-        return false;
-    }
-    c <= cells
-}
 
 // Walks each page's chain, and marks each cell once; ends at the first broken chain. Of the code only the bytes of the page's cells are
 // looked at, so those of an earlier page may stand behind them.
@@ -49,7 +39,7 @@ pub(crate) fn chains_fit(s: &[u8]) -> bool
         let mut j = 0;
         while j < k {
             let c = link(s, at);
-            if !is_cell(c, cells) || marks[c] != 0 {
+            if !one_to(c, cells) || marks[c] != 0 {
                 ok = false;
                 break 'pages;
             }

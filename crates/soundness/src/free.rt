@@ -1,14 +1,15 @@
 // The free chain, and that every cell was met.
-use crate::chains::is_cell;
 use bits::numbers::get2;
 use bits::numbers::get4;
 use store::header::Header;
 use store::header::cell_at;
+use store::limits::one_to;
 use store::links::link;
 ghost use mathlib.Core.Path.{_≡_};
 ghost use Prim.Native.Nat.{_+_, _*_, _≤_, _<_};
 ghost use lib.ListN.{length, replicate};
 ghost use Rattle.lists.specs.Lists.{part, same};
+ghost use Rattle.store.specs.Limits.{maxCells};
 ghost use Rattle.soundness.specs.Chains.{allMarked, freeFits};
 
 // Whether the 30 bytes from index at on are 0: whether the numbers in them add up to 0.
@@ -27,7 +28,7 @@ fn zero_block(s: &[u8], at: usize) -> bool
 
 // Whether each cell, 1 to cells, has its mark.
 fn all_marked(marks: &[u8], cells: usize) -> bool
-    requires { ⌜ (length (now marks) ≡ 1801) × (cells ≤ 1800) ⌝ }
+    requires { ⌜ (length (now marks) ≡ 1801) × (cells ≤ maxCells) ⌝ }
     ensures { λ r. ⌜ r ≡ allMarked cells (now (marks .entry)) ⌝ }
 {
     let mut c = 1;
@@ -43,7 +44,7 @@ fn all_marked(marks: &[u8], cells: usize) -> bool
 // Walks the free chain with the marks that the pages left: whether it has as many cells as the header says, clear and none met before, and
 // whether every cell is then marked.
 pub(crate) fn free_fits(s: &[u8], base: usize, cells: usize, met: [u8; 1801]) -> bool
-    requires { ⌜ (length (now s) ≡ base + 32 * cells) × (16 ≤ base) × (base < 65536) × (cells ≤ 1800) × (length met ≡ 1801) ⌝ }
+    requires { ⌜ (length (now s) ≡ base + 32 * cells) × (16 ≤ base) × (base < 65536) × (cells ≤ maxCells) × (length met ≡ 1801) ⌝ }
     ensures { λ r. ⌜ r ≡ freeFits (now (s .entry)) base cells met ⌝ }
 {
     let mut marks = met;
@@ -52,7 +53,7 @@ pub(crate) fn free_fits(s: &[u8], base: usize, cells: usize, met: [u8; 1801]) ->
     let mut j = 0;
     while j < free {
         let c = link(s, at);
-        if !is_cell(c, cells) {
+        if !one_to(c, cells) {
             return false;
         }
         if marks[c] != 0 {

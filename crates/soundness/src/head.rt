@@ -1,6 +1,7 @@
 // The header of a store.
 use bits::numbers::get2;
 use store::header::Header;
+use store::limits::fits;
 use store::total::page_sums;
 ghost use mathlib.Core.Path.{_≡_};
 ghost use Rattle.lists.specs.Lists.{every};
@@ -21,25 +22,11 @@ pub(crate) fn head_fits(s: &[u8]) -> bool
         return false;
     }
     let h = Header::of(s);
-    let pages = h.pages;
-    let cells = h.cells;
-    if pages == 0 {
+    if !fits(s, h.pages, h.cells) {
         return false;
     }
-    if Header::MAX_PAGES < pages {
+    if Header::HOURS * h.pages < h.hours {
         return false;
     }
-    if cells == 0 {
-        return false;
-    }
-    if Header::MAX_CELLS < cells {
-        return false;
-    }
-    if s.len() != Header::SIZE + Header::ENTRY * pages + Header::CELL * cells {
-        return false;
-    }
-    if Header::HOURS * pages < h.hours {
-        return false;
-    }
-    page_sums(s, pages) <= Header::MAX_TOTAL
+    page_sums(s, h.pages) <= Header::MAX_TOTAL
 }

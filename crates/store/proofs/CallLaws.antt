@@ -9,7 +9,7 @@ use borrow.Author.Tests.{eq-eqb, ne-eqb, le-leb, lt-leb, not-false, not-true}
 use Rattle.lists.specs.Lists.{pick}
 use Rattle.store.specs.Plain.{Answer, Append, Call, Outcome, Plain, Set, answered, change, refused, step}
 use Rattle.store.specs.Layout.{bytesOf}
-use Rattle.store.specs.Reading.{read}
+use Rattle.store.specs.Reading.{listIn, read}
 use Rattle.store.specs.Sound.{sound}
 use Rattle.store.specs.Call.{Called, after, apply, call, hour}
 use Rattle.store.specs.Heads.{Heads}
@@ -39,7 +39,7 @@ call-sound : (c : Call) (s t : List ℕ) (r : Answer) → sound s ≡ true → r
 call-sound c s t r e a b = let w = sound-call c s e in record { answer = a ∙ w .answer; bytes = b ∙ w .bytes }
 
 -- an answer that leaves the store as it is: a refusal, a number
-stays : (c : Call) (s : List ℕ) (a : Answer) → sound s ≡ true → step c (read s .plain) ≡ record { answer = a; counts = read s .plain .counts }
+stays : (c : Call) (s : List ℕ) (a : Answer) → sound s ≡ true → step c (read s .plain) ≡ record { answer = a; list = read s .plain }
     → ((p : ℕ) (o : Outcome) → apply (read s) p o a ≡ read s) → Called c s a s
 unfolding after
 stays c s a e st k =
@@ -47,15 +47,15 @@ stays c s a e st k =
     (facts s e .same
     ∙ sym
     (ap (λ (o : Outcome). bytesOf (apply (read s) (hour c (read s .plain) / 64) o (o .answer))) st
-    ∙ ap bytesOf (k (hour c (read s .plain) / 64) (record { answer = a; counts = read s .plain .counts }))))
+    ∙ ap bytesOf (k (hour c (read s .plain) / 64) (record { answer = a; list = read s .plain }))))
 
 pub refused-as : (c : Call) (s : List ℕ) (k : ℕ) → sound s ≡ true
-    → step c (read s .plain) ≡ record { answer = refused k; counts = read s .plain .counts } → Called c s (refused k) s
+    → step c (read s .plain) ≡ record { answer = refused k; list = read s .plain } → Called c s (refused k) s
 unfolding apply
 refused-as c s k e st = stays c s (refused k) e st (λ p o. refl)
 
 pub answered-as : (c : Call) (s : List ℕ) (n : ℕ) → sound s ≡ true
-    → step c (read s .plain) ≡ record { answer = answered n; counts = read s .plain .counts } → Called c s (answered n) s
+    → step c (read s .plain) ≡ record { answer = answered n; list = read s .plain } → Called c s (answered n) s
 unfolding apply
 answered-as c s n e st = stays c s (answered n) e st (λ p o. refl)
 
@@ -76,7 +76,7 @@ append-room : (L : Plain) (v : ℕ) → length (L .counts) < 64 * L .pages → s
 unfolding step pick
 append-room L v l = rw (lt-leb (64 * L .pages) (length (L .counts)) l) (ap (change L) (sym (with-end (L .counts) v)))
 
-append-full : (L : Plain) (v : ℕ) → 64 * L .pages ≤ length (L .counts) → step (Append v) L ≡ record { answer = refused 11; counts = L .counts }
+append-full : (L : Plain) (v : ℕ) → 64 * L .pages ≤ length (L .counts) → step (Append v) L ≡ record { answer = refused 11; list = L }
 unfolding step pick
 append-full L v l = rw (le-leb (64 * L .pages) (length (L .counts)) l)
 
@@ -98,10 +98,10 @@ module _ {s : List ℕ} (v : ℕ) (e : sound s ≡ true) {H : Header} (h : Heads
   unfolding changeTo
   append-go {t} {r} l w =
       let f = facts s e in
-      let i : length (read s .plain .counts) ≡ H .hours = omega (arith, f .hours-are, h .hours-is) in
+      let i : length (listIn s) ≡ H .hours = omega (arith, f .hours-are, h .hours-is) in
       changed-as (Append v) s t (H .hours) v r e (append-hour v (read s .plain) ∙ i)
       (append-room (read s .plain) v (omega (arith, f .pages-are, h .pages-is))
-      ∙ ap (λ (z : ℕ). change (read s .plain) (withHour (read s .plain .counts) z v)) i) w
+      ∙ ap (λ (z : ℕ). change (read s .plain) (withHour (listIn s) z v)) i) w
 
 -- ---- set
 with-inside : (xs : List ℕ) (i v : ℕ) → i < length xs → withHour xs i v ≡ set xs i v
@@ -112,7 +112,7 @@ set-room : (L : Plain) (i v : ℕ) → i < length (L .counts) → step (Set i v)
 unfolding step pick
 set-room L i v l = rw (lt-leb (length (L .counts)) i l) (ap (change L) (sym (with-inside (L .counts) i v l)))
 
-set-past : (L : Plain) (i v : ℕ) → length (L .counts) ≤ i → step (Set i v) L ≡ record { answer = refused 7; counts = L .counts }
+set-past : (L : Plain) (i v : ℕ) → length (L .counts) ≤ i → step (Set i v) L ≡ record { answer = refused 7; list = L }
 unfolding step pick
 set-past L i v l = rw (le-leb (length (L .counts)) i l)
 

@@ -7,6 +7,7 @@ use native.Mathlib.Omega.{arith}
 use lib.ListN.{length, getD}
 use Rattle.lists.specs.Lists.{concat, occurrences, sum, tabulate}
 use Rattle.bits.specs.Numbers.{number, numberAt}
+use Rattle.store.specs.Limits.{maxCells}
 use Rattle.store.specs.PageCode.{cells}
 use Rattle.store.specs.Plain.{need, page}
 use Rattle.store.specs.Layout.{Model, bytesOf, cellAt, size, cellsFrom, entryAt}
@@ -22,7 +23,7 @@ use Rattle.store.proofs.SoundLaws.{sound-bytes}
 use Rattle.store.proofs.Spread.{spread-of}
 use Rattle.store.proofs.Writes.{Chain, Linked}
 
-pub linked-runs : (s : List ℕ) (base C a : ℕ) (cs : List ℕ) → C ≤ 1800 → Chain C cs → Linked s base a cs 0 → Runs s base (numberAt s a 2) cs
+pub linked-runs : (s : List ℕ) (base C a : ℕ) (cs : List ℕ) → C ≤ maxCells → Chain C cs → Linked s base a cs 0 → Runs s base (numberAt s a 2) cs
 linked-runs s base C a [] l j h = ap number h ∙ number-two 0 (omega arith)
 linked-runs s base C a (c ∷ cs) l j h =
     let w = chain-head C c cs j in
@@ -69,12 +70,12 @@ module _ (m : Model) (g : Good m) where
     page-cells = λ p l. ap length (chain-is s m g h p l) ∙ g .lengths p l;
     page-ends = λ p l.
         rw (chain-is s m g h p l)
-        (linked-runs s (cellsFrom (m .plain .pages)) (m .plain .cells) (entryAt p + 4) (getD (m .chains) p []) (g .cells-high)
+        (linked-runs s (cellsFrom (m .plain .pages)) (m .plain .cells) (entryAt p + 4) (getD (m .chains) p []) (g .limits .cells-high)
         (chain-left (getD (m .chains) p []) (m .spare) (page-and-spare m g p l)) (spread-of s m (g .rows) h .links p l));
     free-cells = ap (λ (z : List ℕ). length z + need (m .plain .counts) (m .plain .pages)) spare-same ∙ spare-is m g;
     free-ends =
         rw spare-same
-        (linked-runs s (cellsFrom (m .plain .pages)) (m .plain .cells) 6 (m .spare) (g .cells-high)
-        (chain-right (getD (m .chains) 0 []) (m .spare) (page-and-spare m g 0 (g .pages-low))) (spread-of s m (g .rows) h .free));
+        (linked-runs s (cellsFrom (m .plain .pages)) (m .plain .cells) 6 (m .spare) (g .limits .cells-high)
+        (chain-right (getD (m .chains) 0 []) (m .spare) (page-and-spare m g 0 (g .limits .pages-low))) (spread-of s m (g .rows) h .free));
     once = λ c. ap₂ (λ (x : List (List ℕ)) (y : List ℕ). occurrences c (concat x ++ y)) chains-same spare-same ∙ g .once c;
   }

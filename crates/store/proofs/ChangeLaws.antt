@@ -9,9 +9,9 @@ use borrow.Author.Tests.{lt-ltb, le-ltb}
 use Rattle.lists.specs.Lists.{pick, sum}
 use Rattle.bits.specs.Numbers.{numberAt}
 use Rattle.store.specs.PageCode.{cells, pageBytes}
-use Rattle.store.specs.Plain.{Outcome, Plain, change, changed, need, page, refused}
+use Rattle.store.specs.Plain.{Outcome, Plain, change, changed, need, page, refused, relisted}
 use Rattle.store.specs.Layout.{Model, bytesOf, entryAt, cellsFrom}
-use Rattle.store.specs.Reading.{read, sumIn}
+use Rattle.store.specs.Reading.{listIn, pagesOf, read, sumIn}
 use Rattle.store.specs.Call.{apply}
 use Rattle.store.specs.Links.{Ready, rewritten}
 use Rattle.store.specs.Heads.{Heads}
@@ -33,11 +33,11 @@ one-side a b = go (decLe a b)
     go (no l) = let e : b - a ≡ 0 = omega arith in rw e (omega arith)
 
 module _ (L : Plain) (ys : List ℕ) where
-  change-over : 4294967295 < sum ys → change L ys ≡ record { answer = refused 3; counts = L .counts }
+  change-over : 4294967295 < sum ys → change L ys ≡ record { answer = refused 3; list = L }
   unfolding change pick
   change-over a = rw (lt-ltb 4294967295 (sum ys) a)
 
-  change-short : sum ys ≤ 4294967295 → L .cells < need ys (L .pages) → change L ys ≡ record { answer = refused 12; counts = L .counts }
+  change-short : sum ys ≤ 4294967295 → L .cells < need ys (L .pages) → change L ys ≡ record { answer = refused 12; list = L }
   unfolding change pick
   change-short a b = rw (le-ltb 4294967295 (sum ys) a, lt-ltb (L .cells) (need ys (L .pages)) b)
 
@@ -45,21 +45,21 @@ module _ (L : Plain) (ys : List ℕ) where
       → change L ys ≡ record {
         answer = changed (need ys (L .pages) - need (L .counts) (L .pages))
             (need (L .counts) (L .pages) - need ys (L .pages));
-        counts = ys;
+        list = relisted L ys;
       }
   unfolding change pick
   change-done a b = rw (le-ltb 4294967295 (sum ys) a, le-ltb (L .cells) (need ys (L .pages)) b)
 
 -- what the code has read: the page's counts, its sum, its cells, and the list's total
 pub record Has (s : List ℕ) (i : ℕ) (counts : List ℕ) (before old total : ℕ) : Type 0 where
-  pub counts-are : counts ≡ page (read s .plain .counts) (i / 64)
+  pub counts-are : counts ≡ page (listIn s) (i / 64)
   pub before-is : before ≡ sumIn s (i / 64)
   pub old-is : old ≡ cells before
-  pub total-is : total ≡ sum (read s .plain .counts)
+  pub total-is : total ≡ sum (listIn s)
 
-pub has : (s : List ℕ) (i : ℕ) {e : ℕ} {counts : List ℕ} {before old total : ℕ} → counts ≡ page (read s .plain .counts) (i / 64)
+pub has : (s : List ℕ) (i : ℕ) {e : ℕ} {counts : List ℕ} {before old total : ℕ} → counts ≡ page (listIn s) (i / 64)
     → e ≡ entryAt (i / 64)
-    → before ≡ numberAt s e 4 → old ≡ cells before → total ≡ sum (read s .plain .counts) → Has s i counts before old total
+    → before ≡ numberAt s e 4 → old ≡ cells before → total ≡ sum (listIn s) → Has s i counts before old total
 has s i a e b c d = record { counts-are = a; before-is = sum-read s (i / 64) _ _ e b; old-is = c; total-is = d }
 
 -- the page of an hour that is asked for
@@ -101,10 +101,10 @@ module _ {s : List ℕ} {i : ℕ} (v : ℕ) (q : Asked s i) {H : Header} (hd : H
   w : With xs ys i v
   w = with-hour xs i v (q .reached)
 
-  lp : p < numberAt s 2 2
+  lp : p < pagesOf s
   lp = omega (arith, q .inside)
 
-  pages-eq : numberAt s 2 2 ≡ m .plain .pages
+  pages-eq : pagesOf s ≡ m .plain .pages
   pages-eq = f .pages-are
 
   was-is : was ≡ getD xs i 0
@@ -157,7 +157,7 @@ module _ {s : List ℕ} {i : ℕ} (v : ℕ) (q : Asked s i) {H : Header} (hd : H
   left : numberAt s 8 2 + need xs (m .plain .pages) ≡ m .plain .cells
   left = omega (arith, f .free-and-need, ap (need xs) pages-eq, f .cells-are)
 
-  unchanged : (k : ℕ) → change (m .plain) ys ≡ record { answer = refused k; counts = xs } → Changes s i v (refused k) s
+  unchanged : (k : ℕ) → change (m .plain) ys ≡ record { answer = refused k; list = m .plain } → Changes s i v (refused k) s
   unfolding apply changeTo
   unchanged k e = record {
     answer = sym (ap (λ (o : Outcome). o .answer) e);

@@ -12,6 +12,7 @@ use borrow.Author.Tests.{le-leb, leb-true, eq-eqb, eqb-true}
 use Rattle.lists.specs.Lists.{occurrences, one}
 use Rattle.bits.specs.Numbers.{little, number, numberAt}
 use Rattle.bits.proofs.Little.{stored}
+use Rattle.store.specs.Limits.{maxCells}
 use Rattle.store.specs.Layout.{cellAt}
 use Rattle.store.specs.Reading.{chainFrom}
 use Rattle.lists.proofs.Occurrences.{occurrences-append, one-equal, one-other, one-same}
@@ -49,7 +50,7 @@ pub record Walked (s : List ℕ) (base C : ℕ) (cs m m′ : List ℕ) (k a : �
   pub marked : m′ ≡ markAll m cs
 
 -- ---- a good chain is walked to its end
-module _ (s : List ℕ) (base C : ℕ) (lC : C ≤ 1800) where
+module _ (s : List ℕ) (base C : ℕ) (lC : C ≤ maxCells) where
   pub walk-through : (cs m : List ℕ) (a : ℕ) → Chain C cs → Linked s base a cs 0 → Unmarked m cs → walkMarks s base C (length cs) m a ≡ whole (markAll m cs)
   unfolding walkMarks markAll go-on occurrences
   walk-through [] m a j h u = rw (eq-eqb (numberAt s a 2) 0 (ap number h ∙ number-two 0 (omega arith)))

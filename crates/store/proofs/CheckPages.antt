@@ -7,6 +7,7 @@ use native.Mathlib.Nat.{not-suc-le-zero, le-of-suc-le-suc}
 use native.Mathlib.Omega.{arith}
 use lib.ListN.{length, getD}
 use Rattle.lists.specs.Lists.{concat, every, occurrences, tabulate}
+use Rattle.store.specs.Limits.{maxCells, maxPages}
 use Rattle.store.specs.Layout.{size, cellsFrom, entryAt}
 use Rattle.store.specs.PageCode.{cells}
 use Rattle.store.specs.Reading.{chainIn, sumIn}
@@ -30,8 +31,8 @@ unfolding go-on
 on-true w = refl
 
 -- pages walked and good: their chains, and the marks
-abbrev pub pagesOf : List ℕ → ℕ → ℕ → ℕ → List (List ℕ)
-pagesOf s P p n = tabulate n (λ j. chainIn s P (p + j))
+abbrev pub chainsFrom : List ℕ → ℕ → ℕ → ℕ → List (List ℕ)
+chainsFrom s P p n = tabulate n (λ j. chainIn s P (p + j))
 
 pub record PageGood (s : List ℕ) (P C N p : ℕ) : Type 0 where
   pub tests : Each (pageTests s P N p)
@@ -41,10 +42,10 @@ pub record PageGood (s : List ℕ) (P C N p : ℕ) : Type 0 where
 
 pub record PagesGood (s : List ℕ) (P C N n p : ℕ) (m m′ L : List ℕ) : Type 0 where
   pub each-page : (j : ℕ) → j < n → PageGood s P C N (p + j)
-  pub marked : Marked C m′ (L ++ concat (pagesOf s P p n))
+  pub marked : Marked C m′ (L ++ concat (chainsFrom s P p n))
   pub length-marks : length m′ ≡ length m
 
-module _ (s : List ℕ) (P C N : ℕ) (lC : C ≤ 1800) (lP : P ≤ 1024) (bytes : (i : ℕ) → getD s i 0 < 256) (size : size P C ≤ length s) where
+module _ (s : List ℕ) (P C N : ℕ) (lC : C ≤ maxCells) (lP : P ≤ maxPages) (bytes : (i : ℕ) → getD s i 0 < 256) (size : size P C ≤ length s) where
   page-step : (p : ℕ) (m m₁ : List ℕ) (L : List ℕ) → p < P → C < length m → Marked C m L
       → walkMarks s (cellsFrom P) C (cells (sumIn s p)) m (entryAt p + 4) ≡ whole m₁ → every (pageTests s P N p) ≡ true
       → PageGood s P C N p × Marked C m₁ (L ++ chainIn s P p) × (length m₁ ≡ length m)
@@ -75,34 +76,34 @@ module _ (s : List ℕ) (P C N : ℕ) (lC : C ≤ 1800) (lP : P ≤ 1024) (bytes
       let v = page-step p m (w .0) L (omega arith) lm k (w .1) (g .0) in
       let u = pages-good n (suc p) (w .0) m′ (L ++ chainIn s P p) (omega arith) (omega (arith, v .2)) (v .1) (g .1) in
       let e₀ : p + 0 ≡ p = omega arith in
-      let e₁ : concat (pagesOf s P p (suc n)) ≡ chainIn s P p ++ concat (pagesOf s P (suc p) n) =
+      let e₁ : concat (chainsFrom s P p (suc n)) ≡ chainIn s P p ++ concat (chainsFrom s P (suc p) n) =
       ap₂ _++_ (ap (chainIn s P) e₀)
       (ap concat (tabulate-ext n (λ j. chainIn s P (p + suc j)) (λ j. chainIn s P (suc p + j))
       (λ j _. ap (chainIn s P) {x = p + suc j} {y = suc p + j} (omega arith)))) in
       record {
         each-page = λ j q. each-of n p (v .0) (u .each-page) j q;
         marked = λ d r. u .marked d r
-            ∙ ap (occurrences d) (append-assoc L (chainIn s P p) (concat (pagesOf s P (suc p) n)) ∙ ap (λ (z : List ℕ). L ++ z) (sym e₁));
+            ∙ ap (occurrences d) (append-assoc L (chainIn s P p) (concat (chainsFrom s P (suc p) n)) ∙ ap (λ (z : List ℕ). L ++ z) (sym e₁));
         length-marks = u .length-marks ∙ v .2;
       }
 
   -- and the other way: good pages that no cell is on twice are walked to their end
   pub pages-through : (n p : ℕ) (m L : List ℕ) → C < length m → Marked C m L → ((j : ℕ) → j < n → PageGood s P C N (p + j))
-      → ((d : ℕ) → occurrences d (L ++ concat (pagesOf s P p n)) ≤ 1)
-      → (m′ : List ℕ) × (checkPages s P C N n p m ≡ whole m′) × (length m′ ≡ length m) × Marked C m′ (L ++ concat (pagesOf s P p n))
+      → ((d : ℕ) → occurrences d (L ++ concat (chainsFrom s P p n)) ≤ 1)
+      → (m′ : List ℕ) × (checkPages s P C N n p m ≡ whole m′) × (length m′ ≡ length m) × Marked C m′ (L ++ concat (chainsFrom s P p n))
   unfolding checkPages tabulate concat
   pages-through zero p m L lm k h o = (m, refl, refl, rw append-nil k)
   pages-through (suc n) p m L lm k h o =
       let e₀ : p + 0 ≡ p = omega arith in
       let cs : List ℕ = chainIn s P p in
       let g : PageGood s P C N p = rw e₀ at (h 0 (omega arith)) in
-      let e₁ : concat (pagesOf s P p (suc n)) ≡ cs ++ concat (pagesOf s P (suc p) n) =
+      let e₁ : concat (chainsFrom s P p (suc n)) ≡ cs ++ concat (chainsFrom s P (suc p) n) =
       ap₂ _++_ (ap (chainIn s P) e₀)
       (ap concat (tabulate-ext n (λ j. chainIn s P (p + suc j)) (λ j. chainIn s P (suc p + j))
       (λ j _. ap (chainIn s P) {x = p + suc j} {y = suc p + j} (omega arith)))) in
-      let eL : L ++ concat (pagesOf s P p (suc n)) ≡ L ++ cs ++ concat (pagesOf s P (suc p) n) = ap (λ (z : List ℕ). L ++ z) e₁
-      ∙ sym (append-assoc L cs (concat (pagesOf s P (suc p) n))) in
-      let u : Unmarked m cs = λ d q. k d (g .chain .upto d q) ∙ none-of d L cs (concat (pagesOf s P (suc p) n)) (rw (← eL) (o d)) q in
+      let eL : L ++ concat (chainsFrom s P p (suc n)) ≡ L ++ cs ++ concat (chainsFrom s P (suc p) n) = ap (λ (z : List ℕ). L ++ z) e₁
+      ∙ sym (append-assoc L cs (concat (chainsFrom s P (suc p) n))) in
+      let u : Unmarked m cs = λ d q. k d (g .chain .upto d q) ∙ none-of d L cs (concat (chainsFrom s P (suc p) n)) (rw (← eL) (o d)) q in
       let m₁ : List ℕ = markAll m cs in
       let w : walkMarks s (cellsFrom P) C (cells (sumIn s p)) m (entryAt p + 4) ≡ whole m₁ =
       ap (λ (z : ℕ). walkMarks s (cellsFrom P) C z m (entryAt p + 4)) (sym (g .long)) ∙ walk-through s (cellsFrom P) C lC cs m (entryAt p + 4) (g .chain) (g .linked) u in

@@ -8,6 +8,7 @@ use lib.ListN.{length, take, drop, length-take, length-drop}
 use lib.Seq.{sets, length-sets, drop-drop}
 use Rattle.lists.specs.Lists.{occurrences, part}
 use Rattle.bits.specs.Numbers.{little, number, numberAt}
+use Rattle.store.specs.Limits.{maxCells}
 use Rattle.store.specs.Layout.{cellAt}
 use Rattle.store.specs.Links.{Steps, filled}
 use Rattle.lists.proofs.Occurrences.{one-same}
@@ -87,7 +88,7 @@ unfolding filled
 filled-length zero s base a code = refl
 filled-length (suc n) s base a code = filled-length n _ base _ (drop 30 code) ∙ length-sets s (cellAt base (numberAt s a 2) + 2) (take 30 code)
 
-linked-word : (s : List ℕ) (base C a c : ℕ) (cs : List ℕ) → C ≤ 1800 → Chain C (c ∷ cs) → part s a 2 ≡ little 2 c → numberAt s a 2 ≡ c
+linked-word : (s : List ℕ) (base C a c : ℕ) (cs : List ℕ) → C ≤ maxCells → Chain C (c ∷ cs) → part s a 2 ≡ little 2 c → numberAt s a 2 ≡ c
 linked-word s base C a c cs l j e = ap number e ∙ number-two c (omega (arith, chain-head C c cs j .1))
 
 linked-sets : (s : List ℕ) (base c d : ℕ) (v : List ℕ) (cs : List ℕ) (y : ℕ) → length v ≤ 30 → Linked s base (cellAt base d) cs y
@@ -101,7 +102,7 @@ filled-suc : (s : List ℕ) (base a n c : ℕ) (code : List ℕ) → numberAt s 
 unfolding filled
 filled-suc s base a n c code e = ap (λ (z : ℕ). filled (sets s (cellAt base z + 2) (take 30 code)) base (cellAt base z) n (drop 30 code)) e
 
-module _ (base C : ℕ) (lC : C ≤ 1800) where
+module _ (base C : ℕ) (lC : C ≤ maxCells) where
   pub fill-outside : (cs : List ℕ) (s : List ℕ) (a : ℕ) (code : List ℕ) (y b n : ℕ) → Chain C cs → Linked s base a cs y → ClearCode base cs b n
       → part (filled s base a (length cs) code) b n ≡ part s b n
   unfolding occurrences

@@ -12,9 +12,10 @@ use lib.Dec.{leb, eqb}
 use borrow.Author.Tests.{le-leb, lt-leb, eq-eqb, leb-true, eqb-true}
 use Rattle.lists.specs.Lists.{concat, every, part, pick, tabulate}
 use Rattle.bits.specs.Numbers.{little}
+use Rattle.store.specs.Limits.{Limits, fits}
 use Rattle.store.specs.Plain.{answered, refused}
 use Rattle.store.specs.Layout.{bytesOf, cellAt, fresh, header, size, cellsFrom, entryAt}
-use Rattle.store.specs.Call.{Fitting, Started, freshCall, freshFits}
+use Rattle.store.specs.Call.{Started, freshCall}
 use Rattle.store.specs.Links.{put}
 use Rattle.store.specs.Heads.{HeadOf, Headed, chained}
 use Rattle.store.specs.declared.header.Header.{Header}
@@ -23,6 +24,7 @@ use Rattle.lists.proofs.Tests.{each, every-of}
 use Rattle.lists.proofs.Zeros.{part-zeros}
 use Rattle.bits.proofs.Little.{little-zeros}
 use Rattle.store.proofs.FreshLaws.{cell-is, fresh-first, fresh-good, occurrences-upto, page-none}
+use Rattle.store.proofs.LimitLaws.{fitting}
 use Rattle.store.proofs.Holds.{holds-only}
 use Rattle.store.proofs.Spread.{Spread, part-two, spread-holds}
 use Rattle.store.proofs.Writes.{Apart, Linked, cells-apart, put-length, put-off, put-same}
@@ -139,7 +141,7 @@ linked-up s base C (suc n) c a e h l x y =
       rw (tabulate-ext n (λ j. c + suc (suc j)) (λ j. c + 1 + suc j) (λ j _. omega arith)) r,
     )
 
-module _ (P C : ℕ) (p₁ : 1 ≤ P) (p₂ : P ≤ 1024) (c₁ : 1 ≤ C) (c₂ : C ≤ 1800) (t : List ℕ) (H : Header) (k : HeadOf (fresh P C) H)
+module _ (P C : ℕ) (l : Limits P C) (t : List ℕ) (H : Header) (k : HeadOf (fresh P C) H)
     (h : Headed (replicate (size P C) 0) H t) where
   Z : List ℕ
   Z = replicate (size P C) 0
@@ -166,9 +168,9 @@ module _ (P C : ℕ) (p₁ : 1 ≤ P) (p₂ : P ≤ 1024) (c₁ : 1 ≤ C) (c₂
       rw (tabulate-ext C suc (λ j. 0 + suc j) (λ j _. omega arith))
       (linked-up B (cellsFrom P) C C 0 6 (omega arith)
       (λ d p q. chained-on t (cellsFrom P) (C - 1) d p (omega arith) (omega (arith, long-t)))
-      (zero-at (cellAt (cellsFrom P) C) 2 (omega arith) (omega arith) (λ d p q. cells-apart (cellsFrom P) d C 2 2 p c₁ (λ e. omega (arith, e)) (omega arith) (omega arith))
+      (zero-at (cellAt (cellsFrom P) C) 2 (omega arith) (omega arith) (λ d p q. cells-apart (cellsFrom P) d C 2 2 p (l .cells-low) (λ e. omega (arith, e)) (omega arith) (omega arith))
       ∙ sym (little-zeros 2))
-      (λ _. low 6 2 (omega arith) ∙ h .first-free ∙ ap (little 2) (k .first-is ∙ fresh-first C c₁))
+      (λ _. low 6 2 (omega arith) ∙ h .first-free ∙ ap (little 2) (k .first-is ∙ fresh-first C (l .cells-low)))
       (λ e. absurd (omega (arith, e))))
 
   -- a cell's code is apart from every link
@@ -200,70 +202,19 @@ module _ (P C : ℕ) (p₁ : 1 ≤ P) (p₂ : P ≤ 1024) (c₁ : 1 ≤ C) (c₂
   pub fresh-bytes : chained t (cellsFrom P) (C - 1) ≡ bytesOf (fresh P C)
   unfolding B
   fresh-bytes =
-      let g = fresh-good P C p₁ p₂ c₁ c₂ in
+      let g = fresh-good P C l in
       holds-only B (fresh P C) g (spread-holds B (fresh P C) (g .rows) spread)
 
--- ---- the test of P, C and the buffer's length
+-- ---- fresh's two ends
 module _ (b : List ℕ) (P C : ℕ) where
-  pub few-pages : P < 1 → false ≡ freshFits b P C
-  unfolding freshFits every
-  few-pages l = rw (lt-leb 1 P l)
-
-  pub many-pages : 1 ≤ P → 1024 < P → false ≡ freshFits b P C
-  unfolding freshFits every
-  many-pages l m = rw (le-leb 1 P l, lt-leb P 1024 m)
-
-  pub few-cells : 1 ≤ P → P ≤ 1024 → C < 1 → false ≡ freshFits b P C
-  unfolding freshFits every
-  few-cells l m n = rw (le-leb 1 P l, le-leb P 1024 m, lt-leb 1 C n)
-
-  pub many-cells : 1 ≤ P → P ≤ 1024 → 1 ≤ C → 1800 < C → false ≡ freshFits b P C
-  unfolding freshFits every
-  many-cells l m n o = rw (le-leb 1 P l, le-leb P 1024 m, le-leb 1 C n, lt-leb C 1800 o)
-
-  pub just-length : 1 ≤ P → P ≤ 1024 → 1 ≤ C → C ≤ 1800 → eqb (length b) (size P C) ≡ freshFits b P C
-  unfolding freshFits every
-  just-length l m n o = rw (le-leb 1 P l, le-leb P 1024 m, le-leb 1 C n, le-leb C 1800 o) (last (eqb (length b) (size P C)))
-    where
-      last : (x : Bool) → x ≡ (x && true)
-      last true = refl
-      last false = refl
-
-  -- what the test says
-  pub fitting : freshFits b P C ≡ true → Fitting b P C
-  unfolding freshFits
-  fitting e =
-      let w = each (leb 1 P ∷ leb P 1024 ∷ leb 1 C ∷ leb C 1800 ∷ eqb (length b) (size P C) ∷ []) e in
-      record {
-        pages-low = leb-true 1 P (w .0);
-        pages-high = leb-true P 1024 (w .1 .0);
-        cells-low = leb-true 1 C (w .1 .1 .0);
-        cells-high = leb-true C 1800 (w .1 .1 .1 .0);
-        long = eqb-true (length b) (size P C) (w .1 .1 .1 .1 .0);
-      }
-
-  fits : Fitting b P C → freshFits b P C ≡ true
-  unfolding freshFits
-  fits w =
-      every-of (leb 1 P ∷ leb P 1024 ∷ leb 1 C ∷ leb C 1800 ∷ eqb (length b) (size P C) ∷ []) (
-        le-leb 1 P (w .pages-low),
-        (
-          le-leb P 1024 (w .pages-high),
-          (le-leb 1 C (w .cells-low), (le-leb C 1800 (w .cells-high), (eq-eqb (length b) (size P C) (w .long), tt))),
-        ),
-      )
-
-  pub fitting-exactly : Fitting b P C ↔ (freshFits b P C ≡ true)
-  fitting-exactly = (fits, fitting)
-
-  pub started-9 : freshFits b P C ≡ false → Started b P C (refused 9) b
+  pub started-9 : fits b P C ≡ false → Started b P C (refused 9) b
   unfolding freshCall pick
   started-9 e = record { answer = rw e refl; bytes = rw e refl }
 
-  pub started : (z t u : List ℕ) (H : Header) {base : ℕ} → freshFits b P C ≡ true → z ≡ replicate (length b) 0 → HeadOf (fresh P C) H → Headed z H t
+  pub started : (z t u : List ℕ) (H : Header) {base : ℕ} → fits b P C ≡ true → z ≡ replicate (length b) 0 → HeadOf (fresh P C) H → Headed z H t
       → base ≡ cellsFrom P → u ≡ chained t base (C - 1) → Started b P C (answered 0) u
   unfolding freshCall pick
-  started z t u H e a k h b f =
-      let w = fitting e in
+  started z t u H e a k h i f =
+      let w = fitting b P C e in
       let h₂ : Headed (replicate (size P C) 0) H t = rw (← w .long, ← a) h in
-      record { answer = rw e refl; bytes = rw e (f ∙ ap (λ (z : ℕ). chained t z (C - 1)) b ∙ fresh-bytes P C (w .pages-low) (w .pages-high) (w .cells-low) (w .cells-high) t H k h₂) }
+      record { answer = rw e refl; bytes = rw e (f ∙ ap (λ (z : ℕ). chained t z (C - 1)) i ∙ fresh-bytes P C (w .limits) t H k h₂) }

@@ -10,6 +10,7 @@ use lib.ListN.{getD}
 use lib.Dec.{leb, eqb}
 use borrow.Author.Tests.{le-leb, lt-leb, eq-eqb, ne-eqb}
 use Rattle.lists.specs.Lists.{concat, first, occurrences, one, sum, tabulate}
+use Rattle.store.specs.Limits.{Limits}
 use Rattle.store.specs.Layout.{fresh}
 use Rattle.store.specs.Plain.{page}
 use Rattle.store.specs.Sound.{Good, isCell, onChains}
@@ -81,13 +82,10 @@ pub page-none : (p : ℕ) → sum (page [] p) ≡ 0
 unfolding page
 page-none p = sum-nones 64 (λ j. getD {A = ℕ} [] (64 * p + j) 0) (λ j. refl)
 
-pub fresh-good : (P C : ℕ) → 1 ≤ P → P ≤ 1024 → 1 ≤ C → C ≤ 1800 → Good (fresh P C)
+pub fresh-good : (P C : ℕ) → Limits P C → Good (fresh P C)
 unfolding fresh onChains sum
-fresh-good P C a b c d = record {
-  pages-low = a;
-  pages-high = b;
-  cells-low = c;
-  cells-high = d;
+fresh-good P C l = record {
+  limits = l;
   hours = omega arith;
   total = omega arith;
   rows = length-tabulate P (λ _. []);

@@ -22,9 +22,9 @@ use Rattle.tree.proofs.Shape.{length-counts}
 use Rattle.store.specs.PageCode.{cells, pageBytes, pageCounts}
 use Rattle.store.specs.Plain.{page}
 use Rattle.store.specs.Layout.{Model, cellAt, header, size, cellsFrom, entryAt}
-use Rattle.store.specs.Reading.{Runs, chainFrom, chainIn, codeIn, firstIn, pageIn, read, readFor, spareIn, sumIn}
+use Rattle.store.specs.Reading.{Runs, cellsOf, chainFrom, chainIn, codeIn, firstIn, hoursOf, listIn, pageIn, pagesOf, read, readFor, spareIn, sumIn}
 use Rattle.store.specs.Sound.{Good, onChains, sound}
-use Rattle.store.specs.Items.{Items, pagesOf, cellsOf, hoursOf, onAll}
+use Rattle.store.specs.Items.{Items, onAll}
 use Rattle.store.specs.Checked.{headTests, pageTests, quiet}
 use Rattle.store.proofs.ChainLaws.{Says, says}
 use Rattle.store.proofs.CheckPages.{PageGood}
@@ -64,7 +64,7 @@ module _ (s : List ℕ) (bytes : (i : ℕ) → getD s i 0 < 256) where
     C = cellsOf s
 
     big : size P C ≤ length s
-    big = omega (arith, i .long)
+    big = omega (arith, i .fitting .long)
 
     chain-sub : (cs : List ℕ) → ((d : ℕ) → occurrences d cs ≤ occurrences d (onAll s)) → Chain C cs
     chain-sub cs q = chain-part (onAll s) cs q (chain-all C (onAll s) (i .once))
@@ -98,7 +98,7 @@ module _ (s : List ℕ) (bytes : (i : ℕ) → getD s i 0 < 256) where
           );
           long = chain-long s P (cells (sumIn s p)) (firstIn s p);
           chain = j;
-          linked = runs-linked P C (entryAt p + 4) (chainIn s P p) big (omega (arith, big, i .cells-from)) j (i .page-chain p l);
+          linked = runs-linked P C (entryAt p + 4) (chainIn s P p) big (omega (arith, big, i .fitting .limits .cells-low)) j (i .page-chain p l);
         }
 
     head-is : Each (headTests s)
@@ -107,11 +107,7 @@ module _ (s : List ℕ) (bytes : (i : ℕ) → getD s i 0 < 256) where
           long = omega (arith, big);
           edition = i .edition;
           gap = i .gap;
-          pages-low = i .pages-from;
-          pages-high = i .pages-to;
-          cells-low = i .cells-from;
-          cells-high = i .cells-to;
-          size = i .long;
+          fitting = i .fitting;
           hours = i .hours;
           total = i .total;
         })
@@ -153,13 +149,13 @@ module _ (s : List ℕ) (e : sound s ≡ true) where
   f : Facts s
   f = facts s e
 
-  told : Says s (read s .plain .pages) (read s .plain .cells) (read s .plain .counts)
-  told = subst (λ (z : List ℕ). Says z (read s .plain .pages) (read s .plain .cells) (read s .plain .counts)) (sym (f .same)) (says (read s) (f .good))
+  told : Says s (read s .plain .pages) (read s .plain .cells) (listIn s)
+  told = subst (λ (z : List ℕ). Says z (read s .plain .pages) (read s .plain .cells) (listIn s)) (sym (f .same)) (says (read s) (f .good))
 
   none-beyond : (p j : ℕ) → p < pagesOf s → j < 64 → hoursOf s ≤ 64 * p + j → getD (pageIn s (pagesOf s) p) j 0 ≡ 0
   unfolding read readFor page
   none-beyond p j l q k =
-      let xs : List ℕ = read s .plain .counts in
+      let xs : List ℕ = listIn s in
       ap (λ (z : List ℕ). getD z j 0) (page-is s (read s) (f .good) (f .holds) p l)
       ∙ getD-tabulate 64 (λ j. getD xs (64 * p + j) 0) j 0 q
       ∙ List·getD-eq-default xs 0 (omega (arith, f .hours-are))
@@ -175,11 +171,7 @@ module _ (s : List ℕ) (e : sound s ≡ true) where
       let g : Good m = f .good in
       let h : Holds s m = f .holds in
       record {
-        pages-from = f .pages-low;
-        pages-to = f .pages-high;
-        cells-from = f .cells-low;
-        cells-to = f .cells-high;
-        long = f .long;
+        fitting = record { limits = f .good .limits; long = f .long };
         edition = edition-is;
         gap = spread-of s m (g .rows) h .gap;
         page-chain = told .page-ends;

@@ -63,10 +63,7 @@ keep m ys i g o li ly lt lc =
     let fits : k ≤ length J = omega (arith, need-off (m .plain .counts) ys i P o lp, spare-is m g, g .lengths p lp) in
     let lk : length (take k J) ≡ k = omega (arith, length-take k J) in
     record {
-      pages-low = g .pages-low;
-      pages-high = g .pages-high;
-      cells-low = g .cells-low;
-      cells-high = g .cells-high;
+      limits = g .limits;
       hours = ly;
       total = lt;
       rows = length-set (m .chains) p (take k J) ∙ g .rows;

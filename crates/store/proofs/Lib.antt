@@ -1,5 +1,6 @@
 -- Laws of the definitions.
 pub mod Numbers
+pub mod LimitLaws
 pub mod PageCodeLaws
 pub mod Keep
 pub mod FreshLaws

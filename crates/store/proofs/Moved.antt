@@ -6,6 +6,7 @@ use native.Mathlib.Omega.{arith}
 use lib.ListN.{length, drop}
 use Rattle.lists.specs.Lists.{first, occurrences, part}
 use Rattle.bits.specs.Numbers.{numberAt}
+use Rattle.store.specs.Limits.{maxCells}
 use Rattle.store.specs.Layout.{cellAt}
 use Rattle.store.specs.Links.{Steps, cut, filled, joined, linkAfter, put}
 use Rattle.store.specs.PageCode.{cells}
@@ -55,7 +56,7 @@ pub record Moves (s t : List ℕ) (base e : ℕ) (cs fs A B X Y code : List ℕ)
   pub steps₁ : Steps (joined s base e (length cs)) base e (length A)
   pub steps₂ : Steps (filled (joined s base e (length cs)) base e (length A) code) base e (length X)
 
-module _ (s : List ℕ) (base C e : ℕ) (cs fs code : List ℕ) (lC : C ≤ 1800) (size : base + 32 * C ≤ length s) (he : 8 ≤ e) (le : e + 2 ≤ base)
+module _ (s : List ℕ) (base C e : ℕ) (cs fs code : List ℕ) (lC : C ≤ maxCells) (size : base + 32 * C ≤ length s) (he : 8 ≤ e) (le : e + 2 ≤ base)
     (J : Chain C (cs ++ fs)) (hx : Linked s base e cs 0) (hy : Linked s base 6 fs 0)
     (A B X Y : List ℕ) (eA : A ++ B ≡ cs ++ fs) (eX : X ++ Y ≡ cs ++ fs) (long : 30 * length A ≤ length code) where
   JA : Chain C (A ++ B)

@@ -120,7 +120,7 @@ to-size m ys p r f k lp er ef l (no h) =
     rw none (in-order m ys p lp .gives k f less)
 
 end-in-order : (m : Model) (i r f : ℕ) {o : Outcome} → Good m → End (m .plain) i o → o .answer ≡ changed r f
-    → apply m (i / 64) o (o .answer) ≡ listed (o .counts) (times r (takeCell (i / 64)) (times f (giveCell (i / 64)) m))
+    → apply m (i / 64) o (o .answer) ≡ listed (o .list .counts) (times r (takeCell (i / 64)) (times f (giveCell (i / 64)) m))
 unfolding apply
 end-in-order m i r f g (said n) e = let z : _≡_ {A = ℕ} 0 1 = cc in absurd (omega arith)
 end-in-order m i r f g (not-done n) e = let z : _≡_ {A = ℕ} 0 1 = cc in absurd (omega arith)
@@ -136,7 +136,7 @@ end-in-order m i r f g (made ys o li ly ls ln) e =
     (omega (arith, spare-is m g)) (decLe _ _)
 
 after-in-order : (c : Call) (m : Model) (r f : ℕ) → Good m → step c (m .plain) .answer ≡ changed r f
-    → let p = hour c (m .plain) / 64 in after c m ≡ listed (step c (m .plain) .counts) (times r (takeCell p) (times f (giveCell p) m))
+    → let p = hour c (m .plain) / 64 in after c m ≡ listed (step c (m .plain) .list .counts) (times r (takeCell p) (times f (giveCell p) m))
 unfolding after
 after-in-order c m r f g e = end-in-order m (hour c (m .plain)) r f g (step-end c (m .plain) (g .hours)) e
 
@@ -147,7 +147,7 @@ cells-in-order c s r f e = go (sound s) refl
     p = hour c (read s .plain) / 64
 
     go : (b : Bool) → sound s ≡ b
-        → read (call c s .bytes) ≡ listed (step c (read s .plain) .counts) (times r (takeCell p) (times f (giveCell p) (read s)))
+        → read (call c s .bytes) ≡ listed (step c (read s .plain) .list .counts) (times r (takeCell p) (times f (giveCell p) (read s)))
     go false h =
         let a : refused 10 ≡ changed r f = call-10 c s h .answer ∙ e in
         let z : _≡_ {A = ℕ} 0 1 = cc in absurd (omega arith)

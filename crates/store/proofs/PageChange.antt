@@ -184,7 +184,7 @@ module _ (m : Model) (g : Good m) where
     mv : Moves s t (cellsFrom P) e cs fs (X ++ Y₁) B X Y code
     unfolding t
     mv =
-        moves s (cellsFrom P) C e cs fs code (g .cells-high) size-le (omega arith) (omega (arith, lp)) (page-and-spare p lp) (h .links p lp) (h .free)
+        moves s (cellsFrom P) C e cs fs code (g .limits .cells-high) size-le (omega arith) (omega (arith, lp)) (page-and-spare p lp) (h .links p lp) (h .free)
         (X ++ Y₁) B X Y eA eX long
 
     t-is : t ≡ cut (filled (joined s (cellsFrom P) e k) (cellsFrom P) e (max k n) code) (cellsFrom P) e n
@@ -193,7 +193,7 @@ module _ (m : Model) (g : Good m) where
 
     -- ---- the numbers
     spare-word : numberAt s 8 2 ≡ length fs
-    spare-word = ap number (h .free-count) ∙ number-two (length fs) (omega (arith, spare-is m g, g .cells-high))
+    spare-word = ap number (h .free-count) ∙ number-two (length fs) (omega (arith, spare-is m g, g .limits .cells-high))
 
     final : List ℕ
     final = put (put (put t 8 2 (numberAt s 8 2 + k - n)) (entryAt p) 4 (sum (page ys p))) 12 4 (length ys)
@@ -318,13 +318,13 @@ module _ (m : Model) (g : Good m) where
     -- and what the code asks for holds
     pub ready : Ready s (cellsFrom P) p k n code (sum (page ys p)) (length ys)
     ready = record {
-      low = omega (arith, g .pages-high);
+      low = omega (arith, g .limits .pages-high);
       page = omega (arith, lp);
       size = omega (arith, size-le);
       long = rw (← lA) long;
       small = omega (arith, page-le ys p);
-      short = omega (arith, g .pages-high);
-      fits = omega (arith, spare-word, spare-is m g, g .cells-high, eight-old);
+      short = omega (arith, g .limits .pages-high);
+      fits = omega (arith, spare-word, spare-is m g, g .limits .cells-high, eight-old);
       own = mv .steps₀;
       both = rw (← lA) (mv .steps₁);
       kept = subst₂ (λ (a b : ℕ). Steps (filled (joined s (cellsFrom P) e k) (cellsFrom P) e a code) (cellsFrom P) e b) lA lX (mv .steps₂);

@@ -10,7 +10,7 @@ use Rattle.bits.specs.Numbers.{little, number, numberAt}
 use Rattle.store.specs.Layout.{Model, cellAt, entry, header, lay, layAll, layPages, cellsFrom, entryAt}
 use Rattle.store.specs.PageCode.{cells, pageBytes, pageCounts}
 use Rattle.store.specs.Plain.{page}
-use Rattle.store.specs.Reading.{chainFrom, chainIn, codeIn, pageIn, read, readFor, spareIn, sumIn}
+use Rattle.store.specs.Reading.{cellsOf, chainFrom, chainIn, codeIn, hoursOf, pageIn, pagesOf, read, readFor, spareIn, sumIn}
 use Rattle.store.specs.Sound.{Good, onChains}
 use Rattle.lists.proofs.Occurrences.{occurrences-append, occurrences-getD-concat, one-same}
 use Rattle.lists.proofs.Pages.{paged-le, pages-back, pages-get}
@@ -76,7 +76,7 @@ code-is s base (c ∷ cs) code a =
 
 module _ (s : List ℕ) (m : Model) (g : Good m) (h : Holds s m) where
   on-low : (c : ℕ) → 1 ≤ occurrences c (onChains m) → c < 65536
-  on-low c q = omega (arith, g .once c, g .cells-high, cell-is (m .plain .cells) c (omega (arith, g .once c)))
+  on-low c q = omega (arith, g .once c, g .limits .cells-high, cell-is (m .plain .cells) c (omega (arith, g .once c)))
 
   chain-low : (p : ℕ) → p < m .plain .pages → (c : ℕ) → 1 ≤ occurrences c (getD (m .chains) p []) → c < 65536
   unfolding onChains
@@ -105,13 +105,13 @@ module _ (s : List ℕ) (m : Model) (g : Good m) (h : Holds s m) where
   field : (a n : ℕ) → a + n ≤ 16 → part s (0 + a) n ≡ part (header m) a n
   field a n l = part-in s (header m) 0 16 a n (h .head) l
 
-  pub pages-is : numberAt s 2 2 ≡ m .plain .pages
+  pub pages-is : pagesOf s ≡ m .plain .pages
   unfolding header concat little
-  pages-is = ap number (field 2 2 (omega arith)) ∙ number-two (m .plain .pages) (omega (arith, g .pages-high))
+  pages-is = ap number (field 2 2 (omega arith)) ∙ number-two (m .plain .pages) (omega (arith, g .limits .pages-high))
 
-  pub cells-is : numberAt s 4 2 ≡ m .plain .cells
+  pub cells-is : cellsOf s ≡ m .plain .cells
   unfolding header concat little
-  cells-is = ap number (field 4 2 (omega arith)) ∙ number-two (m .plain .cells) (omega (arith, g .cells-high))
+  cells-is = ap number (field 4 2 (omega arith)) ∙ number-two (m .plain .cells) (omega (arith, g .limits .cells-high))
 
   pub first-is : numberAt s 6 2 ≡ first (m .spare)
   unfolding header concat little
@@ -120,11 +120,11 @@ module _ (s : List ℕ) (m : Model) (g : Good m) (h : Holds s m) where
   pub spare-count : numberAt s 8 2 ≡ length (m .spare)
   unfolding header concat little onChains
   spare-count = ap number (field 8 2 (omega arith))
-      ∙ number-two (length (m .spare)) (omega (arith, g .all, g .cells-high, length-append (concat (m .chains)) (m .spare)))
+      ∙ number-two (length (m .spare)) (omega (arith, g .all, g .limits .cells-high, length-append (concat (m .chains)) (m .spare)))
 
-  pub hours-is : numberAt s 12 4 ≡ length (m .plain .counts)
+  pub hours-is : hoursOf s ≡ length (m .plain .counts)
   unfolding header concat little
-  hours-is = ap number (field 12 4 (omega arith)) ∙ number-four (length (m .plain .counts)) (omega (arith, g .hours, g .pages-high))
+  hours-is = ap number (field 12 4 (omega arith)) ∙ number-four (length (m .plain .counts)) (omega (arith, g .hours, g .limits .pages-high))
 
   pub sum-is : (p : ℕ) → p < m .plain .pages → sumIn s p ≡ sum (page (m .plain .counts) p)
   unfolding sumIn entry little

@@ -8,12 +8,13 @@ use lib.ListN.{length, set}
 use Rattle.lists.specs.Lists.{pick, sum}
 use Rattle.lists.proofs.Reach.{reached-le}
 use Rattle.lists.proofs.Sums.{sum-take-le}
+use Rattle.store.specs.Limits.{fits, maxCells}
 use Rattle.store.specs.Plain.{Answer, Append, Call, Count, Day, Free, Outcome, Plain, Reach, Reading, Set}
 use Rattle.store.specs.Plain.{answered, change, changed, dayStart, need, refuse, refused, step}
 use Rattle.store.specs.Layout.{bytesOf, fresh}
 use Rattle.store.specs.Reading.{read}
 use Rattle.store.specs.Sound.{sound}
-use Rattle.store.specs.Call.{Result, call, freshCall, freshFits}
+use Rattle.store.specs.Call.{Result, call, freshCall}
 use Rattle.store.proofs.CallLaws.{call-10, sound-call}
 use Rattle.store.proofs.HourLaws.{getD-le}
 use Rattle.store.proofs.Keep.{spare-is}
@@ -22,12 +23,12 @@ use Rattle.store.proofs.StepLaws.{Change, change-is, done, over, short}
 
 -- cells are no more than a store has, a number is no more than the total's limit, refusals are 1 to 12
 abbrev pub Small : Answer → Type 0
-Small (changed r f) = (r ≤ 1800) × (f ≤ 1800)
+Small (changed r f) = (r ≤ maxCells) × (f ≤ maxCells)
 Small (answered n) = n ≤ 4294967295
 Small (refused k) = (1 ≤ k) × (k ≤ 12)
 
 -- ---- the plain list
-module _ (L : Plain) (few : L .cells ≤ 1800) (hours : length (L .counts) ≤ 65536) (total : sum (L .counts) ≤ 4294967295)
+module _ (L : Plain) (few : L .cells ≤ maxCells) (hours : length (L .counts) ≤ 65536) (total : sum (L .counts) ≤ 4294967295)
     (enough : need (L .counts) (L .pages) ≤ L .cells) where
   refused-or : (b : Bool) (k : ℕ) (o : Outcome) → 1 ≤ k → k ≤ 12 → Small (o .answer) → Small (pick b (refuse k L) o .answer)
   unfolding pick
@@ -61,12 +62,12 @@ call-small c s = go (sound s) refl
     go true e =
         let f = facts s e in
         subst Small (sound-call c s e .answer)
-        (step-small (read s .plain) (f .good .cells-high) (omega (arith, f .good .hours, f .good .pages-high)) (f .total-fits)
+        (step-small (read s .plain) (f .good .limits .cells-high) (omega (arith, f .good .hours, f .good .limits .pages-high)) (f .total-fits)
         (omega (arith, spare-is (read s) (f .good))) c)
 
 pub fresh-small : (b : List ℕ) (P C : ℕ) → Small (freshCall b P C .answer)
 unfolding freshCall pick
-fresh-small b P C = go (freshFits b P C)
+fresh-small b P C = go (fits b P C)
   where
     made : Result
     made = record { answer = answered 0; bytes = bytesOf (fresh P C) }

@@ -7,9 +7,10 @@ use native.Mathlib.Omega.{arith}
 use lib.ListN.{length}
 use Rattle.lists.specs.Lists.{sum}
 use Rattle.bits.specs.Numbers.{numberAt}
+use Rattle.store.specs.Limits.{maxCells, maxPages}
 use Rattle.store.specs.Plain.{need, page}
 use Rattle.store.specs.Layout.{Model, bytesOf, entryAt, size}
-use Rattle.store.specs.Reading.{read, readFor, sumIn}
+use Rattle.store.specs.Reading.{cellsOf, hoursOf, listIn, pagesOf, read, readFor, sumIn}
 use Rattle.store.specs.Sound.{Good, sound}
 use Rattle.store.proofs.Holds.{Holds, holds-bytes}
 use Rattle.store.proofs.Keep.{spare-is}
@@ -21,20 +22,20 @@ pub record Facts (s : List ℕ) : Type 0 where
   pub good : Good (read s)
   pub holds : Holds s (read s)
   pub same : s ≡ bytesOf (read s)
-  pub pages-are : numberAt s 2 2 ≡ read s .plain .pages
-  pub cells-are : numberAt s 4 2 ≡ read s .plain .cells
+  pub pages-are : pagesOf s ≡ read s .plain .pages
+  pub cells-are : cellsOf s ≡ read s .plain .cells
   pub free-is : numberAt s 8 2 ≡ length (read s .spare)
-  pub hours-are : numberAt s 12 4 ≡ length (read s .plain .counts)
-  pub long : length s ≡ size (numberAt s 2 2) (numberAt s 4 2)
-  pub pages-low : 1 ≤ numberAt s 2 2
-  pub pages-high : numberAt s 2 2 ≤ 1024
-  pub cells-low : 1 ≤ numberAt s 4 2
-  pub cells-high : numberAt s 4 2 ≤ 1800
-  pub hours-fit : numberAt s 12 4 ≤ 64 * numberAt s 2 2
-  pub total-fits : sum (read s .plain .counts) ≤ 4294967295
-  pub free-and-need : numberAt s 8 2 + need (read s .plain .counts) (numberAt s 2 2) ≡ numberAt s 4 2
-  pub sums : (p : ℕ) → p < numberAt s 2 2 → sumIn s p ≡ sum (page (read s .plain .counts) p)
-  pub sum-fits : (p : ℕ) → p < numberAt s 2 2 → sumIn s p ≤ 4294967295
+  pub hours-are : hoursOf s ≡ length (listIn s)
+  pub long : length s ≡ size (pagesOf s) (cellsOf s)
+  pub pages-low : 1 ≤ pagesOf s
+  pub pages-high : pagesOf s ≤ maxPages
+  pub cells-low : 1 ≤ cellsOf s
+  pub cells-high : cellsOf s ≤ maxCells
+  pub hours-fit : hoursOf s ≤ 64 * pagesOf s
+  pub total-fits : sum (listIn s) ≤ 4294967295
+  pub free-and-need : numberAt s 8 2 + need (listIn s) (pagesOf s) ≡ cellsOf s
+  pub sums : (p : ℕ) → p < pagesOf s → sumIn s p ≡ sum (page (listIn s) p)
+  pub sum-fits : (p : ℕ) → p < pagesOf s → sumIn s p ≤ 4294967295
 
 pub facts : (s : List ℕ) → sound s ≡ true → Facts s
 unfolding read readFor
@@ -51,10 +52,10 @@ facts s e =
       free-is = spare-count s m g h;
       hours-are = hours-is s m g h;
       long = h .size;
-      pages-low = g .pages-low;
-      pages-high = g .pages-high;
-      cells-low = g .cells-low;
-      cells-high = g .cells-high;
+      pages-low = g .limits .pages-low;
+      pages-high = g .limits .pages-high;
+      cells-low = g .limits .cells-low;
+      cells-high = g .limits .cells-high;
       hours-fit = omega (arith, hours-is s m g h, g .hours);
       total-fits = g .total;
       free-and-need = omega (arith, spare-count s m g h, spare-is m g);

@@ -9,6 +9,7 @@ use lib.ListN.{length, getD, replicate}
 use lib.Dec.{leb}
 use borrow.Author.Tests.{le-leb, leb-true, eq-eqb, eqb-true}
 use Rattle.lists.specs.Lists.{occurrences, same, sum, tabulate}
+use Rattle.store.specs.Limits.{maxCells, maxPages}
 use Rattle.store.specs.Layout.{Model, bytesOf}
 use Rattle.store.specs.PageCode.{cells}
 use Rattle.store.specs.Plain.{page}
@@ -70,13 +71,13 @@ good-fine m g =
     let P : ℕ = m .plain .pages in
     let C : ℕ = m .plain .cells in
     every-of (tests m) (
-      le-leb 1 P (g .pages-low),
+      le-leb 1 P (g .limits .pages-low),
       (
-        le-leb P 1024 (g .pages-high),
+        le-leb P maxPages (g .limits .pages-high),
         (
-          le-leb 1 C (g .cells-low),
+          le-leb 1 C (g .limits .cells-low),
           (
-            le-leb C 1800 (g .cells-high),
+            le-leb C maxCells (g .limits .cells-high),
             (
               le-leb (length (m .plain .counts)) (64 * P) (g .hours),
               (
@@ -120,10 +121,12 @@ fine-good m f =
     → occurrences (suc j) (onChains m) ≡ 1 = same-tabulate C (λ j. occurrences (suc j) (onChains m)) (λ _. 1)
     (rw ones at (w .1 .1 .1 .1 .1 .1 .1 .1 .1 .0)) in
     record {
-      pages-low = leb-true 1 P (w .0);
-      pages-high = leb-true P 1024 (w .1 .0);
-      cells-low = leb-true 1 C (w .1 .1 .0);
-      cells-high = leb-true C 1800 (w .1 .1 .1 .0);
+      limits = record {
+        pages-low = leb-true 1 P (w .0);
+        pages-high = leb-true P maxPages (w .1 .0);
+        cells-low = leb-true 1 C (w .1 .1 .0);
+        cells-high = leb-true C maxCells (w .1 .1 .1 .0);
+      };
       hours = leb-true (length (m .plain .counts)) (64 * P) (w .1 .1 .1 .1 .0);
       total = leb-true (sum (m .plain .counts)) 4294967295 (w .1 .1 .1 .1 .1 .0);
       rows = eqb-true (length (m .chains)) P (w .1 .1 .1 .1 .1 .1 .0);

@@ -12,7 +12,7 @@ use Rattle.lists.specs.Lists.{pick, sum}
 use Rattle.store.specs.Call.{after, apply, hour}
 use Rattle.store.specs.Layout.{Model, resize}
 use Rattle.store.specs.PageCode.{cells}
-use Rattle.store.specs.Plain.{Answer, Append, Call, Count, Day, Free, Outcome, Plain, Reach}
+use Rattle.store.specs.Plain.{Answer, Append, Call, Count, Day, Free, Outcome, Plain, Reach, relisted}
 use Rattle.store.specs.Plain.{Reading, Set, answered, change, changed, need, next, refused, step}
 use Rattle.store.specs.Sound.{Good}
 use Rattle.lists.proofs.Occurrences.{getD-snoc}
@@ -24,9 +24,9 @@ moved L ys = changed (need ys (L .pages) - need (L .counts) (L .pages)) (need (L
 
 -- the three ends of a change, each with what holds there
 pub data Change (L : Plain) (ys : List ℕ) : Outcome → Type 0 where
-  over : 4294967295 < sum ys → Change L ys (record { answer = refused 3; counts = L .counts })
-  short : sum ys ≤ 4294967295 → L .cells < need ys (L .pages) → Change L ys (record { answer = refused 12; counts = L .counts })
-  done : sum ys ≤ 4294967295 → need ys (L .pages) ≤ L .cells → Change L ys (record { answer = moved L ys; counts = ys })
+  over : 4294967295 < sum ys → Change L ys (record { answer = refused 3; list = L })
+  short : sum ys ≤ 4294967295 → L .cells < need ys (L .pages) → Change L ys (record { answer = refused 12; list = L })
+  done : sum ys ≤ 4294967295 → need ys (L .pages) ≤ L .cells → Change L ys (record { answer = moved L ys; list = relisted L ys })
 
 pub change-is : (L : Plain) (ys : List ℕ) → Change L ys (change L ys)
 unfolding change pick
@@ -39,10 +39,10 @@ change-is L ys = go (ltb 4294967295 (sum ys)) (ltb (L .cells) (need ys (L .pages
 
 -- a call's end: a refusal or an answer that changes nothing, or a change of the hour i
 pub data End (L : Plain) (i : ℕ) : Outcome → Type 0 where
-  said : (n : ℕ) → End L i (record { answer = answered n; counts = L .counts })
-  not-done : (n : ℕ) → End L i (record { answer = refused n; counts = L .counts })
+  said : (n : ℕ) → End L i (record { answer = answered n; list = L })
+  not-done : (n : ℕ) → End L i (record { answer = refused n; list = L })
   made : (ys : List ℕ) → Off (L .counts) ys i → i < 64 * L .pages → length ys ≤ 64 * L .pages → sum ys ≤ 4294967295
-      → need ys (L .pages) ≤ L .cells → End L i (record { answer = moved L ys; counts = ys })
+      → need ys (L .pages) ≤ L .cells → End L i (record { answer = moved L ys; list = relisted L ys })
 
 change-end : {L : Plain} {ys : List ℕ} {o : Outcome} (i : ℕ) → Off (L .counts) ys i → i < 64 * L .pages → length ys ≤ 64 * L .pages
     → Change L ys o → End L i o
@@ -84,7 +84,7 @@ unfolding after
 after-good c m g = apply-good m (hour c (m .plain)) g (step-end c (m .plain) (g .hours))
 
 apply-plain : (m : Model) (i : ℕ) {o : Outcome} → End (m .plain) i o
-    → apply m (i / 64) o (o .answer) .plain ≡ record { pages = m .plain .pages; cells = m .plain .cells; counts = o .counts }
+    → apply m (i / 64) o (o .answer) .plain ≡ o .list
 unfolding apply resize
 apply-plain m i (said n) = refl
 apply-plain m i (not-done n) = refl
@@ -93,3 +93,30 @@ apply-plain m i (made ys o li ly ls ln) = refl
 pub after-plain : (c : Call) (m : Model) → Good m → after c m .plain ≡ next c (m .plain)
 unfolding after next
 after-plain c m g = apply-plain m (hour c (m .plain)) (step-end c (m .plain) (g .hours))
+
+-- ---- P and C stay those that fresh was given
+pick-keeps : (b : Bool) (x y : Outcome) (n : ℕ) (f : Plain → ℕ) → f (x .list) ≡ n → f (y .list) ≡ n → f (pick b x y .list) ≡ n
+unfolding pick
+pick-keeps true x y n f h j = h
+pick-keeps false x y n f h j = j
+
+module _ (f : Plain → ℕ) (h : (L : Plain) (ys : List ℕ) → f (relisted L ys) ≡ f L) where
+  change-keeps : (L : Plain) (ys : List ℕ) → f (change L ys .list) ≡ f L
+  unfolding change
+  change-keeps L ys = pick-keeps _ _ _ (f L) f refl (pick-keeps _ _ _ (f L) f refl (h L ys))
+
+  pub next-keeps : (c : Call) (L : Plain) → f (next c L) ≡ f L
+  unfolding next step
+  next-keeps (Append v) L = pick-keeps _ _ _ (f L) f refl (change-keeps L _)
+  next-keeps (Set i v) L = pick-keeps _ _ _ (f L) f refl (change-keeps L _)
+  next-keeps (Count i) L = pick-keeps _ _ _ (f L) f refl refl
+  next-keeps (Reading i) L = pick-keeps _ _ _ (f L) f refl refl
+  next-keeps (Reach p) L = pick-keeps _ _ _ (f L) f refl refl
+  next-keeps (Day d) L = pick-keeps _ _ _ (f L) f refl refl
+  next-keeps Free L = refl
+
+pub next-pages : (c : Call) (L : Plain) → next c L .pages ≡ L .pages
+next-pages = next-keeps (λ (L : Plain). L .pages) (λ L ys. refl)
+
+pub next-cells : (c : Call) (L : Plain) → next c L .cells ≡ L .cells
+next-cells = next-keeps (λ (L : Plain). L .cells) (λ L ys. refl)

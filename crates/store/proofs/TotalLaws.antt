@@ -6,9 +6,8 @@ use Prim.Native.Nat.{ℕ}
 use native.Mathlib.Omega.{arith}
 use lib.ListN.{length}
 use Rattle.lists.specs.Lists.{concat, sum, tabulate}
-use Rattle.bits.specs.Numbers.{numberAt}
 use Rattle.store.specs.Plain.{page}
-use Rattle.store.specs.Reading.{read, sumIn}
+use Rattle.store.specs.Reading.{listIn, pagesOf, sumIn}
 use Rattle.store.specs.Sound.{sound}
 use Rattle.lists.proofs.Sums.{sum-concat, sum-take-le}
 use Rattle.lists.proofs.Tables.{tabulate-ext}
@@ -18,10 +17,10 @@ use Rattle.store.proofs.SoundFacts.{facts}
 
 module _ (s : List ℕ) (e : sound s ≡ true) where
   abbrev P : ℕ
-  P = numberAt s 2 2
+  P = pagesOf s
 
   abbrev xs : List ℕ
-  xs = read s .plain .counts
+  xs = listIn s
 
   pub total-all : sum (tabulate P (sumIn s)) ≡ sum xs
   total-all =

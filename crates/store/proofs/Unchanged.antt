@@ -6,6 +6,7 @@ use Prim.Native.Nat.{ℕ, zero, suc, _/_}
 use native.Mathlib.Omega.{arith}
 use lib.ListN.{getD, take}
 use Rattle.lists.specs.Lists.{pick}
+use Rattle.store.specs.Limits.{fits}
 use Rattle.store.specs.Plain.{Answer, Call, Outcome, answered, refused, step}
 use Rattle.store.specs.Layout.{Model, bytesOf, fresh}
 use Rattle.store.specs.Reading.{read}
@@ -45,7 +46,7 @@ answered-keeps c s n = keeps c s (answered n) (λ m p o. refl)
 -- ---- fresh
 pub fresh-refused-keeps : (b : List ℕ) (P C k : ℕ) → freshCall b P C .answer ≡ refused k → freshCall b P C .bytes ≡ b
 unfolding freshCall pick
-fresh-refused-keeps b P C k = go (freshFits b P C)
+fresh-refused-keeps b P C k = go (fits b P C)
   where
     made : Result
     made = record { answer = answered 0; bytes = bytesOf (fresh P C) }

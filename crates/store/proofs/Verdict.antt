@@ -11,10 +11,11 @@ use borrow.Author.Tests.{le-leb, leb-true, eq-eqb, eqb-true}
 use Rattle.lists.specs.Lists.{concat, every, occurrences, part, same, sum, tabulate}
 use Rattle.bits.specs.Numbers.{little, numberAt}
 use Rattle.bits.proofs.Little.{stored}
+use Rattle.store.specs.Limits.{Fitting, maxCells, maxPages}
 use Rattle.store.specs.Layout.{Model, bytesOf, header, size, cellsFrom, entryAt}
 use Rattle.store.specs.PageCode.{cells, pageBytes}
 use Rattle.store.specs.Plain.{need, page}
-use Rattle.store.specs.Reading.{chainFrom, chainIn, codeIn, pageIn, read, readFor, spareIn, sumIn}
+use Rattle.store.specs.Reading.{cellsOf, chainFrom, chainIn, codeIn, hoursOf, pageIn, pagesOf, read, readFor, spareIn, sumIn}
 use Rattle.store.specs.Sound.{Good, isCell, onChains, sound}
 use Rattle.lists.proofs.Occurrences.{length-concat, occurrences-append, occurrences-tabulate}
 use Rattle.lists.proofs.Parts.{part-front}
@@ -25,7 +26,7 @@ use Rattle.lists.proofs.Zeros.{zeros-at}
 use Rattle.store.specs.Checked.{Walk, and-then, broken, checkPages, ends-well, headTests, pageTests, quiet, walkMarks, whole}
 use Rattle.store.proofs.CheckChain.{Marked, Unmarked, goes-then}
 use Rattle.store.proofs.CheckChain.{markAll, marks, walk-through, walked}
-use Rattle.store.proofs.CheckPages.{PageGood, pages-good, pages-through, pagesOf, then-whole}
+use Rattle.store.proofs.CheckPages.{PageGood, chainsFrom, pages-good, pages-through, then-whole}
 use Rattle.store.proofs.FreshLaws.{cell-in, cell-le}
 use Rattle.store.proofs.Holds.{Holds, holds-bytes, holds-only, page-length}
 use Rattle.store.proofs.Joining.{chain-all, chain-part}
@@ -54,47 +55,45 @@ pub record Headed (s : List ℕ) : Type 0 where
   pub long : 16 ≤ length s
   pub edition : part s 0 2 ≡ 1 ∷ 0 ∷ []
   pub gap : part s 10 2 ≡ 0 ∷ 0 ∷ []
-  pub pages-low : 1 ≤ numberAt s 2 2
-  pub pages-high : numberAt s 2 2 ≤ 1024
-  pub cells-low : 1 ≤ numberAt s 4 2
-  pub cells-high : numberAt s 4 2 ≤ 1800
-  pub size : length s ≡ size (numberAt s 2 2) (numberAt s 4 2)
-  pub hours : numberAt s 12 4 ≤ 64 * numberAt s 2 2
-  pub total : sum (tabulate (numberAt s 2 2) (sumIn s)) ≤ 4294967295
+  pub fitting : Fitting s (pagesOf s) (cellsOf s)
+  pub hours : hoursOf s ≤ 64 * pagesOf s
+  pub total : sum (tabulate (pagesOf s) (sumIn s)) ≤ 4294967295
 
 pub head-each : (s : List ℕ) → Headed s → Each (headTests s)
 unfolding headTests
-head-each s h = (
-  le-leb _ _ (h .long),
-  (
-    same-eq _ _ (h .edition),
-    (
-      same-eq _ _ (h .gap),
+head-each s h =
+    let w = h .fitting in
+    let l = w .limits in (
+      le-leb _ _ (h .long),
       (
-        le-leb _ _ (h .pages-low),
+        same-eq _ _ (h .edition),
         (
-          le-leb _ _ (h .pages-high),
+          same-eq _ _ (h .gap),
           (
-            le-leb _ _ (h .cells-low),
-            (le-leb _ _ (h .cells-high), (eq-eqb _ _ (h .size), (le-leb _ _ (h .hours), (le-leb _ _ (h .total), tt)))),
+            le-leb _ _ (l .pages-low),
+            (
+              le-leb _ _ (l .pages-high),
+              (
+                le-leb _ _ (l .cells-low),
+                (le-leb _ _ (l .cells-high), (eq-eqb _ _ (w .long), (le-leb _ _ (h .hours), (le-leb _ _ (h .total), tt)))),
+              ),
+            ),
           ),
         ),
       ),
-    ),
-  ),
-)
+    )
 
 -- the pages' chains, then the free one
 unfoldable pub chainsWalk : List ℕ → Walk
-chainsWalk s = and-then (checkPages s (numberAt s 2 2) (numberAt s 4 2) (numberAt s 12 4) (numberAt s 2 2) 0 (replicate 1801 0))
-    (λ m. walkMarks s (cellsFrom (numberAt s 2 2)) (numberAt s 4 2) (numberAt s 8 2) m 6)
+chainsWalk s = and-then (checkPages s (pagesOf s) (cellsOf s) (hoursOf s) (pagesOf s) 0 (replicate 1801 0))
+    (λ m. walkMarks s (cellsFrom (pagesOf s)) (cellsOf s) (numberAt s 8 2) m 6)
 
 -- every cell is marked, and the free cells are clear
 unfoldable pub endTests : List ℕ → List ℕ → List Bool
 endTests s m =
-    same (tabulate (numberAt s 4 2) (λ j. getD m (suc j) 0)) (replicate (numberAt s 4 2) 1)
-    ∷ eqb (sum (tabulate (numberAt s 2 2) (λ p. cells (sumIn s p))) + numberAt s 8 2) (numberAt s 4 2)
-    ∷ same (codeIn s (cellsFrom (numberAt s 2 2)) (chainFrom s (cellsFrom (numberAt s 2 2)) (numberAt s 8 2) (numberAt s 6 2))) (replicate (30 * numberAt s 8 2) 0)
+    same (tabulate (cellsOf s) (λ j. getD m (suc j) 0)) (replicate (cellsOf s) 1)
+    ∷ eqb (sum (tabulate (pagesOf s) (λ p. cells (sumIn s p))) + numberAt s 8 2) (cellsOf s)
+    ∷ same (codeIn s (cellsFrom (pagesOf s)) (chainFrom s (cellsFrom (pagesOf s)) (numberAt s 8 2) (numberAt s 6 2))) (replicate (30 * numberAt s 8 2) 0)
     ∷ []
 
 unfoldable pub checked : List ℕ → Bool
@@ -102,13 +101,13 @@ checked s = every (headTests s) && ends-well (chainsWalk s) (λ m. every (endTes
 
 module _ (s : List ℕ) (bytes : (i : ℕ) → getD s i 0 < 256) where
   abbrev P : ℕ
-  P = numberAt s 2 2
+  P = pagesOf s
 
   abbrev C : ℕ
-  C = numberAt s 4 2
+  C = cellsOf s
 
   abbrev N : ℕ
-  N = numberAt s 12 4
+  N = hoursOf s
 
   abbrev F : List ℕ
   F = chainFrom s (cellsFrom P) (numberAt s 8 2) (numberAt s 6 2)
@@ -127,7 +126,7 @@ module _ (s : List ℕ) (bytes : (i : ℕ) → getD s i 0 < 256) where
     pub number : sum (tabulate P (λ p. cells (sumIn s p))) + numberAt s 8 2 ≡ C
     pub clear : codeIn s (cellsFrom P) F ≡ replicate (30 * numberAt s 8 2) 0
 
-  pages-are : concat (pagesOf s P 0 P) ≡ concat chains
+  pages-are : concat (chainsFrom s P 0 P) ≡ concat chains
   pages-are = ap concat (tabulate-ext P (λ j. chainIn s P (0 + j)) (chainIn s P) (λ j _. ap (chainIn s P) {x = 0 + j} {y = j} (omega arith)))
 
   found : checked s ≡ true → Found
@@ -136,16 +135,16 @@ module _ (s : List ℕ) (bytes : (i : ℕ) → getD s i 0 < 256) where
       let hd = each (headTests s) (left (every (headTests s)) (ends-well (chainsWalk s) (λ m. every (endTests s m))) e) in
       let w = ends-whole (chainsWalk s) (λ m. every (endTests s m))
       (right (every (headTests s)) (ends-well (chainsWalk s) (λ m. every (endTests s m))) e) in
-      let lP : P ≤ 1024 = leb-true P 1024 (hd .1 .1 .1 .1 .0) in
-      let lC : C ≤ 1800 = leb-true C 1800 (hd .1 .1 .1 .1 .1 .1 .0) in
+      let lP : P ≤ maxPages = leb-true P maxPages (hd .1 .1 .1 .1 .0) in
+      let lC : C ≤ maxCells = leb-true C maxCells (hd .1 .1 .1 .1 .1 .1 .0) in
       let sz : size P C ≤ length s = omega (arith, eqb-true (length s) (size P C) (hd .1 .1 .1 .1 .1 .1 .1 .0)) in
       let t = goes-then (checkPages s P C N P 0 (replicate 1801 0)) (λ m. walkMarks s (cellsFrom P) C (numberAt s 8 2) m 6) (w .0) (w .1) in
       let lz : C < length (replicate {A = ℕ} 1801 0) = omega (arith, length-replicate {A = ℕ} 1801 0) in
       let g = pages-good s P C N lC lP bytes sz P 0 (replicate 1801 0) (t .0) [] (omega arith) lz (zeros-marked C) (t .1) in
       let l₁ : C < length (t .0) = omega (arith, g .length-marks) in
       let f = walked s (cellsFrom P) C lC bytes sz (numberAt s 8 2) (t .0) (w .0) 6 l₁ (omega arith) (t .2) in
-      let k : Marked C (w .0) (concat (pagesOf s P 0 P) ++ F) = rw (f .marked)
-      (marks C F (t .0) (concat (pagesOf s P 0 P)) l₁ (f .chain) (f .unmarked) (g .marked)) in
+      let k : Marked C (w .0) (concat (chainsFrom s P 0 P) ++ F) = rw (f .marked)
+      (marks C F (t .0) (concat (chainsFrom s P 0 P)) l₁ (f .chain) (f .unmarked) (g .marked)) in
       let ed = each (endTests s (w .0)) (w .2) in
       record {
         head = hd;
@@ -167,7 +166,7 @@ module _ (s : List ℕ) (bytes : (i : ℕ) → getD s i 0 < 256) where
     abbrev m : Model
     m = readFor s P
 
-    head-facts : (16 ≤ length s) × (part s 0 2 ≡ 1 ∷ 0 ∷ []) × (part s 10 2 ≡ 0 ∷ 0 ∷ []) × (1 ≤ P) × (P ≤ 1024) × (1 ≤ C) × (C ≤ 1800)
+    head-facts : (16 ≤ length s) × (part s 0 2 ≡ 1 ∷ 0 ∷ []) × (part s 10 2 ≡ 0 ∷ 0 ∷ []) × (1 ≤ P) × (P ≤ maxPages) × (1 ≤ C) × (C ≤ maxCells)
         × (length s ≡ size P C) × (N ≤ 64 * P) × (sum (tabulate P (sumIn s)) ≤ 4294967295)
     unfolding headTests
     head-facts =
@@ -176,9 +175,9 @@ module _ (s : List ℕ) (bytes : (i : ℕ) → getD s i 0 < 256) where
           same-is (part s 0 2) (1 ∷ 0 ∷ []) (h .1 .0),
           same-is (part s 10 2) (0 ∷ 0 ∷ []) (h .1 .1 .0),
           leb-true 1 P (h .1 .1 .1 .0),
-          leb-true P 1024 (h .1 .1 .1 .1 .0),
+          leb-true P maxPages (h .1 .1 .1 .1 .0),
           leb-true 1 C (h .1 .1 .1 .1 .1 .0),
-          leb-true C 1800 (h .1 .1 .1 .1 .1 .1 .0),
+          leb-true C maxCells (h .1 .1 .1 .1 .1 .1 .0),
           eqb-true (length s) (size P C) (h .1 .1 .1 .1 .1 .1 .1 .0),
           leb-true N (64 * P) (h .1 .1 .1 .1 .1 .1 .1 .1 .0),
           leb-true (sum (tabulate P (sumIn s))) 4294967295 (h .1 .1 .1 .1 .1 .1 .1 .1 .1 .0),
@@ -208,10 +207,7 @@ module _ (s : List ℕ) (bytes : (i : ℕ) → getD s i 0 < 256) where
     good : Good (readFor s P)
     unfolding readFor spareIn onChains
     good = record {
-      pages-low = head-facts .3;
-      pages-high = head-facts .4;
-      cells-low = head-facts .5;
-      cells-high = head-facts .6;
+      limits = record { pages-low = head-facts .3; pages-high = head-facts .4; cells-low = head-facts .5; cells-high = head-facts .6 };
       hours = omega (arith, counts-length, head-facts .8);
       total =
           omega (
@@ -343,15 +339,15 @@ module _ (s : List ℕ) (bytes : (i : ℕ) → getD s i 0 < 256) where
     unfolding readFor spareIn
     size-fits = omega (arith, h .size)
 
-    cells-small : C ≤ 1800
+    cells-small : C ≤ maxCells
     unfolding readFor spareIn
-    cells-small = g .cells-high
+    cells-small = g .limits .cells-high
 
-    pages-small : P ≤ 1024
+    pages-small : P ≤ maxPages
     unfolding readFor spareIn
-    pages-small = g .pages-high
+    pages-small = g .limits .pages-high
 
-    through : (m′ : List ℕ) × (checkPages s P C N P 0 Z ≡ whole m′) × (length m′ ≡ length Z) × Marked C m′ (concat (pagesOf s P 0 P))
+    through : (m′ : List ℕ) × (checkPages s P C N P 0 Z ≡ whole m′) × (length m′ ≡ length Z) × Marked C m′ (concat (chainsFrom s P 0 P))
     through =
         pages-through s P C N cells-small pages-small bytes size-fits P 0 Z []
         (omega (arith, cells-small, length-replicate {A = ℕ} 1801 0)) (zeros-marked C)
@@ -379,10 +375,10 @@ module _ (s : List ℕ) (bytes : (i : ℕ) → getD s i 0 < 256) where
         ∙ ap (λ (z : ℕ). walkMarks s (cellsFrom P) C z (through .0) 6) (sym long-eq)
         ∙ walk-through s (cellsFrom P) C cells-small F (through .0) 6 spare-chain spare-linked free-new
 
-    last-marked : Marked C last-marks (concat (pagesOf s P 0 P) ++ F)
+    last-marked : Marked C last-marks (concat (chainsFrom s P 0 P) ++ F)
     unfolding last-marks
     last-marked =
-        marks C F (through .0) (concat (pagesOf s P 0 P))
+        marks C F (through .0) (concat (chainsFrom s P 0 P))
         (omega (arith, through .2, cells-small, length-replicate {A = ℕ} 1801 0)) spare-chain free-new (through .3)
 
     number-is : sum (tabulate P (λ p. cells (sumIn s p))) + numberAt s 8 2 ≡ C
@@ -414,11 +410,7 @@ module _ (s : List ℕ) (bytes : (i : ℕ) → getD s i 0 < 256) where
           long = omega (arith, size-fits);
           edition = part-front s (header (readFor s P)) 0 16 2 (h .head) (omega arith);
           gap = sp .gap;
-          pages-low = g .pages-low;
-          pages-high = g .pages-high;
-          cells-low = g .cells-low;
-          cells-high = g .cells-high;
-          size = h .size;
+          fitting = record { limits = g .limits; long = h .size };
           hours = omega (arith, hours-eq, g .hours);
           total =
               omega (

@@ -44,12 +44,12 @@ ends (c ∷ cs) m g =
 pub end-pages : (cs : List Call) (L : Plain) → plainEnd cs L .pages ≡ L .pages
 unfolding plainEnd next
 end-pages [] L = refl
-end-pages (c ∷ cs) L = end-pages cs (next c L)
+end-pages (c ∷ cs) L = end-pages cs (next c L) ∙ next-pages c L
 
 pub end-cells : (cs : List Call) (L : Plain) → plainEnd cs L .cells ≡ L .cells
 unfolding plainEnd next
 end-cells [] L = refl
-end-cells (c ∷ cs) L = end-cells cs (next c L)
+end-cells (c ∷ cs) L = end-cells cs (next c L) ∙ next-cells c L
 
 -- answer n is that of the list after the n calls before it
 pub answer-at : (cs : List Call) (L : Plain) (n : ℕ) → n < length cs

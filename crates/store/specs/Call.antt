@@ -1,15 +1,14 @@
 -- The calls on a store's bytes. Assumes nothing.
-use mathlib.Core.Bool.{Bool}
 use mathlib.Core.List.{List, [], _∷_}
 use mathlib.Core.Path.{_≡_}
-use Prim.Native.Nat.{ℕ, _/_, _≤_}
+use Prim.Native.Nat.{ℕ, _/_}
 use lib.ListN.{length}
-use lib.Dec.{leb, eqb}
-use Rattle.lists.specs.Lists.{every, pick, sum}
+use Rattle.lists.specs.Lists.{pick, sum}
 use Rattle.store.specs.PageCode.{cells}
 use Rattle.store.specs.Plain.{Plain, Call, Append, Set, Count, Reading, Reach, Day}
 use Rattle.store.specs.Plain.{Free, Answer, changed, answered, refused, Outcome, page, step}
-use Rattle.store.specs.Layout.{Model, size, bytesOf, fresh, resize}
+use Rattle.store.specs.Layout.{Model, bytesOf, fresh, resize}
+use Rattle.store.specs.Limits.{fits}
 use Rattle.store.specs.Reading.{read}
 use Rattle.store.specs.Sound.{sound}
 
@@ -25,7 +24,7 @@ hour Free L = 0
 
 -- an accepted append or set gives page p the cells that it now needs; nothing else changes anything
 unfoldable pub apply : Model → ℕ → Outcome → Answer → Model
-apply m p o (changed r f) = resize m (o .counts) p (cells (sum (page (o .counts) p)))
+apply m p o (changed r f) = resize m (o .list .counts) p (cells (sum (page (o .list .counts) p)))
 apply m p o (answered n) = m
 apply m p o (refused k) = m
 
@@ -58,20 +57,9 @@ storeAnswers [] s = []
 storeAnswers (c ∷ cs) s = call c s .answer ∷ storeAnswers cs (call c s .bytes)
 
 -- fresh: 'P, C or buffer length wrong' is refused 9; else the buffer becomes a fresh store
-unfoldable pub freshFits : List ℕ → ℕ → ℕ → Bool
-freshFits b P C = every (leb 1 P ∷ leb P 1024 ∷ leb 1 C ∷ leb C 1800 ∷ eqb (length b) (size P C) ∷ [])
-
 unfoldable pub freshCall : List ℕ → ℕ → ℕ → Result
 freshCall b P C =
-    pick (freshFits b P C) (record { answer = answered 0; bytes = bytesOf (fresh P C) }) (record { answer = refused 9; bytes = b })
-
--- fresh does not refuse, as facts: 'Limits of the store: pages P from 1 to 1,024; cells C from 1 to 1,800', 'Length is 16 + 6P + 32C bytes exactly'
-pub record Fitting (b : List ℕ) (P C : ℕ) : Type 0 where
-  pub pages-low : 1 ≤ P
-  pub pages-high : P ≤ 1024
-  pub cells-low : 1 ≤ C
-  pub cells-high : C ≤ 1800
-  pub long : length b ≡ size P C
+    pick (fits b P C) (record { answer = answered 0; bytes = bytesOf (fresh P C) }) (record { answer = refused 9; bytes = b })
 
 -- the answer r and the bytes t are those of fresh on the buffer b
 pub record Started (b : List ℕ) (P C : ℕ) (r : Answer) (t : List ℕ) : Type 0 where

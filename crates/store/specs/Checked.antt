@@ -1,15 +1,16 @@
 -- What the soundness check computes on its way along the bytes: the chains walked with marks, the tests of a page, the tests of the header.
 -- That together they say `sound` is the law `verdict`. Assumes nothing.
 use mathlib.Core.Bool.{Bool, true, false, _&&_}
-use mathlib.Core.List.{List, [], _∷_}
+use mathlib.Core.List.{List, [], _∷_, _++_}
 use Prim.Native.Nat.{ℕ, zero, suc, _+_, _*_}
 use lib.ListN.{length, getD, set}
 use lib.Dec.{leb, ltb, eqb}
 use Rattle.lists.specs.Lists.{every, part, pick, same, sum, tabulate}
 use Rattle.bits.specs.Numbers.{numberAt}
-use Rattle.store.specs.Layout.{cellAt, cellsFrom, entryAt, size}
+use Rattle.store.specs.Layout.{cellAt, cellsFrom, entryAt, headerLength}
+use Rattle.store.specs.Limits.{fitTests, maxTotal}
 use Rattle.store.specs.PageCode.{cells, pageBytes}
-use Rattle.store.specs.Reading.{chainIn, codeIn, pageIn, sumIn}
+use Rattle.store.specs.Reading.{cellsOf, chainIn, codeIn, hoursOf, pageIn, pagesOf, sumIn}
 
 -- a walk along chains: the marks that it leaves, or that it broke off at a fault
 pub data Walk : Type 0 where
@@ -60,14 +61,10 @@ ends-well broken f = false
 -- the header's fields, the length and the total
 unfoldable pub headTests : List ℕ → List Bool
 headTests s =
-    leb 16 (length s)
+    leb headerLength (length s)
     ∷ same (part s 0 2) (1 ∷ 0 ∷ [])
     ∷ same (part s 10 2) (0 ∷ 0 ∷ [])
-    ∷ leb 1 (numberAt s 2 2)
-    ∷ leb (numberAt s 2 2) 1024
-    ∷ leb 1 (numberAt s 4 2)
-    ∷ leb (numberAt s 4 2) 1800
-    ∷ eqb (length s) (size (numberAt s 2 2) (numberAt s 4 2))
-    ∷ leb (numberAt s 12 4) (64 * numberAt s 2 2)
-    ∷ leb (sum (tabulate (numberAt s 2 2) (sumIn s))) 4294967295
+    ∷ fitTests s (pagesOf s) (cellsOf s)
+    ++ leb (hoursOf s) (64 * pagesOf s)
+    ∷ leb (sum (tabulate (pagesOf s) (sumIn s))) maxTotal
     ∷ []

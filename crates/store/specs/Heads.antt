@@ -5,17 +5,18 @@ use Prim.Native.Nat.{ℕ, zero, suc, _+_, _≤_, _<_}
 use lib.ListN.{length}
 use Rattle.lists.specs.Lists.{first, part}
 use Rattle.bits.specs.Numbers.{little, numberAt}
+use Rattle.store.specs.Reading.{cellsOf, hoursOf, pagesOf}
 use Rattle.store.specs.Layout.{Model, cellAt}
 use Rattle.store.specs.Links.{put}
 use Rattle.store.specs.declared.header.Header.{Header}
 
 -- the header that stands in the bytes s
 pub record Heads (s : List ℕ) (h : Header) : Type 0 where
-  pub pages-is : h .pages ≡ numberAt s 2 2
-  pub cells-is : h .cells ≡ numberAt s 4 2
+  pub pages-is : h .pages ≡ pagesOf s
+  pub cells-is : h .cells ≡ cellsOf s
   pub first-is : h .«first_free» ≡ numberAt s 6 2
   pub free-is : h .free ≡ numberAt s 8 2
-  pub hours-is : h .hours ≡ numberAt s 12 4
+  pub hours-is : h .hours ≡ hoursOf s
   pub pages-small : h .pages < 65536
   pub cells-small : h .cells < 65536
   pub first-small : h .«first_free» < 65536

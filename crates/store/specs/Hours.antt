@@ -6,25 +6,24 @@ use Prim.Native.Nat.{ℕ, _*_, _/_, _≤_, _<_}
 use lib.ListN.{length, set}
 use lib.Dec.{eqb}
 use Rattle.lists.specs.Lists.{pick}
-use Rattle.bits.specs.Numbers.{numberAt}
 use Rattle.store.specs.PageCode.{cells}
 use Rattle.store.specs.Plain.{Answer, Outcome, change}
 use Rattle.store.specs.Layout.{bytesOf, cellsFrom}
-use Rattle.store.specs.Reading.{read, sumIn}
+use Rattle.store.specs.Reading.{listIn, pagesOf, read, sumIn}
 use Rattle.store.specs.Sound.{sound}
 use Rattle.store.specs.Call.{apply}
 
 -- a store that is sound, with a page for hour i, which is logged or the next to be logged
 pub record Asked (s : List ℕ) (i : ℕ) : Type 0 where
   pub is-sound : sound s ≡ true
-  pub inside : i < 64 * numberAt s 2 2
-  pub reached : i ≤ length (read s .plain .counts)
+  pub inside : i < 64 * pagesOf s
+  pub reached : i ≤ length (listIn s)
 
 -- page p of a sound store, whose cells start at base: its sum, and its cells
 pub record OfPage (s : List ℕ) (base p sum k : ℕ) : Type 0 where
   pub is-sound : sound s ≡ true
-  pub base-is : base ≡ cellsFrom (numberAt s 2 2)
-  pub inside : p < numberAt s 2 2
+  pub base-is : base ≡ cellsFrom (pagesOf s)
+  pub inside : p < pagesOf s
   pub sum-is : sum ≡ sumIn s p
   pub cells-is : k ≡ cells sum
 
@@ -34,7 +33,7 @@ withHour xs i v = pick (eqb i (length xs)) (xs ++ v ∷ []) (set xs i v)
 
 -- the plain list's change of hour i to v
 unfoldable pub changeTo : List ℕ → ℕ → ℕ → Outcome
-changeTo s i v = change (read s .plain) (withHour (read s .plain .counts) i v)
+changeTo s i v = change (read s .plain) (withHour (listIn s) i v)
 
 -- the answer r and the bytes t are those of this change
 pub record Changes (s : List ℕ) (i v : ℕ) (r : Answer) (t : List ℕ) : Type 0 where

@@ -7,32 +7,18 @@ use lib.ListN.{length, getD, replicate}
 use Rattle.lists.specs.Lists.{concat, occurrences, part, sum, tabulate}
 use Rattle.bits.specs.Numbers.{numberAt}
 use Rattle.store.specs.PageCode.{pageBytes}
-use Rattle.store.specs.Layout.{cellsFrom, size}
-use Rattle.store.specs.Reading.{Runs, chainIn, codeIn, firstIn, pageIn, spareIn, sumIn}
+use Rattle.store.specs.Layout.{cellsFrom}
+use Rattle.store.specs.Limits.{Fitting, maxTotal}
+use Rattle.store.specs.Reading.{Runs, cellsOf, chainIn, codeIn, firstIn, hoursOf, pageIn, pagesOf, spareIn, sumIn}
 use Rattle.store.specs.Sound.{isCell}
-
--- P, C and N as the header says them
-abbrev pub pagesOf : List ℕ → ℕ
-pagesOf s = numberAt s 2 2
-
-abbrev pub cellsOf : List ℕ → ℕ
-cellsOf s = numberAt s 4 2
-
-abbrev pub hoursOf : List ℕ → ℕ
-hoursOf s = numberAt s 12 4
 
 -- the cells of all chains, the pages' and the free one
 abbrev pub onAll : List ℕ → List ℕ
 onAll s = concat (tabulate (pagesOf s) (chainIn s (pagesOf s))) ++ spareIn s (pagesOf s)
 
 pub record Items (s : List ℕ) : Type 0 where
-  -- 'pages P from 1 to 1,024; cells C from 1 to 1,800'
-  pub pages-from : 1 ≤ pagesOf s
-  pub pages-to : pagesOf s ≤ 1024
-  pub cells-from : 1 ≤ cellsOf s
-  pub cells-to : cellsOf s ≤ 1800
-  -- 'Length is 16 + 6P + 32C bytes exactly'
-  pub long : length s ≡ size (pagesOf s) (cellsOf s)
+  -- 'pages P from 1 to 1,024; cells C from 1 to 1,800', 'Length is 16 + 6P + 32C bytes exactly'
+  pub fitting : Fitting s (pagesOf s) (cellsOf s)
   -- 'byte 0 is 1 (edition), byte 1 zero', '10-11 zero'
   pub edition : part s 0 2 ≡ 1 ∷ 0 ∷ []
   pub gap : part s 10 2 ≡ 0 ∷ 0 ∷ []
@@ -48,7 +34,7 @@ pub record Items (s : List ℕ) : Type 0 where
   pub free-clear : codeIn s (cellsFrom (pagesOf s)) (spareIn s (pagesOf s)) ≡ replicate (30 * numberAt s 8 2) 0
   -- 'N ≤ 64P, the total fits'
   pub hours : hoursOf s ≤ 64 * pagesOf s
-  pub total : sum (tabulate (pagesOf s) (sumIn s)) ≤ 4294967295
+  pub total : sum (tabulate (pagesOf s) (sumIn s)) ≤ maxTotal
   -- 'each cell is on exactly one chain': each number 1 to C once, no other, and so C in all
   pub once : (c : ℕ) → occurrences c (onAll s) ≡ isCell (cellsOf s) c
   pub all : length (onAll s) ≡ cellsOf s

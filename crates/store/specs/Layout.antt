@@ -6,7 +6,7 @@ use lib.Dec.{eqb}
 use Rattle.lists.specs.Lists.{tabulate, concat, sum, pick, first}
 use Rattle.bits.specs.Numbers.{little}
 use Rattle.store.specs.PageCode.{pageBytes}
-use Rattle.store.specs.Plain.{Plain, page}
+use Rattle.store.specs.Plain.{Plain, page, plainFresh, relisted}
 
 -- what a store holds: the plain list, each page's chain of cells, and the free chain
 pub record Model : Type 0 where
@@ -85,14 +85,14 @@ bytesOf m = header m ++ (concat (tabulate (m .plain .pages) (entry m)) ++ concat
 
 -- 'A fresh store has N = 0, every page entry zero, and free chain 1, 2, .., C'
 unfoldable pub fresh : ℕ → ℕ → Model
-fresh P C = record { plain = record { pages = P; cells = C; counts = [] }; chains = tabulate P (λ _. []); spare = tabulate C suc }
+fresh P C = record { plain = plainFresh P C; chains = tabulate P (λ _. []); spare = tabulate C suc }
 
 -- The list becomes ys, and page p is to have k cells: the line between the page's chain and the free chain behind it moves. So 'a page
 -- that grows takes cells from the front of the free chain, in that order, onto the end of its own. A page that shrinks gives its last
 -- cell to the front of the free chain, then the one before it' (`InOrder`, one cell at a time).
 unfoldable pub resize : Model → List ℕ → ℕ → ℕ → Model
 resize m ys p k = record {
-  plain = record { pages = m .plain .pages; cells = m .plain .cells; counts = ys };
+  plain = relisted (m .plain) ys;
   chains = set (m .chains) p (take k (getD (m .chains) p [] ++ m .spare));
   spare = drop k (getD (m .chains) p [] ++ m .spare);
 }

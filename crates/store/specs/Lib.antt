@@ -2,6 +2,7 @@
 pub mod PageCode
 pub mod Plain
 pub mod Layout
+pub mod Limits
 pub mod OneCell
 pub mod Reading
 pub mod Sound

@@ -4,7 +4,7 @@ use mathlib.Core.Path.{_≡_}
 use Prim.Native.Nat.{ℕ, zero, suc, _+_, _-_, _/_, _≤_}
 use lib.ListN.{length, getD, take, drop, set}
 use Rattle.lists.specs.Lists.{first}
-use Rattle.store.specs.Plain.{Call, changed, step}
+use Rattle.store.specs.Plain.{Call, changed, relisted, step}
 use Rattle.store.specs.Layout.{Model, resize}
 use Rattle.store.specs.Reading.{read}
 use Rattle.store.specs.Call.{call, hour}
@@ -34,7 +34,7 @@ times (suc n) f m = times n f (f m)
 
 -- the same chains, for the list ys
 abbrev pub listed : List ℕ → Model → Model
-listed ys m = record { plain = record { pages = m .plain .pages; cells = m .plain .cells; counts = ys }; chains = m .chains; spare = m .spare }
+listed ys m = record { plain = relisted (m .plain) ys; chains = m .chains; spare = m .spare }
 
 -- what `resize` does to page p's chain and to the free chain: at once, and one cell at a time in document 01's order
 pub record InOrder (m : Model) (ys : List ℕ) (p : ℕ) : Type 0 where
@@ -49,4 +49,4 @@ pub record InOrder (m : Model) (ys : List ℕ) (p : ℕ) : Type 0 where
 abbrev pub CellsInOrder : Type 0
 CellsInOrder = (c : Call) (s : List ℕ) (r f : ℕ) → call c s .answer ≡ changed r f
     → let p = hour c (read s .plain) / 64 in
-    read (call c s .bytes) ≡ listed (step c (read s .plain) .counts) (times r (takeCell p) (times f (giveCell p) (read s)))
+    read (call c s .bytes) ≡ listed (step c (read s .plain) .list .counts) (times r (takeCell p) (times f (giveCell p) (read s)))

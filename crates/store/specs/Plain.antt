@@ -27,17 +27,21 @@ pub data Answer : Type 0 where
   answered : ℕ → Answer
   refused : ℕ → Answer
 
--- the answer, and the list afterwards
+-- the answer, and the list afterwards, whole
 pub record Outcome : Type 0 where
   pub answer : Answer
-  pub counts : List ℕ
+  pub list : Plain
+
+-- the list with other counts
+abbrev pub relisted : Plain → List ℕ → Plain
+relisted L ys = record { pages = L .pages; cells = L .cells; counts = ys }
 
 -- 'a refused call changes nothing', and a question does not either
 abbrev pub refuse : ℕ → Plain → Outcome
-refuse k L = record { answer = refused k; counts = L .counts }
+refuse k L = record { answer = refused k; list = L }
 
 abbrev pub tell : ℕ → Plain → Outcome
-tell n L = record { answer = answered n; counts = L .counts }
+tell n L = record { answer = answered n; list = L }
 
 -- 'page p has hours 64p to 64p + 63': its 64 counts, zero from the list's end on
 unfoldable pub page : List ℕ → ℕ → List ℕ
@@ -54,13 +58,13 @@ change L ys =
     let old = need (L .counts) (L .pages) in
     let new = need ys (L .pages) in
     pick (ltb 4294967295 (sum ys)) (refuse 3 L)
-    (pick (ltb (L .cells) new) (refuse 12 L) (record { answer = changed (new - old) (old - new); counts = ys }))
+    (pick (ltb (L .cells) new) (refuse 12 L) (record { answer = changed (new - old) (old - new); list = relisted L ys }))
 
 -- the hour at which day d begins
 abbrev pub dayStart : ℕ → ℕ
 dayStart d = 24 * d
 
--- what each call answers, and the counts afterwards: the refusals first, in document 01's order
+-- what each call answers, and the list afterwards: the refusals first, in document 01's order
 unfoldable pub step : Call → Plain → Outcome
 -- 'refused 11 if 64P hours are logged'
 step (Append v) L = pick (leb (64 * L .pages) (length (L .counts))) (refuse 11 L) (change L (L .counts ++ v ∷ []))
@@ -80,7 +84,7 @@ step Free L = tell (L .cells - need (L .counts) (L .pages)) L
 
 -- the plain list after a call
 unfoldable pub next : Call → Plain → Plain
-next c L = record { pages = L .pages; cells = L .cells; counts = step c L .counts }
+next c L = step c L .list
 
 -- after a list of calls, and what these are answered, one by one
 unfoldable pub plainEnd : List Call → Plain → Plain

@@ -8,6 +8,16 @@ use Rattle.bits.specs.Numbers.{numberAt}
 use Rattle.store.specs.PageCode.{cells, pageCounts}
 use Rattle.store.specs.Layout.{Model, entryAt, cellAt, cellsFrom}
 
+-- P, C and N as the header says them
+abbrev pub pagesOf : List ℕ → ℕ
+pagesOf s = numberAt s 2 2
+
+abbrev pub cellsOf : List ℕ → ℕ
+cellsOf s = numberAt s 4 2
+
+abbrev pub hoursOf : List ℕ → ℕ
+hoursOf s = numberAt s 12 4
+
 -- In what follows the cells start at base. k cells along a chain, from cell c on
 unfoldable pub chainFrom : List ℕ → ℕ → ℕ → ℕ → List ℕ
 chainFrom s base zero c = []
@@ -47,10 +57,14 @@ spareIn s P = chainFrom s (cellsFrom P) (numberAt s 8 2) (numberAt s 6 2)
 -- what bytes of P pages say
 unfoldable pub readFor : List ℕ → ℕ → Model
 readFor s P = record {
-  plain = record { pages = P; cells = numberAt s 4 2; counts = take (numberAt s 12 4) (concat (tabulate P (pageIn s P))) };
+  plain = record { pages = P; cells = cellsOf s; counts = take (hoursOf s) (concat (tabulate P (pageIn s P))) };
   chains = tabulate P (chainIn s P);
   spare = spareIn s P;
 }
 
 unfoldable pub read : List ℕ → Model
-read s = readFor s (numberAt s 2 2)
+read s = readFor s (pagesOf s)
+
+-- the list that they say
+abbrev pub listIn : List ℕ → List ℕ
+listIn s = read s .plain .counts

@@ -9,6 +9,7 @@ use Rattle.lists.specs.Lists.{tabulate, concat, sum, every, same, one, occurren
 use Rattle.store.specs.PageCode.{cells}
 use Rattle.store.specs.Plain.{page}
 use Rattle.store.specs.Layout.{Model, bytesOf}
+use Rattle.store.specs.Limits.{Limits, limitTests, maxTotal}
 use Rattle.store.specs.Reading.{read}
 
 -- every cell that is on a chain, chain by chain
@@ -28,12 +29,9 @@ within C (c ∷ cs) = (leb 1 c && leb c C) && within C cs
 -- ceil(R(64, s) / 240) cells', 'N ≤ 64P, the total fits, and each cell is on exactly one chain'
 unfoldable pub tests : Model → List Bool
 tests m =
-    leb 1 (m .plain .pages)
-    ∷ leb (m .plain .pages) 1024
-    ∷ leb 1 (m .plain .cells)
-    ∷ leb (m .plain .cells) 1800
-    ∷ leb (length (m .plain .counts)) (64 * m .plain .pages)
-    ∷ leb (sum (m .plain .counts)) 4294967295
+    limitTests (m .plain .pages) (m .plain .cells)
+    ++ leb (length (m .plain .counts)) (64 * m .plain .pages)
+    ∷ leb (sum (m .plain .counts)) maxTotal
     ∷ eqb (length (m .chains)) (m .plain .pages)
     ∷ same (tabulate (m .plain .pages) (λ p. length (getD (m .chains) p [])))
     (tabulate (m .plain .pages) (λ p. cells (sum (page (m .plain .counts) p))))
@@ -47,12 +45,9 @@ fine m = every (tests m)
 
 -- the same as facts
 pub record Good (m : Model) : Type 0 where
-  pub pages-low : 1 ≤ m .plain .pages
-  pub pages-high : m .plain .pages ≤ 1024
-  pub cells-low : 1 ≤ m .plain .cells
-  pub cells-high : m .plain .cells ≤ 1800
+  pub limits : Limits (m .plain .pages) (m .plain .cells)
   pub hours : length (m .plain .counts) ≤ 64 * m .plain .pages
-  pub total : sum (m .plain .counts) ≤ 4294967295
+  pub total : sum (m .plain .counts) ≤ maxTotal
   pub rows : length (m .chains) ≡ m .plain .pages
   -- each page has the cells that its sum needs
   pub lengths : (p : ℕ) → p < m .plain .pages → length (getD (m .chains) p []) ≡ cells (sum (page (m .plain .counts) p))

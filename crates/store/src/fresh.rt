@@ -4,32 +4,15 @@ use crate::header::Header;
 use crate::header::cell_at;
 use crate::header::cells_from;
 use crate::header::put_header;
+use crate::limits::fits;
 use crate::put::put_two;
 ghost use mathlib.Core.Path.{_≡_};
 ghost use Prim.Native.Nat.{_+_, _-_, _*_, _≤_, _<_};
 ghost use lib.ListN.{length, replicate};
 ghost use Rattle.store.specs.Heads.{chained};
-ghost use Rattle.store.specs.Call.{Started, freshFits};
+ghost use Rattle.store.specs.Limits.{maxCells};
+ghost use Rattle.store.specs.Call.{Started};
 ghost use Rattle.store.specs.Answers.{told};
-
-// Whether so many pages and cells are within the limits, and the buffer has their length.
-fn fits(s: &[u8], pages: usize, cells: usize) -> bool
-    ensures { λ r. ⌜ r ≡ freshFits (now (s .entry)) pages cells ⌝ }
-{
-    if pages < 1 {
-        return false;
-    }
-    if Header::MAX_PAGES < pages {
-        return false;
-    }
-    if cells < 1 {
-        return false;
-    }
-    if Header::MAX_CELLS < cells {
-        return false;
-    }
-    s.len() == Header::SIZE + Header::ENTRY * pages + Header::CELL * cells
-}
 
 // Makes every byte 0.
 fn clear(s: &mut [u8])
@@ -44,7 +27,7 @@ fn clear(s: &mut [u8])
 
 // Links each cell to the next one; the last keeps its link.
 fn chain_cells(s: &mut [u8], base: usize, cells: usize)
-    requires { ⌜ (base < 65536) × (1 ≤ cells) × (cells ≤ 1800) × (length (now s) ≡ base + 32 * cells) ⌝ }
+    requires { ⌜ (base < 65536) × (1 ≤ cells) × (cells ≤ maxCells) × (length (now s) ≡ base + 32 * cells) ⌝ }
     ensures { λ _. ⌜ now (s .exit) ≡ chained (now (s .entry)) base (cells - 1) ⌝ }
 {
     let mut c = 1;

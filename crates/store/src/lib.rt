@@ -4,6 +4,7 @@ pub mod answer;
 pub mod fill;
 pub mod fresh;
 pub mod header;
+pub mod limits;
 pub mod links;
 pub mod page_bytes;
 mod put;

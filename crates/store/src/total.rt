@@ -5,14 +5,14 @@ ghost use mathlib.Core.Path.{_≡_};
 ghost use Prim.Native.Nat.{_≤_};
 ghost use lib.ListN.{length};
 ghost use Rattle.lists.specs.Lists.{sum, tabulate};
-ghost use Rattle.bits.specs.Numbers.{numberAt};
 ghost use Rattle.store.specs.Layout.{cellsFrom};
-ghost use Rattle.store.specs.Reading.{read, sumIn};
+ghost use Rattle.store.specs.Limits.{maxPages};
+ghost use Rattle.store.specs.Reading.{listIn, pagesOf, sumIn};
 ghost use Rattle.store.specs.Sound.{sound};
 
 // The sums of so many pages, of any bytes that have their entries. It fits: 1,024 pages of less than 2^32.
 pub fn page_sums(s: &[u8], pages: usize) -> u64
-    requires { ⌜ (pages ≤ 1024) × (cellsFrom pages ≤ length (now s)) ⌝ }
+    requires { ⌜ (pages ≤ maxPages) × (cellsFrom pages ≤ length (now s)) ⌝ }
     ensures { λ r. ⌜ r ≡ sum (tabulate pages (sumIn (now (s .entry)))) ⌝ }
 {
     let mut all = 0;
@@ -26,8 +26,8 @@ pub fn page_sums(s: &[u8], pages: usize) -> u64
 
 // The total of a sound store of so many pages: the sum of its list.
 pub fn total(s: &[u8], pages: usize) -> u64
-    requires { ⌜ (sound (now s) ≡ true) × (pages ≡ numberAt (now s) 2 2) ⌝ }
-    ensures { λ r. ⌜ r ≡ sum (read (now (s .entry)) .plain .counts) ⌝ }
+    requires { ⌜ (sound (now s) ≡ true) × (pages ≡ pagesOf (now s)) ⌝ }
+    ensures { λ r. ⌜ r ≡ sum (listIn (now (s .entry))) ⌝ }
 {
     page_sums(s, pages)
 }

@@ -1,6 +1,6 @@
 -- `live_query::query::count_in` meets its contract. Assumes nothing.
 use native.Mathlib.Omega.{arith}
-use Rattle.store.specs.Reading.{read}
+use Rattle.store.specs.Reading.{listIn}
 use Rattle.store.proofs.SoundFacts.{facts}
 use Rattle.store.proofs.HourLaws.{page-hour}
 use Rattle.live_query.proofs.query.count_in.Statement.{statement}
@@ -14,7 +14,7 @@ walk-page-requires c κs =
 returns : tie.Need-returns
 returns c =
     let a = c .before .before .args in
-    omega (arith, c .walk-page .ensures, page-hour (read (a .s .now) .plain .counts) (a .i))
+    omega (arith, c .walk-page .ensures, page-hour (listIn (a .s .now)) (a .i))
 
 pub count-in-spec : {M : Type 1} → statement M
 count-in-spec = tie.close (tie.spec walk-page-requires returns)

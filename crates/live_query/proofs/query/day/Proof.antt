@@ -3,7 +3,7 @@ use mathlib.Core.Path.{ap, ap₂, _∙_}
 use Prim.Native.Nat.{_-_}
 use native.Mathlib.Omega.{arith}
 use Rattle.lists.specs.Lists.{reading}
-use Rattle.store.specs.Reading.{read}
+use Rattle.store.specs.Reading.{listIn}
 use Rattle.store.proofs.SoundFacts.{facts}
 use Rattle.live_query.proofs.Questions.{day-7, day-is, reading-mono}
 use borrow.Author.Needs.{needs}
@@ -36,7 +36,7 @@ reading-in-requires-2 c κs = search needs
 
 sub-t8 : tie.Need-sub-t8
 sub-t8 c =
-    let xs = read (c .before .before .before .before .before .before .before .before .args .s .now) .plain .counts in
+    let xs = listIn (c .before .before .before .before .before .before .before .before .args .s .now) in
     omega (
       arith,
       c .before .reading-in .ensures,
@@ -48,7 +48,7 @@ sub-t8 c =
 returns-2 : tie.Need-returns-2
 returns-2 c =
     let b = c .before .before .before .before .before .before .before .before in
-    let xs = read (b .args .s .now) .plain .counts in
+    let xs = listIn (b .args .s .now) in
     day-is (b .pre) (c .before .before .before .before .before .before .of .ensures) (b .args .d) _
     (omega (arith, c .before .before .before .before .day-start2 .ensures, c .before .before .if1 .left))
     (ap₂ _-_

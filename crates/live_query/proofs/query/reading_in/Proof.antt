@@ -1,7 +1,7 @@
 -- `live_query::query::reading_in` meets its contract. Assumes nothing.
 use mathlib.Core.Path.{_∙_}
 use native.Mathlib.Omega.{arith}
-use Rattle.store.specs.Reading.{read}
+use Rattle.store.specs.Reading.{listIn}
 use Rattle.store.proofs.SoundFacts.{facts}
 use Rattle.pages.proofs.Prefix.{before-fits}
 use Rattle.live_query.proofs.PageSums.{reading-first, reading-inside}
@@ -18,7 +18,7 @@ before-requires c κs =
 returns : tie.Need-returns
 returns c =
     let a = c .before .before .before .args in
-    c .before .before2 .ensures ∙ reading-first (read (a .s .now) .plain .counts) (a .i) (omega arith)
+    c .before .before2 .ensures ∙ reading-first (listIn (a .s .now)) (a .i) (omega arith)
 
 sub-walk-page : tie.Need-sub-walk-page
 sub-walk-page c = search needs
@@ -37,7 +37,7 @@ returns-2 : tie.Need-returns-2
 returns-2 c =
     let a = c .before .before .before .before .args in
     let l : 1 ≤ a .i % 64 = omega arith in
-    reading-inside (read (a .s .now) .plain .counts) (a .i) (c .walk-page .result) l
+    reading-inside (listIn (a .s .now)) (a .i) (c .walk-page .result) l
     (omega (arith, c .walk-page .ensures, c .before .before .before2 .ensures))
 
 pub reading-in-spec : {M : Type 1} → statement M

@@ -1,18 +1,17 @@
 -- `live_query::search::page_of` meets its contract. The loop's invariant: the pages before do not reach the figure. Assumes nothing.
 use Prim.Native.Nat.{_+_, _-_, _≤_, _<_}
 use native.Mathlib.Omega.{arith}
-use Rattle.bits.specs.Numbers.{numberAt}
-use Rattle.store.specs.Reading.{read}
+use Rattle.store.specs.Reading.{listIn, pagesOf}
 use Rattle.store.proofs.SoundFacts.{facts}
 use Rattle.live_query.proofs.SpotLaws.{Going, goes, more, small, starts, stops}
 use Rattle.live_query.proofs.search.page_of.Statement.{statement}
 use Rattle.live_query.proofs.search.page_of.Tie as tie
 
 abbrev Inv-loop : tie.InvT-loop
-Inv-loop s q page₀ before₀ all₀ page before all = Going (read s .plain .counts) (numberAt s 2 2) q page before all
+Inv-loop s q page₀ before₀ all₀ page before all = Going (listIn s) (pagesOf s) q page before all
 
 abbrev μ-loop : tie.MeasureT-loop
-μ-loop s q page₀ before₀ all₀ page before all = numberAt s 2 2 - page
+μ-loop s q page₀ before₀ all₀ page before all = pagesOf s - page
 
 entry-at-requires : tie.Need-entry-at-requires Inv-loop μ-loop
 entry-at-requires c κs = omega arith

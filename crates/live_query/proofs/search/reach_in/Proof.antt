@@ -4,7 +4,7 @@ use Prim.Native.Nat.{ℕ}
 use native.Mathlib.Omega.{arith}
 use Rattle.lists.specs.Lists.{reached}
 use Rattle.lists.proofs.Reach.{reached-zero}
-use Rattle.store.specs.Reading.{read}
+use Rattle.store.specs.Reading.{listIn}
 use Rattle.store.proofs.SoundFacts.{facts}
 use Rattle.live_query.proofs.SpotLaws.{spot-reached}
 use borrow.Author.Needs.{needs}
@@ -13,7 +13,7 @@ use Rattle.live_query.proofs.search.reach_in.Tie as tie
 
 returns : tie.Need-returns
 returns c =
-    let xs = read (c .before .before .args .s .now) .plain .counts in
+    let xs = listIn (c .before .before .args .s .now) in
     sym (reached-zero xs) ∙ ap (λ (z : ℕ). reached z xs) (sym (c .if1 .taken))
 
 page-of-requires : tie.Need-page-of-requires
@@ -33,7 +33,7 @@ search-page-requires c κs =
 returns-2 : tie.Need-returns-2
 returns-2 c =
     let a = c .before .before .before .before .before .args in
-    spot-reached (read (a .s .now) .plain .counts) _ (a .q) _ _ _ (c .before .before .page-of .ensures) (c .search-page .ensures)
+    spot-reached (listIn (a .s .now)) _ (a .q) _ _ _ (c .before .before .page-of .ensures) (c .search-page .ensures)
 
 pub reach-in-spec : {M : Type 1} → statement M
 reach-in-spec =

@@ -2,7 +2,7 @@
 -- Assumes nothing.
 use native.Mathlib.Omega.{arith}
 use Rattle.store.specs.Plain.{page}
-use Rattle.store.specs.Reading.{read}
+use Rattle.store.specs.Reading.{listIn}
 use Rattle.store.proofs.Holds.{page-length}
 use Rattle.pages.proofs.Coding.{code-exact, decoded, lies}
 use Rattle.pages.proofs.SoundPage.{as-said, sum-same, sum-small}
@@ -24,7 +24,7 @@ decode-requires c κs =
     let a = c .before .before .before .before .args in
     let o = c .before .before .before .before .pre in
     let g = c .before .before .gather-at in
-    let xs = read (a .s .now) .plain .counts in (
+    let xs = listIn (a .s .now) in (
       lies (g .result) (a .sum) (omega arith) (sum-small o),
       code-exact (g .result) (page xs (a .p)) _ (a .sum) (page-length xs (a .p)) (sum-same o) (g .ensures .code-is),
       sum-small o,
@@ -37,7 +37,7 @@ returns c =
     let o = c .before .before .before .before .before .before .pre in
     let g = c .before .before .before .before .gather-at in
     let d = c .before .decode in
-    let xs = read (a .s .now) .plain .counts in
+    let xs = listIn (a .s .now) in
     decoded (g .result) (page xs (a .p)) _ (a .sum) (page-length xs (a .p)) (sum-same o) (g .ensures .code-is) (d .last .1 .1 .1 .1 .0) (d .ensures)
 
 pub counts-at-spec : {M : Type 1} → statement M

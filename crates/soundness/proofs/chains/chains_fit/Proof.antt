@@ -54,7 +54,7 @@ known : (fine : tie.Else1 Inv-loop μ-loop Inv-pages μ-pages)
     × (fine .before .before .link .result ≤ header-of fine .before .of .result .cells)
     × (header-of fine .cells-from .result ≡ cellsFrom (header-of fine .before .of .result .pages))
 known fine =
-    let w = cell-range _ (fine .before .before .link .result) (fine .before .is-cell .ensures) (fine .if1 .left) in
+    let w = cell-range _ (fine .before .before .link .result) (fine .before .one-to .ensures) (fine .if1 .left) in
     (held (header-of fine), w .0, w .1, header-of fine .cells-from .ensures)
 
 of-requires : tie.Need-of-requires Inv-loop μ-loop Inv-pages μ-pages
@@ -111,8 +111,8 @@ loop-holds c =
 link-requires : tie.Need-link-requires Inv-loop μ-loop Inv-pages μ-pages
 link-requires c κs = search needs
 
-is-cell-requires : tie.Need-is-cell-requires Inv-loop μ-loop Inv-pages μ-pages
-is-cell-requires c κs = search needs
+one-to-requires : tie.Need-one-to-requires Inv-loop μ-loop Inv-pages μ-pages
+one-to-requires c κs = search needs
 
 array-read-if2 : tie.Need-array-read-if2 Inv-loop μ-loop Inv-pages μ-pages
 array-read-if2 c = omega (arith, known c)
@@ -153,7 +153,7 @@ loop-again c =
     let r = c .before .before .before .cell-at in
     let new = c .before .before .before .before in
     let fine = new .before in
-    let t = fine .before .is-cell in
+    let t = fine .before .one-to in
     let d = fine .before .before .link in
     let at-loop = fine .before .before .before .before in
     let l = at-loop .loop in
@@ -297,7 +297,7 @@ chains-fit-spec =
     add-at
     loop-holds
     link-requires
-    is-cell-requires
+    one-to-requires
     array-read-if2
     array-write-marks
     cell-at-requires

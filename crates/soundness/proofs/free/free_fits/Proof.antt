@@ -21,7 +21,7 @@ abbrev μ-loop : tie.MeasureT-loop
 cell-of : (fine : tie.Else1 Inv-loop μ-loop)
     → (1 ≤ fine .before .before .link2 .result)
     × (fine .before .before .link2 .result ≤ fine .before .before .before .before .before .before .before .args .cells)
-cell-of fine = cell-range _ (fine .before .before .link2 .result) (fine .before .is-cell .ensures) (fine .if1 .left)
+cell-of fine = cell-range _ (fine .before .before .link2 .result) (fine .before .one-to .ensures) (fine .if1 .left)
 
 link-requires : tie.Need-link-requires Inv-loop μ-loop
 link-requires c κs = search needs
@@ -34,12 +34,12 @@ loop-holds c =
 link-requires-2 : tie.Need-link-requires-2 Inv-loop μ-loop
 link-requires-2 c κs = search needs
 
-is-cell-requires : tie.Need-is-cell-requires Inv-loop μ-loop
-is-cell-requires c κs = search needs
+one-to-requires : tie.Need-one-to-requires Inv-loop μ-loop
+one-to-requires c κs = search needs
 
 returns : tie.Need-returns Inv-loop μ-loop
 returns c =
-    let t = c .before .is-cell in
+    let t = c .before .one-to in
     let k = c .before .before .link2 in
     let l = c .before .before .before .before .loop in
     free-broken _ _ _ (l .j) (l .marks) (k .ensures) (omega arith)
@@ -90,7 +90,7 @@ loop-less c = search needs
 loop-again : tie.Need-loop-again Inv-loop μ-loop
 loop-again c =
     let fine = c .before .before .before .before in
-    let t = fine .before .is-cell in
+    let t = fine .before .one-to in
     let k = fine .before .before .link2 in
     let l = fine .before .before .before .before .loop in
     let w = cell-of fine in
@@ -135,7 +135,7 @@ free-fits-spec =
     link-requires
     loop-holds
     link-requires-2
-    is-cell-requires
+    one-to-requires
     returns
     array-read-if2
     returns-2

@@ -1,19 +1,20 @@
 -- `soundness::head::head_fits` meets its contract: each return is one of the header's tests. Assumes nothing.
-use mathlib.Core.Path.{sym, ap, _∙_}
+use mathlib.Core.Path.{sym, ap, ap₂, subst₂, _∙_}
 use Prim.Native.Nat.{ℕ, _+_, _*_}
 use native.Mathlib.Omega.{arith}
 use lib.ListN.{length}
 use lib.Dec.{leb}
-use borrow.Author.Tests.{lt-leb, ne-eqb}
+use borrow.Author.Tests.{lt-leb, ne-eqb, not-false, not-true}
 use Rattle.lists.specs.Lists.{sum, tabulate}
 use Rattle.bits.specs.Numbers.{numberAt}
-use Rattle.store.specs.Reading.{sumIn}
+use Rattle.store.specs.Reading.{hoursOf, pagesOf, sumIn}
+use Rattle.store.specs.Limits.{Fitting, fits}
+use Rattle.store.proofs.LimitLaws.{fitting}
 use Rattle.store.specs.Checked.{headTests}
-use Rattle.soundness.proofs.HeadTest.{head-fails, head-last, pair-test}
+use Rattle.soundness.proofs.HeadTest.{head-fails, head-last, pair-test, unfit}
 use borrow.Author.Needs.{needs}
 use Rattle.soundness.proofs.head.head_fits.Statement.{statement}
 use Rattle.soundness.proofs.head.head_fits.Tie as tie
-use Rattle.store.specs.Layout.{size}
 
 returns : tie.Need-returns
 unfolding headTests
@@ -44,94 +45,50 @@ returns-3 c =
 of-requires : tie.Need-of-requires
 of-requires c κs = search needs
 
+fits-requires : tie.Need-fits-requires
+fits-requires c κs = search needs
+
 returns-4 : tie.Need-returns-4
-unfolding headTests
 returns-4 c =
-    let read = c .before in
+    let read = c .before .before in
     let s = read .before .before .before .before .before .before .before .args .s .now in
     let h = read .of .ensures in
-    head-fails s 3 (lt-leb 1 (numberAt s 2 2) (omega (arith, h .pages-is)))
+    unfit s (sym (ap₂ (fits s) (h .pages-is) (h .cells-is)) ∙ sym (c .before .fits2 .ensures) ∙ not-true _ (c .if4 .taken))
+
+mul-if5 : tie.Need-mul-if5
+mul-if5 c = search needs
 
 returns-5 : tie.Need-returns-5
 unfolding headTests
 returns-5 c =
-    let read = c .before .before in
-    let s = read .before .before .before .before .before .before .before .args .s .now in
-    let h = read .of .ensures in
-    head-fails s 4 (lt-leb (numberAt s 2 2) 1024 (omega (arith, h .pages-is)))
-
-returns-6 : tie.Need-returns-6
-unfolding headTests
-returns-6 c =
-    let read = c .before .before .before in
-    let s = read .before .before .before .before .before .before .before .args .s .now in
-    let h = read .of .ensures in
-    head-fails s 5 (lt-leb 1 (numberAt s 4 2) (omega (arith, h .cells-is)))
-
-returns-7 : tie.Need-returns-7
-unfolding headTests
-returns-7 c =
-    let read = c .before .before .before .before in
-    let s = read .before .before .before .before .before .before .before .args .s .now in
-    let h = read .of .ensures in
-    head-fails s 6 (lt-leb (numberAt s 4 2) 1800 (omega (arith, h .cells-is)))
-
-mul-if8 : tie.Need-mul-if8
-mul-if8 c = search needs
-
-add-if8 : tie.Need-add-if8
-add-if8 c = search needs
-
-mul-if8-2 : tie.Need-mul-if8-2
-mul-if8-2 c = search needs
-
-add-if8-2 : tie.Need-add-if8-2
-add-if8-2 c = search needs
-
-returns-8 : tie.Need-returns-8
-unfolding headTests
-returns-8 c =
     let read = c .before .before .before .before .before in
     let s = read .before .before .before .before .before .before .before .args .s .now in
     let h = read .of .ensures in
-    let size = size (numberAt s 2 2) (numberAt s 4 2) in
-    head-fails s 7 (ne-eqb (length s) size (λ e. c .if8 .taken (omega (arith, e, h .pages-is, h .cells-is))))
-
-mul-if9 : tie.Need-mul-if9
-mul-if9 c = search needs
-
-returns-9 : tie.Need-returns-9
-unfolding headTests
-returns-9 c =
-    let read = c .before .before .before .before .before .before .before in
-    let s = read .before .before .before .before .before .before .before .args .s .now in
-    let h = read .of .ensures in
-    head-fails s 8 (lt-leb (numberAt s 12 4) (64 * numberAt s 2 2) (omega (arith, h .pages-is, h .hours-is)))
+    head-fails s 8 (lt-leb (hoursOf s) (64 * pagesOf s) (omega (arith, h .pages-is, h .hours-is)))
 
 page-sums-requires : tie.Need-page-sums-requires
-page-sums-requires c κs = search needs
+page-sums-requires c κs =
+    let t₄ = c .before .before .before in
+    let s = t₄ .before .before .before .before .before .before .before .before .before .args .s .now in
+    let w = fitting s _ _ (sym (t₄ .before .fits2 .ensures) ∙ not-false _ (t₄ .if4 .left)) in
+    (w .limits .pages-high, omega (arith, w .long))
 
-returns-10 : tie.Need-returns-10
-returns-10 c =
-    let t₉ = c .before in
-    let t₈ = t₉ .before .before in
-    let t₆ = t₈ .before .before in
-    let t₄ = t₆ .before .before in
-    let h = t₄ .before .of .ensures in
-    let t₃ = t₄ .before .before in
+returns-6 : tie.Need-returns-6
+returns-6 c =
+    let t₅ = c .before in
+    let t₄ = t₅ .before .before .before in
+    let h = t₄ .before .before .of .ensures in
+    let t₃ = t₄ .before .before .before in
     let t₂ = t₃ .before .before in
     let s = t₂ .before .before .before .before .args .s .now in
+    let f = fitting s _ _ (sym (t₄ .before .fits2 .ensures) ∙ not-false _ (t₄ .if4 .left)) in
     ap (λ (z : ℕ). leb z 4294967295) (c .page-sums .ensures ∙ ap (λ (n : ℕ). sum (tabulate n (sumIn s))) (h .pages-is))
     ∙ head-last s record {
       long = omega (arith, t₂ .before .before .if1 .left);
       edition = sym (t₂ .before .get2 .ensures .is) ∙ t₂ .if2 .left;
       gap = sym (t₃ .before .get22 .ensures .is) ∙ t₃ .if3 .left;
-      pages-low = omega (arith, h .pages-is, t₄ .if4 .left);
-      pages-high = omega (arith, h .pages-is, t₆ .before .if5 .left);
-      cells-low = omega (arith, h .cells-is, t₆ .if6 .left);
-      cells-high = omega (arith, h .cells-is, t₈ .before .if7 .left);
-      size = omega (arith, h .pages-is, h .cells-is, t₈ .if8 .left);
-      hours = omega (arith, h .hours-is, h .pages-is, t₉ .if9 .left);
+      fitting = subst₂ (Fitting s) (h .pages-is) (h .cells-is) f;
+      hours = omega (arith, h .hours-is, h .pages-is, t₅ .if5 .left);
     }
 
 pub head-fits-spec : {M : Type 1} → statement M
@@ -144,16 +101,9 @@ head-fits-spec =
     get2-requires-2
     returns-3
     of-requires
+    fits-requires
     returns-4
+    mul-if5
     returns-5
-    returns-6
-    returns-7
-    mul-if8
-    add-if8
-    mul-if8-2
-    add-if8-2
-    returns-8
-    mul-if9
-    returns-9
     page-sums-requires
-    returns-10)
+    returns-6)

@@ -3,8 +3,9 @@ use mathlib.Core.Path.{_≡_, sym, _∙_}
 use mathlib.Core.Bool.{true}
 use native.Mathlib.Omega.{arith}
 use borrow.Author.Tests.{not-true, not-false}
-use Rattle.store.specs.Call.{freshFits}
-use Rattle.store.proofs.FreshBytes.{fitting, started, started-9}
+use Rattle.store.specs.Limits.{fits}
+use Rattle.store.proofs.FreshBytes.{started, started-9}
+use Rattle.store.proofs.LimitLaws.{fitting}
 use borrow.Author.Needs.{needs}
 use Rattle.store.proofs.fresh.fresh.Statement.{statement}
 use Rattle.store.proofs.fresh.fresh.Tie as tie
@@ -27,15 +28,15 @@ fresh-requires : tie.Need-fresh-requires
 fresh-requires c κs =
     let d = c .before .before .before .before .before in
     let a = d .before .before .before .before .args in
-    let e : freshFits (a .s .now) (a .pages) (a .cells) ≡ true = sym (d .before .fits2 .ensures) ∙ not-false _ (d .if1 .left) in
+    let e : fits (a .s .now) (a .pages) (a .cells) ≡ true = sym (d .before .fits2 .ensures) ∙ not-false _ (d .if1 .left) in
     let w = fitting (a .s .now) (a .pages) (a .cells) e in
-    w .cells-low
+    w .limits .cells-low
 
 put-header-requires : tie.Need-put-header-requires
 put-header-requires c κs =
     let d = c .before .before .before .before .before .before in
     let a = d .before .before .before .before .args in
-    let e : freshFits (a .s .now) (a .pages) (a .cells) ≡ true = sym (d .before .fits2 .ensures) ∙ not-false _ (d .if1 .left) in
+    let e : fits (a .s .now) (a .pages) (a .cells) ≡ true = sym (d .before .fits2 .ensures) ∙ not-false _ (d .if1 .left) in
     let w = fitting (a .s .now) (a .pages) (a .cells) e in
     omega (arith, w .long)
 
@@ -43,18 +44,18 @@ cells-from-requires : tie.Need-cells-from-requires
 cells-from-requires c κs =
     let d = c .before .before .before .before .before .before .before .before .before .before in
     let a = d .before .before .before .before .args in
-    let e : freshFits (a .s .now) (a .pages) (a .cells) ≡ true = sym (d .before .fits2 .ensures) ∙ not-false _ (d .if1 .left) in
+    let e : fits (a .s .now) (a .pages) (a .cells) ≡ true = sym (d .before .fits2 .ensures) ∙ not-false _ (d .if1 .left) in
     let w = fitting (a .s .now) (a .pages) (a .cells) e in
-    omega (arith, w .pages-high)
+    omega (arith, w .limits .pages-high)
 
 chain-cells-requires : tie.Need-chain-cells-requires
 chain-cells-requires c κs =
     let d = c .before .before .before .before .before .before .before .before .before .before .before in
     let a = d .before .before .before .before .args in
-    let e : freshFits (a .s .now) (a .pages) (a .cells) ≡ true = sym (d .before .fits2 .ensures) ∙ not-false _ (d .if1 .left) in
+    let e : fits (a .s .now) (a .pages) (a .cells) ≡ true = sym (d .before .fits2 .ensures) ∙ not-false _ (d .if1 .left) in
     let w = fitting (a .s .now) (a .pages) (a .cells) e in
     let b = c .cells-from .ensures in
-    (omega (arith, b, w .pages-high), w .cells-low, w .cells-high, omega (arith, b, w .long))
+    (omega (arith, b, w .limits .pages-high), w .limits .cells-low, w .limits .cells-high, omega (arith, b, w .long))
 
 same-length-2 : tie.Need-same-length-2
 same-length-2 c = search needs
@@ -63,7 +64,7 @@ returns-2 : tie.Need-returns-2
 returns-2 c =
     let d = c .before .before .before .before .before .before .before .before .before .before .before .before .before .before in
     let a = d .before .before .before .before .args in
-    let e : freshFits (a .s .now) (a .pages) (a .cells) ≡ true = sym (d .before .fits2 .ensures) ∙ not-false _ (d .if1 .left) in
+    let e : fits (a .s .now) (a .pages) (a .cells) ≡ true = sym (d .before .fits2 .ensures) ∙ not-false _ (d .if1 .left) in
     let k = c .before .before .before .before .before .before .before .before .fresh .ensures in
     let h = c .before .before .before .before .before .before .before .put-header .ensures in
     let b = c .before .before .before .cells-from .ensures in
