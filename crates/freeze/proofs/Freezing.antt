@@ -13,7 +13,7 @@ use Rattle.bits.specs.Numbers.{numberAt}
 use Rattle.store.specs.Plain.{page}
 use Rattle.store.specs.Reading.{read}
 use Rattle.store.specs.Sound.{sound}
-use Rattle.store.specs.Heads.{Heads}
+use Rattle.store.specs.Code.Heads.{Heads}
 use Rattle.store.specs.declared.header.Header.{Header}
 use Rattle.store.proofs.Holds.{page-length}
 use Rattle.store.proofs.ReadBack.{counts-back}

@@ -9,7 +9,7 @@ ghost use Rattle.hourlog_c.specs.Export.{Answers};
 pub extern "C" fn hourlog_fresh(store: &mut [u8], pages: u32, cells: u32) -> u64
     ensures { λ r. ⌜ Answers (Fresh (now (store .entry)) pages cells) r (now (store .exit) ∷ []) ⌝ }
 {
-    of_store(store::fresh::fresh(store, pages, cells))
+    of_store(fresh::fresh(store, pages, cells))
 }
 
 #[no_mangle]

@@ -1,13 +1,13 @@
 // The change of one hour's count.
 use bits::numbers::get4;
+use chains::rewrite::rewrite;
 use pages::code::code_of;
 use pages::counts::counts_at;
 use store::answer::Answer;
+use store::cells::cells_of;
 use store::header::Header;
 use store::header::cells_from;
 use store::header::entry_at;
-use store::page_bytes::cells_of;
-use store::rewrite::rewrite;
 use store::total::total;
 ghost use mathlib.Core.Bool.{true};
 ghost use mathlib.Core.Path.{_≡_};
@@ -16,7 +16,7 @@ ghost use Rattle.store.specs.Reading.{hoursOf};
 ghost use Rattle.store.specs.Plain.{Append, Set};
 ghost use Rattle.store.specs.Sound.{sound};
 ghost use Rattle.store.specs.Call.{Called};
-ghost use Rattle.store.specs.Hours.{Asked, Changes};
+ghost use Rattle.store.specs.Code.Hours.{Asked, Changes};
 ghost use Rattle.store.specs.Answers.{told};
 
 // Makes the count of hour i v in a sound store, whose number of hours becomes the one given. The page's cells are worked out once for the

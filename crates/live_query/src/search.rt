@@ -4,7 +4,7 @@ use bits::numbers::get4;
 use store::answer::Answer;
 use store::header::Header;
 use store::header::entry_at;
-use store::links::link;
+use store::link::link;
 use store::total::total;
 ghost use mathlib.Core.Bool.{true};
 ghost use mathlib.Core.Path.{_≡_};

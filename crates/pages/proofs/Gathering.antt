@@ -11,9 +11,9 @@ use Rattle.lists.proofs.Parts.{sets-splice, splice-more, splice-nil}
 use Rattle.bits.specs.Numbers.{numberAt}
 use Rattle.store.specs.Layout.{cellAt}
 use Rattle.store.specs.Reading.{chainFrom, codeIn}
-use Rattle.store.specs.Links.{Steps}
-use Rattle.store.proofs.LinkSteps.{step-of}
-use Rattle.pages.specs.Gathered.{codeFrom}
+use Rattle.store.specs.Code.Links.{Steps}
+use Rattle.chains.proofs.LinkSteps.{step-of}
+use Rattle.pages.specs.Code.Gathered.{codeFrom}
 
 code-short : (k : ℕ) (s : List ℕ) (base a : ℕ) → length (codeFrom s base a k) ≤ 30 * k
 unfolding codeIn chainFrom

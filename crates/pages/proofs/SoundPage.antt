@@ -11,15 +11,15 @@ use Rattle.store.specs.Plain.{page}
 use Rattle.store.specs.Layout.{Model, cellsFrom, entryAt}
 use Rattle.store.specs.Reading.{chainIn, codeIn, pagesOf, read, sumIn}
 use Rattle.store.specs.Sound.{Good}
-use Rattle.store.specs.Links.{Steps}
-use Rattle.store.specs.Hours.{OfPage}
+use Rattle.store.specs.Code.Links.{Steps}
+use Rattle.store.specs.Code.Hours.{OfPage}
 use Rattle.store.proofs.Joining.{chain-left, walk-steps}
 use Rattle.store.proofs.PageChange.{page-and-spare}
 use Rattle.store.proofs.PageCodeLaws.{cells-most, length-page}
 use Rattle.store.proofs.ReadBack.{code-in}
 use Rattle.store.proofs.Spread.{spread-of}
 use Rattle.store.proofs.SoundFacts.{Facts, facts}
-use Rattle.pages.specs.Gathered.{Gathered, codeFrom}
+use Rattle.pages.specs.Code.Gathered.{Gathered, codeFrom}
 
 module _ {s : List ℕ} {base p t k : ℕ} (o : OfPage s base p t k) where
   abbrev m : Model

@@ -7,7 +7,7 @@ ghost use Prim.Native.Nat.{_<_};
 ghost use Rattle.store.specs.Plain.{page};
 ghost use Rattle.store.specs.Reading.{listIn, pagesOf};
 ghost use Rattle.store.specs.Sound.{sound};
-ghost use Rattle.store.specs.Hours.{OfPage};
+ghost use Rattle.store.specs.Code.Hours.{OfPage};
 
 // The counts of page p of a sound store, of the sum and cells given.
 pub fn counts_at(s: &[u8], base: usize, p: usize, sum: u64, k: usize) -> [u32; 64]

@@ -1,14 +1,14 @@
 // What a page's entry says.
+use store::cells::cells_of;
 use store::header::cells_from;
 use store::header::entry_at;
-use store::links::link;
-use store::page_bytes::cells_of;
+use store::link::link;
 ghost use mathlib.Core.Bool.{true};
 ghost use mathlib.Core.Path.{_≡_};
 ghost use Prim.Native.Nat.{_<_};
 ghost use Rattle.store.specs.Reading.{pagesOf};
 ghost use Rattle.store.specs.Sound.{sound};
-ghost use Rattle.store.specs.Hours.{OfPage};
+ghost use Rattle.store.specs.Code.Hours.{OfPage};
 
 // Where the store's cells start, a page's sum, and how many cells the page has: worked out once and handed down.
 pub struct Entry {

@@ -1,17 +1,17 @@
 // A page's code, gathered from its cells.
-use store::fill::put_block;
+use chains::block::put_block;
 use store::header::Header;
 use store::header::cell_at;
 use store::header::entry_at;
-use store::links::link;
+use store::link::link;
 ghost use mathlib.Core.Path.{_≡_};
 ghost use Prim.Native.Nat.{_*_, _≤_, _<_};
 ghost use lib.ListN.{length};
 ghost use Rattle.lists.specs.Lists.{splice};
 ghost use Rattle.store.specs.Reading.{sumIn};
-ghost use Rattle.store.specs.Links.{Steps};
-ghost use Rattle.store.specs.Hours.{OfPage};
-ghost use Rattle.pages.specs.Gathered.{Gathered, codeFrom};
+ghost use Rattle.store.specs.Code.Links.{Steps};
+ghost use Rattle.store.specs.Code.Hours.{OfPage};
+ghost use Rattle.pages.specs.Code.Gathered.{Gathered, codeFrom};
 
 // Copies the codes of the k cells from the link at address e on to the front of out, 30 bytes each.
 fn copy_chain(s: &[u8], base: usize, e: usize, k: usize, out: &mut [u8])

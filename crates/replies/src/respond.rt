@@ -1,8 +1,8 @@
 // What a command prints, and what it does to the store. The store is the first bytes of a buffer.
+use fresh::fresh;
 use session::Command;
 use session::Reply;
 use store::answer::Answer;
-use store::fresh::fresh;
 use store::header::Header;
 ghost use mathlib.Core.Bool.{_&&_};
 ghost use mathlib.Core.Path.{_≡_};

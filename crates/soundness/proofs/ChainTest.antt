@@ -13,15 +13,16 @@ use Rattle.lists.proofs.Parts.{length-part, sets-splice}
 use Rattle.bits.specs.Bits.{bits}
 use Rattle.bits.specs.Numbers.{Number, numberAt}
 use Rattle.tree.proofs.Shape.{length-counts}
-use Rattle.store.specs.Heads.{Heads}
+use Rattle.store.specs.Code.Heads.{Heads}
 use Rattle.store.specs.Layout.{cellAt, entryAt, cellsFrom}
 use Rattle.store.specs.PageCode.{cells, pageCounts}
 use Rattle.store.specs.Reading.{chainFrom, chainIn, codeIn, pageIn, sumIn}
 use Rattle.store.specs.declared.header.Header.{Header}
-use Rattle.store.specs.Checked.{and-then, checkPages, ends-well, go-on, pageTests, walkMarks}
-use Rattle.soundness.specs.Page.{pageFits}
-use Rattle.soundness.specs.Chains.{chainsFit, freeFits}
-use Rattle.soundness.proofs.CellTest.{cellTest}
+use Rattle.store.specs.Code.Checked.{and-then, checkPages, ends-well, go-on, pageTests, walkMarks}
+use Rattle.sound_page.specs.Code.Page.{pageFits}
+use Rattle.sound_free.specs.Code.Free.{freeFits}
+use Rattle.soundness.specs.Code.Chains.{chainsFit}
+use Rattle.sound_free.proofs.CellTest.{cellTest}
 
 -- a page's tests are those of its gathered code
 tests-are : (s : List ℕ) (P N p : ℕ) → every (pageTests s P N p) ≡ pageFits (codeIn s (cellsFrom P) (chainIn s P p)) (sumIn s p) p N

@@ -10,11 +10,12 @@ use Rattle.bits.specs.Numbers.{numberAt}
 use Rattle.store.specs.Reading.{cellsOf, chainFrom, codeIn, hoursOf, pagesOf}
 use Rattle.store.specs.Sound.{sound}
 use Rattle.store.specs.Limits.{maxCells}
-use Rattle.store.specs.Checked.{Walk, and-then, broken, checkPages, ends-well, headTests, walkMarks, whole}
+use Rattle.store.specs.Code.Checked.{Walk, and-then, broken, checkPages, ends-well, headTests, walkMarks, whole}
 use Rattle.store.proofs.Verdict.{chainsWalk, checked, endTests, verdict}
-use Rattle.soundness.specs.Chains.{allMarked, chainsFit, freeFits, freeFrom}
+use Rattle.sound_free.specs.Code.Free.{allMarked, freeFits, freeFrom}
+use Rattle.soundness.specs.Code.Chains.{chainsFit}
 use Rattle.soundness.proofs.Counting.{number-all}
-use Rattle.soundness.proofs.HeadTest.{headed}
+use Rattle.sound_head.proofs.HeadTest.{headed}
 use Rattle.store.specs.Layout.{cellsFrom}
 
 -- of three tests the second follows from the first

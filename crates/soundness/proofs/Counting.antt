@@ -19,10 +19,10 @@ use Rattle.store.specs.Layout.{cellAt, cellsFrom, entryAt}
 use Rattle.store.specs.PageCode.{cells}
 use Rattle.store.specs.Reading.{sumIn}
 use Rattle.store.specs.Limits.{maxCells}
-use Rattle.store.specs.Checked.{Walk, checkPages, go-on, pageTests, walkMarks, whole}
+use Rattle.store.specs.Code.Checked.{Walk, checkPages, go-on, pageTests, walkMarks, whole}
 use Rattle.store.proofs.CheckChain.{goes-on, goes-then, whole-is}
-use Rattle.soundness.specs.Chains.{allMarked}
-use Rattle.soundness.proofs.CellTest.{cellTest}
+use Rattle.sound_free.specs.Code.Free.{allMarked}
+use Rattle.sound_free.proofs.CellTest.{cellTest}
 
 abbrev marked : ℕ → List ℕ → ℕ
 marked C m = sum (tabulate C (λ j. getD m (suc j) 0))

@@ -1,20 +1,20 @@
 // The walk over all pages' chains.
-use crate::free::free_fits;
-use crate::page::page_fits;
 use bits::numbers::get4;
-use store::fill::put_block;
+use chains::block::put_block;
+use sound_free::free_fits;
+use sound_page::page_fits;
+use store::cells::cells_of;
 use store::header::Header;
 use store::header::cell_at;
 use store::header::cells_from;
 use store::header::entry_at;
 use store::limits::one_to;
-use store::links::link;
-use store::page_bytes::cells_of;
+use store::link::link;
 ghost use mathlib.Core.Bool.{true};
 ghost use mathlib.Core.Path.{_≡_};
 ghost use Rattle.lists.specs.Lists.{every};
-ghost use Rattle.store.specs.Checked.{headTests};
-ghost use Rattle.soundness.specs.Chains.{chainsFit};
+ghost use Rattle.store.specs.Code.Checked.{headTests};
+ghost use Rattle.soundness.specs.Code.Chains.{chainsFit};
 
 // Walks each page's chain, and marks each cell once; ends at the first broken chain. Of the code only the bytes of the page's cells are
 // looked at, so those of an earlier page may stand behind them.

@@ -1,8 +1,5 @@
 // The soundness check of the live store.
 mod chains;
-mod free;
-mod head;
-mod page;
 
 ghost use mathlib.Core.Path.{_≡_};
 ghost use Rattle.store.specs.Sound.{sound};
@@ -11,7 +8,7 @@ ghost use Rattle.store.specs.Sound.{sound};
 pub fn check(s: &[u8]) -> bool
     ensures { λ r. ⌜ r ≡ sound (now (s .entry)) ⌝ }
 {
-    if !head::head_fits(s) {
+    if !sound_head::head_fits(s) {
         return false;
     }
     chains::chains_fit(s)

@@ -12,9 +12,9 @@ use Rattle.store.specs.Layout.{bytesOf}
 use Rattle.store.specs.Reading.{listIn, read}
 use Rattle.store.specs.Sound.{sound}
 use Rattle.store.specs.Call.{Called, after, apply, call, hour}
-use Rattle.store.specs.Heads.{Heads}
+use Rattle.store.specs.Code.Heads.{Heads}
 use Rattle.store.specs.declared.header.Header.{Header}
-use Rattle.store.specs.Hours.{Asked, Changes, changeTo, withHour}
+use Rattle.store.specs.Code.Hours.{Asked, Changes, changeTo, withHour}
 use Rattle.store.proofs.SoundFacts.{facts}
 
 -- a store that is not sound

@@ -13,10 +13,10 @@ use Rattle.store.specs.Plain.{Outcome, Plain, change, changed, need, pag
 use Rattle.store.specs.Layout.{Model, bytesOf, entryAt, cellsFrom}
 use Rattle.store.specs.Reading.{listIn, pagesOf, read, sumIn}
 use Rattle.store.specs.Call.{apply}
-use Rattle.store.specs.Links.{Ready, rewritten}
-use Rattle.store.specs.Heads.{Heads}
+use Rattle.store.specs.Code.Links.{Ready, rewritten}
+use Rattle.store.specs.Code.Heads.{Heads}
 use Rattle.store.specs.declared.header.Header.{Header}
-use Rattle.store.specs.Hours.{Asked, Changes, OfPage, changeTo, withHour}
+use Rattle.store.specs.Code.Hours.{Asked, Changes, OfPage, changeTo, withHour}
 use Rattle.store.proofs.HourLaws.{With, getD-le, page-hour, page-set, page-sum, tabulate-le, with-hour}
 use Rattle.store.proofs.Keep.{need-off}
 use Rattle.store.proofs.PageChange.{ready, rewritten-bytes}

@@ -17,7 +17,7 @@ use Rattle.store.specs.Layout.{cellAt}
 use Rattle.store.specs.Reading.{chainFrom}
 use Rattle.lists.proofs.Occurrences.{occurrences-append, one-equal, one-other, one-same}
 use Rattle.lists.proofs.Tests.{left, right, both}
-use Rattle.store.specs.Checked.{Walk, and-then, broken, go-on, walkMarks, whole}
+use Rattle.store.specs.Code.Checked.{Walk, and-then, broken, go-on, walkMarks, whole}
 use Rattle.store.proofs.Joining.{chain-head, chain-new, chain-tail}
 use Rattle.store.proofs.Numbers.{number-two}
 use Rattle.store.proofs.Writes.{Chain, Linked}

@@ -14,7 +14,7 @@ use Rattle.store.specs.Reading.{chainIn, sumIn}
 use Rattle.lists.proofs.Occurrences.{occurrences-append}
 use Rattle.lists.proofs.Tables.{tabulate-ext}
 use Rattle.lists.proofs.Tests.{Each, each, every-of}
-use Rattle.store.specs.Checked.{Walk, and-then, checkPages, go-on, pageTests, walkMarks, whole}
+use Rattle.store.specs.Code.Checked.{Walk, and-then, checkPages, go-on, pageTests, walkMarks, whole}
 use Rattle.store.proofs.CheckChain.{Marked, Unmarked, goes-on, goes-then}
 use Rattle.store.proofs.CheckChain.{mark-length, markAll, marks, walk-through, walked, whole-is}
 use Rattle.store.proofs.Writes.{Chain, Linked}

@@ -10,7 +10,7 @@ use Rattle.lists.specs.Lists.{occurrences, part}
 use Rattle.bits.specs.Numbers.{little, number, numberAt}
 use Rattle.store.specs.Limits.{maxCells}
 use Rattle.store.specs.Layout.{cellAt}
-use Rattle.store.specs.Links.{Steps, filled}
+use Rattle.store.specs.Code.Links.{Steps, filled}
 use Rattle.lists.proofs.Occurrences.{one-same}
 use Rattle.store.proofs.Joining.{chain-head, chain-new, chain-tail}
 use Rattle.store.proofs.Numbers.{number-two}

@@ -9,7 +9,7 @@ use lib.Seq.{getD-set-same, getD-set-other, getD-append-seam, ext-getD}
 use borrow.Author.Tests.{eq-eqb, ne-eqb}
 use Rattle.lists.specs.Lists.{pick, sum, tabulate}
 use Rattle.store.specs.Plain.{page}
-use Rattle.store.specs.Hours.{withHour}
+use Rattle.store.specs.Code.Hours.{withHour}
 use Rattle.lists.proofs.Occurrences.{getD-snoc}
 use Rattle.lists.proofs.Sums.{sum-snoc, sum-tabulate-one}
 use Rattle.lists.proofs.Tables.{getD-tabulate}

@@ -25,7 +25,7 @@ use Rattle.store.specs.Layout.{Model, cellAt, header, size, cellsFrom, e
 use Rattle.store.specs.Reading.{Runs, cellsOf, chainFrom, chainIn, codeIn, firstIn, hoursOf, listIn, pageIn, pagesOf, read, readFor, spareIn, sumIn}
 use Rattle.store.specs.Sound.{Good, onChains, sound}
 use Rattle.store.specs.Items.{Items, onAll}
-use Rattle.store.specs.Checked.{headTests, pageTests, quiet}
+use Rattle.store.specs.Code.Checked.{headTests, pageTests, quiet}
 use Rattle.store.proofs.ChainLaws.{Says, says}
 use Rattle.store.proofs.CheckPages.{PageGood}
 use Rattle.store.proofs.FreshLaws.{cell-in}

@@ -8,7 +8,7 @@ use Rattle.lists.specs.Lists.{first, occurrences, part}
 use Rattle.bits.specs.Numbers.{little, number, numberAt}
 use Rattle.store.specs.Limits.{maxCells}
 use Rattle.store.specs.Layout.{cellAt}
-use Rattle.store.specs.Links.{Steps, cut, joined, linkAfter, put}
+use Rattle.store.specs.Code.Links.{Steps, cut, joined, linkAfter, put}
 use Rattle.store.specs.PageCode.{cells}
 use Rattle.store.specs.Sound.{isCell}
 use Rattle.store.proofs.FreshLaws.{cell-is, cell-le}

@@ -10,7 +10,6 @@ pub mod Laying
 pub mod Holds
 pub mod ReadBack
 pub mod SoundLaws
-pub mod LinkSteps
 pub mod Writes
 pub mod Joining
 pub mod Filling
@@ -18,7 +17,6 @@ pub mod Spread
 pub mod Moved
 pub mod Zeros
 pub mod PageChange
-pub mod FreshBytes
 pub mod ChainLaws
 pub mod Whole
 pub mod SoundFacts

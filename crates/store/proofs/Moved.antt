@@ -8,7 +8,7 @@ use Rattle.lists.specs.Lists.{first, occurrences, part}
 use Rattle.bits.specs.Numbers.{numberAt}
 use Rattle.store.specs.Limits.{maxCells}
 use Rattle.store.specs.Layout.{cellAt}
-use Rattle.store.specs.Links.{Steps, cut, filled, joined, linkAfter, put}
+use Rattle.store.specs.Code.Links.{Steps, cut, filled, joined, linkAfter, put}
 use Rattle.store.specs.PageCode.{cells}
 use Rattle.lists.proofs.Occurrences.{occurrences-append, one-same}
 use Rattle.store.proofs.Filling.{ClearCode, Filled, code-apart, code-link, fill-filled, fill-outside, filled-length}

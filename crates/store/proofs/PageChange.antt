@@ -10,7 +10,7 @@ use lib.Seq.{drop-append-add, drop-drop, getD-set-same, getD-set-other}
 use Rattle.lists.specs.Lists.{concat, occurrences, part, sum}
 use Rattle.bits.specs.Numbers.{little, number, numberAt}
 use Rattle.store.specs.Layout.{Model, bytesOf, cellAt, header, resize, size, cellsFrom, entryAt}
-use Rattle.store.specs.Links.{Ready, Steps, cut, filled, joined, put, rewritten}
+use Rattle.store.specs.Code.Links.{Ready, Steps, cut, filled, joined, put, rewritten}
 use Rattle.store.specs.PageCode.{cells, pageBytes}
 use Rattle.store.specs.Plain.{need, page}
 use Rattle.store.specs.Sound.{Good, onChains}

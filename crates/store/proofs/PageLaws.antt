@@ -16,7 +16,7 @@ use Rattle.lists.proofs.Occurrences.{occurrences-append}
 use Rattle.lists.proofs.Pages.{concat-get as rows-get}
 use Rattle.lists.proofs.Sums.{sum-concat}
 use Rattle.lists.proofs.Tables.{concat-each, getD-tabulate, length-tabulate, tabulate-ext}
-use Rattle.store.specs.Checked.{quiet}
+use Rattle.store.specs.Code.Checked.{quiet}
 use Rattle.store.proofs.Filling.{Filled}
 use Rattle.store.proofs.Holds.{page-length}
 use Rattle.store.proofs.Joining.{chain-head, chain-tail}

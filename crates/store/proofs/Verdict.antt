@@ -23,7 +23,7 @@ use Rattle.lists.proofs.Sums.{sum-concat, sum-take-le}
 use Rattle.lists.proofs.Tables.{getD-tabulate, length-tabulate, tabulate-ext}
 use Rattle.lists.proofs.Tests.{left, right, Each, agree, both, each, every-of, same-eq, same-is}
 use Rattle.lists.proofs.Zeros.{zeros-at}
-use Rattle.store.specs.Checked.{Walk, and-then, broken, checkPages, ends-well, headTests, pageTests, quiet, walkMarks, whole}
+use Rattle.store.specs.Code.Checked.{Walk, and-then, broken, checkPages, ends-well, headTests, pageTests, quiet, walkMarks, whole}
 use Rattle.store.proofs.CheckChain.{Marked, Unmarked, goes-then}
 use Rattle.store.proofs.CheckChain.{markAll, marks, walk-through, walked}
 use Rattle.store.proofs.CheckPages.{PageGood, chainsFrom, pages-good, pages-through, then-whole}

@@ -9,7 +9,7 @@ use lib.Seq.{take-set-le, drop-set-lt, drop-set-add, sets, sets-eq, length-sets,
 use Rattle.lists.specs.Lists.{occurrences, part, splice}
 use Rattle.bits.specs.Numbers.{little}
 use Rattle.store.specs.Layout.{cellAt}
-use Rattle.store.specs.Links.{put}
+use Rattle.store.specs.Code.Links.{put}
 use Rattle.lists.proofs.Parts.{sets-splice}
 use Rattle.bits.proofs.Little.{length-little}
 

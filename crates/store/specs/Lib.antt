@@ -6,10 +6,7 @@ pub mod Limits
 pub mod OneCell
 pub mod Reading
 pub mod Sound
-pub mod Checked
 pub mod Call
-pub mod Links
-pub mod Heads
 pub mod Answers
-pub mod Hours
 pub mod Items
+pub mod Code

@@ -1,11 +1,9 @@
 // The header of a store, and where its other parts start.
-use crate::put::put_four;
-use crate::put::put_two;
 ghost use mathlib.Core.Path.{_≡_};
 ghost use Prim.Native.Nat.{_≤_, _<_};
 ghost use lib.ListN.{length};
 ghost use Rattle.store.specs.Layout.{entryAt, cellAt, cellsFrom, fresh as freshModel};
-ghost use Rattle.store.specs.Heads.{Heads, HeadOf, Headed};
+ghost use Rattle.store.specs.Code.Heads.{Heads, HeadOf};
 
 pub struct Header {
     pub pages: usize,
@@ -64,20 +62,6 @@ impl Header {
             hours: bits::numbers::get4(s, 12) as usize,
         }
     }
-}
-
-// Puts a header into a store's first 16 bytes.
-pub(crate) fn put_header(s: &mut [u8], h: Header)
-    requires { ⌜ 16 ≤ length (now s) ⌝ }
-    ensures { λ _. ⌜ Headed (now (s .entry)) h (now (s .exit)) ⌝ }
-{
-    put_two(s, 0, Header::EDITION);
-    put_two(s, 2, h.pages);
-    put_two(s, 4, h.cells);
-    put_two(s, 6, h.first_free);
-    put_two(s, 8, h.free);
-    put_two(s, 10, 0);
-    put_four(s, 12, h.hours as u64);
 }
 
 // Where page p's entry starts.

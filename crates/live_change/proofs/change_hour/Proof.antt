@@ -16,8 +16,8 @@ use Rattle.pages.proofs.counts.counts_at.Reads as counts-at-reads
 use Rattle.store.proofs.header.Header.of.Reads as of-reads
 use Rattle.store.proofs.header.cells_from.Reads as cells-from-reads
 use Rattle.store.proofs.header.entry_at.Reads as entry-at-reads
-use Rattle.store.proofs.page_bytes.cells_of.Reads as cells-of-reads
-use Rattle.store.proofs.rewrite.rewrite.Reads as rewrite-reads
+use Rattle.store.proofs.cells.cells_of.Reads as cells-of-reads
+use Rattle.chains.proofs.rewrite.rewrite.Reads as rewrite-reads
 use Rattle.store.proofs.total.total.Reads as total-reads
 
 abbrev claims : lts.Claims

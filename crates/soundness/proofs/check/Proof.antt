@@ -4,7 +4,7 @@ use mathlib.Core.Bool.{Bool, _&&_}
 use native.Mathlib.Omega.{arith}
 use borrow.Author.Needs.{needs}
 use borrow.Author.Tests.{not-false, not-true}
-use Rattle.soundness.specs.Chains.{chainsFit}
+use Rattle.soundness.specs.Code.Chains.{chainsFit}
 use Rattle.soundness.proofs.Checked.{check-is}
 use Rattle.soundness.proofs.check.Statement.{statement}
 use Rattle.soundness.proofs.check.Tie as tie

@@ -13,11 +13,12 @@ use borrow.Author.Tests.{eqb-false, eqb-true, not-false, not-true}
 use Rattle.lists.specs.Lists.{part}
 use Rattle.bits.specs.Numbers.{numberAt}
 use Rattle.store.specs.Layout.{cellAt, cellsFrom}
-use Rattle.soundness.specs.Chains.{chainsFit, freeFits}
-use Rattle.soundness.proofs.HeadTest.{Bounds, bounds, headed}
+use Rattle.sound_free.specs.Code.Free.{freeFits}
+use Rattle.soundness.specs.Code.Chains.{chainsFit}
+use Rattle.sound_head.proofs.HeadTest.{Bounds, bounds, headed}
 use Rattle.soundness.proofs.ChainTest.{SoFar, cell-broken, cell-next, cellsOn, gather-next, gather-start, page-next}
 use Rattle.soundness.proofs.ChainTest.{page-open, page-start, page-wrong, pages-end, pages-start, pagesOn}
-use Rattle.soundness.proofs.CellTest.{cell-range, good-cell, met-cell, no-cell}
+use Rattle.sound_free.proofs.CellTest.{cell-range, good-cell, met-cell, no-cell}
 use borrow.Author.Needs.{needs}
 use Rattle.soundness.proofs.chains.chains_fit.Statement.{statement}
 use Rattle.soundness.proofs.chains.chains_fit.Tie as tie

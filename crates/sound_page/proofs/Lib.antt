@@ -1,0 +1,3 @@
+-- Laws of the functions.
+pub mod Quiet
+pub mod PageTest
