@@ -13,6 +13,7 @@ use Rattle.store.specs.Reading.{chainIn, codeIn, pagesOf, read, sumIn}
 use Rattle.store.specs.Sound.{Good}
 use Rattle.store.specs.Code.Links.{Steps}
 use Rattle.store.specs.Code.Hours.{OfPage}
+use Rattle.store.proofs.Chained.{good-chained}
 use Rattle.store.proofs.Joining.{chain-left, walk-steps}
 use Rattle.store.proofs.PageChange.{page-and-spare}
 use Rattle.store.proofs.PageCodeLaws.{cells-most, length-page}
@@ -63,7 +64,7 @@ module _ {s : List ℕ} {base p t k : ℕ} (o : OfPage s base p t k) where
       let size = f .holds .size in
       rw (q, base-same, ← n)
       (walk-steps s (cellsFrom (m .plain .pages)) (m .plain .cells) (entryAt p + 4) cs 0 (g .limits .cells-high) (omega arith) (omega (arith, inside))
-      (chain-left cs (m .spare) (page-and-spare m g p inside)) (spread-of s m (g .rows) (f .holds) .links p inside))
+      (chain-left cs (m .spare) (page-and-spare m (good-chained m g) p inside)) (spread-of s m (g .rows) (f .holds) .links p inside))
 
   -- and holds the code of its counts
   code-same : codeIn s base (chainIn s (pagesOf s) p) ≡ pageBytes x

@@ -13,6 +13,7 @@ use Rattle.store.specs.Plain.{need, page}
 use Rattle.store.specs.Layout.{Model, bytesOf, cellAt, size, cellsFrom, entryAt}
 use Rattle.store.specs.Reading.{Runs, chainIn, firstIn, read, readFor, spareIn, sumIn}
 use Rattle.store.specs.Sound.{Good, isCell, onChains, sound}
+use Rattle.store.proofs.Chained.{good-chained}
 use Rattle.store.proofs.Holds.{Holds, holds-bytes}
 use Rattle.store.proofs.Joining.{chain-head, chain-left, chain-right, chain-tail}
 use Rattle.store.proofs.Keep.{spare-is}
@@ -71,11 +72,11 @@ module _ (m : Model) (g : Good m) where
     page-ends = λ p l.
         rw (chain-is s m g h p l)
         (linked-runs s (cellsFrom (m .plain .pages)) (m .plain .cells) (entryAt p + 4) (getD (m .chains) p []) (g .limits .cells-high)
-        (chain-left (getD (m .chains) p []) (m .spare) (page-and-spare m g p l)) (spread-of s m (g .rows) h .links p l));
+        (chain-left (getD (m .chains) p []) (m .spare) (page-and-spare m (good-chained m g) p l)) (spread-of s m (g .rows) h .links p l));
     free-cells = ap (λ (z : List ℕ). length z + need (m .plain .counts) (m .plain .pages)) spare-same ∙ spare-is m g;
     free-ends =
         rw spare-same
         (linked-runs s (cellsFrom (m .plain .pages)) (m .plain .cells) 6 (m .spare) (g .limits .cells-high)
-        (chain-right (getD (m .chains) 0 []) (m .spare) (page-and-spare m g 0 (g .limits .pages-low))) (spread-of s m (g .rows) h .free));
+        (chain-right (getD (m .chains) 0 []) (m .spare) (page-and-spare m (good-chained m g) 0 (g .limits .pages-low))) (spread-of s m (g .rows) h .free));
     once = λ c. ap₂ (λ (x : List (List ℕ)) (y : List ℕ). occurrences c (concat x ++ y)) chains-same spare-same ∙ g .once c;
   }

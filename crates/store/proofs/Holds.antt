@@ -10,9 +10,10 @@ use Rattle.bits.specs.Numbers.{little}
 use Rattle.store.specs.Layout.{Model, bytesOf, cellAt, entry, header, laidAt, lay, layAll, layPages, size, cellsFrom, entryAt}
 use Rattle.store.specs.PageCode.{cells}
 use Rattle.store.specs.Plain.{page}
-use Rattle.store.specs.Sound.{Good, isCell}
+use Rattle.store.specs.Sound.{Chained, Good, isCell}
 use Rattle.lists.proofs.Parts.{part-skip, part-sub}
 use Rattle.lists.proofs.Tables.{chop, concat-at, concat-each, length-tabulate, tabulate-ext}
+use Rattle.store.proofs.Chained.{good-chained}
 use Rattle.store.proofs.FreshLaws.{cell-in, cell-is, cell-le}
 use Rattle.store.proofs.Laying.{All, all-append, at-all, at-found, at-length, keys, keys-all, lay-length, pages-length}
 
@@ -34,7 +35,7 @@ entry-length : (m : Model) (p : ℕ) → length (entry m p) ≡ 6
 unfolding entry little
 entry-length m p = refl
 
-pub laid-length : (m : Model) → Good m → All (λ l. length (l .bytes) ≡ 32) (layAll m)
+pub laid-length : (m : Model) → Chained m → All (λ l. length (l .bytes) ≡ 32) (layAll m)
 unfolding layAll
 laid-length m g =
     all-append (λ l. length (l .bytes) ≡ 32) (layPages (m .plain .counts) 0 (m .chains)) (lay (m .spare) (replicate (30 * length (m .spare)) 0))
@@ -43,10 +44,10 @@ laid-length m g =
     (lay-length (m .spare) (replicate (30 * length (m .spare)) 0) (omega (arith, length-replicate {A = ℕ} (30 * length (m .spare)) 0)))
 
 -- each cell is laid, once
-pub laid-count : (m : Model) → Good m → (c : ℕ) → occurrences c (keys (layAll m)) ≡ isCell (m .plain .cells) c
+pub laid-count : (m : Model) → Chained m → (c : ℕ) → occurrences c (keys (layAll m)) ≡ isCell (m .plain .cells) c
 laid-count m g c = ap (occurrences c) (keys-all m) ∙ g .once c
 
-cell-length : (m : Model) → Good m → (j : ℕ) → j < m .plain .cells → length (laidAt (suc j) (layAll m)) ≡ 32
+cell-length : (m : Model) → Chained m → (j : ℕ) → j < m .plain .cells → length (laidAt (suc j) (layAll m)) ≡ 32
 cell-length m g j l = at-length (suc j) (layAll m) (laid-length m g)
     (omega (arith, laid-count m g (suc j), cell-in (m .plain .cells) (suc j) (omega arith) (omega arith)))
 
@@ -56,7 +57,7 @@ entry-of m p l =
     part-skip (header m) _ (6 * p) 6 16 (header-length m)
     ∙ concat-at (m .plain .pages) 6 (entry m) _ p (λ j _. entry-length m j) l
 
-cell-of : (m : Model) → Good m → (c : ℕ) → 1 ≤ c → c ≤ m .plain .cells → part (bytesOf m) (cellAt (cellsFrom (m .plain .pages)) c) 32 ≡ laidAt c (layAll m)
+cell-of : (m : Model) → Chained m → (c : ℕ) → 1 ≤ c → c ≤ m .plain .cells → part (bytesOf m) (cellAt (cellsFrom (m .plain .pages)) c) 32 ≡ laidAt c (layAll m)
 unfolding bytesOf
 cell-of m g c a b =
     let P : ℕ = m .plain .pages in
@@ -73,7 +74,7 @@ cell-of m g c a b =
     ∙ concat-at C 32 f [] (c - 1) (λ j l. cell-length m g j l) (omega arith)
     ∙ ap (λ (z : ℕ). laidAt z (layAll m)) e₂
 
-size-of : (m : Model) → Good m → length (bytesOf m) ≡ size (m .plain .pages) (m .plain .cells)
+size-of : (m : Model) → Chained m → length (bytesOf m) ≡ size (m .plain .pages) (m .plain .cells)
 unfolding bytesOf
 size-of m g =
     let P : ℕ = m .plain .pages in
@@ -88,10 +89,10 @@ size-of m g =
       concat-each C 32 f (λ j l. cell-length m g j l),
     )
 
--- (H1) a good model's bytes hold it
-pub holds-bytes : (m : Model) → Good m → Holds (bytesOf m) m
+-- (H1) a model's bytes hold it, if its chains are right
+pub chained-bytes : (m : Model) → Chained m → Holds (bytesOf m) m
 unfolding bytesOf header concat little
-holds-bytes m g = record {
+chained-bytes m g = record {
   size = size-of m g;
   head = refl;
   entries = entry-of m;
@@ -101,13 +102,13 @@ holds-bytes m g = record {
       (λ c h. let w = cell-is (m .plain .cells) c (omega (arith, laid-count m g c)) in cell-of m g c (w .0) (w .1));
 }
   where
-    at-most-one : (m : Model) → Good m → (c : ℕ) → occurrences c (keys (layAll m)) ≤ 1
+    at-most-one : (m : Model) → Chained m → (c : ℕ) → occurrences c (keys (layAll m)) ≤ 1
     at-most-one m g c = omega (arith, laid-count m g c, cell-le (m .plain .cells) c)
 
 -- (H2) and no other bytes do
-pub holds-only : (s : List ℕ) (m : Model) → Good m → Holds s m → s ≡ bytesOf m
+pub chained-only : (s : List ℕ) (m : Model) → Chained m → Holds s m → s ≡ bytesOf m
 unfolding bytesOf
-holds-only s m g h =
+chained-only s m g h =
     let P : ℕ = m .plain .pages in
     let C : ℕ = m .plain .cells in
     let f : ℕ → List ℕ = λ j. laidAt (suc j) (layAll m) in
@@ -128,3 +129,10 @@ holds-only s m g h =
         ∙ ap (λ (z : ℕ). part s z 32) {x = 16 + (6 * P + 32 * j)} {y = size P (suc j - 1)} (omega arith)
         ∙ at-found (λ c. part s (cellAt (cellsFrom P) c) 32) (suc j) (layAll m) (h .cells)
         (omega (arith, laid-count m g (suc j), cell-in (m .plain .cells) (suc j) (omega arith) (omega arith)))
+
+-- a good model's
+pub holds-bytes : (m : Model) → Good m → Holds (bytesOf m) m
+holds-bytes m g = chained-bytes m (good-chained m g)
+
+pub holds-only : (s : List ℕ) (m : Model) → Good m → Holds s m → s ≡ bytesOf m
+holds-only s m g h = chained-only s m (good-chained m g) h

@@ -3,17 +3,17 @@ use mathlib.Core.Path.{_≡_, ap, _∙_}
 use mathlib.Core.List.{List, [], _++_}
 use Prim.Native.Nat.{ℕ, _+_, _-_, _*_, _/_, _≤_, _<_}
 use native.Mathlib.Omega.{arith}
-use native.Mathlib.Decide.{ℕ-discrete}
-use lib.ListN.{length, getD, take, drop, set, length-append, length-take, length-drop, length-set}
-use lib.Seq.{getD-set-same, getD-set-other}
+use lib.ListN.{length, getD, length-append}
 use Rattle.lists.specs.Lists.{concat, sum, tabulate}
 use Rattle.store.specs.Layout.{Model, resize}
 use Rattle.store.specs.PageCode.{cells}
 use Rattle.store.specs.Plain.{need, page}
 use Rattle.store.specs.Sound.{Good, onChains}
-use Rattle.lists.proofs.Occurrences.{length-concat, length-concat-set, occurrences-append, occurrences-concat-set, occurrences-split}
+use Rattle.lists.proofs.Occurrences.{length-concat}
+use Rattle.lists.proofs.Pages.{paged-le}
 use Rattle.lists.proofs.Sums.{sum-tabulate-one}
 use Rattle.lists.proofs.Tables.{tabulate-ext}
+use Rattle.store.proofs.Chained.{chained-good, good-chained, page-chained}
 
 -- two lists differ at hour i alone
 abbrev pub Off : List ℕ → List ℕ → ℕ → Type 0
@@ -39,53 +39,16 @@ spare-is m g =
     ∙ ap (λ (n : ℕ). sum (tabulate n (λ p. cells (sum (page (m .plain .counts) p))))) (g .rows) in
     omega (arith, length-append (concat (m .chains)) (m .spare), g .all, e)
 
-pages-of : (m : Model) (ys : List ℕ) (i : ℕ) (X : List ℕ) (q : ℕ) → Good m → Off (m .plain .counts) ys i → q < m .plain .pages
-    → i / 64 < length (m .chains) → length X ≡ cells (sum (page ys (i / 64))) → Dec (q ≡ i / 64)
-    → length (getD (set (m .chains) (i / 64) X) q []) ≡ cells (sum (page ys q))
-pages-of m ys i X q g o lq lr lk (yes e) = rw (e, getD-set-same (m .chains) (i / 64) X []) lk
-pages-of m ys i X q g o lq lr lk (no ne) = rw (getD-set-other (m .chains) (i / 64) q X [] ne, page-off (m .plain .counts) ys i q o ne)
-    (g .lengths q lq)
-
 -- the page of hour i is given the cells that it now needs
 pub keep : (m : Model) (ys : List ℕ) (i : ℕ) → Good m → Off (m .plain .counts) ys i → i < 64 * m .plain .pages
     → length ys ≤ 64 * m .plain .pages → sum ys ≤ 4294967295 → need ys (m .plain .pages) ≤ m .plain .cells
     → Good (resize m ys (i / 64) (cells (sum (page ys (i / 64)))))
-unfolding resize onChains
+unfolding page resize
 keep m ys i g o li ly lt lc =
-    let P : ℕ = m .plain .pages in
     let p : ℕ = i / 64 in
-    let lp : p < P = omega arith in
-    let k : ℕ = cells (sum (page ys p)) in
-    let old : List ℕ = getD (m .chains) p [] in
-    let J : List ℕ = old ++ m .spare in
-    let lr : p < length (m .chains) = omega (arith, g .rows) in
-    let lJ : length J ≡ length old + length (m .spare) = length-append old (m .spare) in
-    let fits : k ≤ length J = omega (arith, need-off (m .plain .counts) ys i P o lp, spare-is m g, g .lengths p lp) in
-    let lk : length (take k J) ≡ k = omega (arith, length-take k J) in
-    record {
-      limits = g .limits;
-      hours = ly;
-      total = lt;
-      rows = length-set (m .chains) p (take k J) ∙ g .rows;
-      lengths = λ q lq. pages-of m ys i (take k J) q g o lq lr lk (ℕ-discrete q p);
-      once = λ c.
-          omega (
-            arith,
-            g .once c,
-            occurrences-append c (concat (m .chains)) (m .spare),
-            occurrences-append c (concat (set (m .chains) p (take k J))) (drop k J),
-            occurrences-concat-set c (m .chains) p (take k J) lr,
-            occurrences-split c k J,
-            occurrences-append c old (m .spare),
-          );
-      all =
-          omega (
-            arith,
-            g .all,
-            length-append (concat (m .chains)) (m .spare),
-            length-append (concat (set (m .chains) p (take k J))) (drop k J),
-            length-concat-set (m .chains) p (take k J) lr,
-            length-drop k J,
-            length-append old (m .spare),
-          );
-    }
+    let lp : p < m .plain .pages = omega arith in
+    let fits : cells (sum (page ys p)) ≤ length (getD (m .chains) p []) + length (m .spare) =
+    omega (arith, need-off (m .plain .counts) ys i (m .plain .pages) o lp, spare-is m g, g .lengths p lp) in
+    chained-good (resize m ys p (cells (sum (page ys p))))
+    (page-chained m ys p (good-chained m g) (λ q ne. page-off (m .plain .counts) ys i q o ne) lp (omega (arith, paged-le 64 ys p)) fits)
+    ly lt

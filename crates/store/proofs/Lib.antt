@@ -2,6 +2,7 @@
 pub mod Numbers
 pub mod LimitLaws
 pub mod PageCodeLaws
+pub mod Chained
 pub mod Keep
 pub mod FreshLaws
 pub mod StepLaws

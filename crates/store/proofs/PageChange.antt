@@ -9,18 +9,20 @@ use lib.ListN.{length, getD, take, drop, set, replicate, length-append, length-t
 use lib.Seq.{drop-append-add, drop-drop, getD-set-same, getD-set-other}
 use Rattle.lists.specs.Lists.{concat, occurrences, part, sum}
 use Rattle.bits.specs.Numbers.{little, number, numberAt}
+use Rattle.store.specs.Limits.{maxTotal}
 use Rattle.store.specs.Layout.{Model, bytesOf, cellAt, header, resize, size, cellsFrom, entryAt}
 use Rattle.store.specs.Code.Links.{Ready, Steps, cut, filled, joined, put, rewritten}
 use Rattle.store.specs.PageCode.{cells, pageBytes}
 use Rattle.store.specs.Plain.{need, page}
-use Rattle.store.specs.Sound.{Good, onChains}
+use Rattle.store.specs.Sound.{Chained, Good, onChains}
 use Rattle.lists.proofs.Occurrences.{occurrences-append, occurrences-getD-concat, occurrences-split}
 use Rattle.lists.proofs.Tests.{both}
+use Rattle.store.proofs.Chained.{OffPage, good-chained, page-chained, spare-fits}
 use Rattle.store.proofs.Filling.{Filled}
 use Rattle.store.proofs.FreshLaws.{cell-is, cell-le}
 use Rattle.store.proofs.Joining.{chain-all, chain-part}
-use Rattle.store.proofs.Holds.{holds-only}
-use Rattle.store.proofs.Keep.{Off, keep, need-off, page-off, spare-is}
+use Rattle.store.proofs.Holds.{chained-only}
+use Rattle.store.proofs.Keep.{Off, need-off, page-off, spare-is}
 use Rattle.store.proofs.Moved.{Moves, moves, filled-same, linked-same}
 use Rattle.store.proofs.Numbers.{number-two}
 use Rattle.store.proofs.PageCodeLaws.{cells-most, length-page}
@@ -29,7 +31,7 @@ use Rattle.store.proofs.Spread.{Spread, spread-holds}
 use Rattle.store.proofs.Zeros.{Zeroed, filled-split, zeroed, zeros-filled}
 use Rattle.store.proofs.Writes.{Apart, Chain, Linked, put-length, put-off, put-same}
 
--- ---- chains of a good model
+-- ---- chains
 occurrences-two : (c : ℕ) (css : List (List ℕ)) (p q : ℕ) → (q ≡ p → ⊥) → p < length css → q < length css
     → occurrences c (getD css p []) + occurrences c (getD css q []) ≤ occurrences c (concat css)
 unfolding concat
@@ -51,7 +53,7 @@ occurrences-two c (cs ∷ css) (suc p) (suc q) ne l r = omega (
   occurrences-two c css p q (λ e. ne (ap suc e)) (le-of-suc-le-suc l) (le-of-suc-le-suc r),
 )
 
-module _ (m : Model) (g : Good m) where
+module _ (m : Model) (g : Chained m) where
   chain-of : (cs : List ℕ) → ((d : ℕ) → occurrences d cs ≤ occurrences d (onChains m)) → Chain (m .plain .cells) cs
   chain-of cs h = chain-part (onChains m) cs h (chain-all (m .plain .cells) (onChains m) (g .once))
 
@@ -77,16 +79,14 @@ module _ (m : Model) (g : Good m) where
         omega (arith, w, a, g .once d, cell-le (m .plain .cells) d, occurrences-append d (getD (m .chains) p []) (m .spare)),
       )
 
-  module _ (s : List ℕ) (h : Spread s m) (ys : List ℕ) (i : ℕ) (o : Off (m .plain .counts) ys i) (li : i < 64 * m .plain .pages)
-      (ly : length ys ≤ 64 * m .plain .pages) (lt : sum ys ≤ 4294967295) (ln : need ys (m .plain .pages) ≤ m .plain .cells) where
+  -- page p gets its counts of ys, and the cells that they need
+  module _ (s : List ℕ) (h : Spread s m) (ys : List ℕ) (p : ℕ) (o : OffPage (m .plain .counts) ys p) (lp : p < m .plain .pages)
+      (ls : sum (page ys p) ≤ maxTotal) (enough : cells (sum (page ys p)) ≤ length (getD (m .chains) p []) + length (m .spare)) where
     abbrev P : ℕ
     P = m .plain .pages
 
     abbrev C : ℕ
     C = m .plain .cells
-
-    abbrev p : ℕ
-    p = i / 64
 
     abbrev e : ℕ
     e = entryAt p + 4
@@ -121,9 +121,6 @@ module _ (m : Model) (g : Good m) where
     abbrev code : List ℕ
     code = pageBytes (page ys p) ++ replicate (240 - 30 * n) 0
 
-    lp : p < P
-    lp = omega arith
-
     lr : p < length (m .chains)
     lr = omega (arith, lp, g .rows)
 
@@ -131,7 +128,7 @@ module _ (m : Model) (g : Good m) where
     lJ = length-append cs fs
 
     fits : n ≤ length J
-    fits = omega (arith, lJ, need-off (m .plain .counts) ys i P o lp, spare-is m g, g .lengths p lp)
+    fits = omega (arith, lJ, enough)
 
     lX : length X ≡ n
     lX = omega (arith, length-take n J, fits)
@@ -155,10 +152,10 @@ module _ (m : Model) (g : Good m) where
     eA = append-assoc X Y₁ B ∙ ap (λ (z : List ℕ). X ++ z) eY ∙ eX
 
     eight : n ≤ 8
-    eight = cells-most (sum (page ys p)) (omega (arith, page-le ys p))
+    eight = cells-most (sum (page ys p)) ls
 
     eight-old : k ≤ 8
-    eight-old = omega (arith, g .lengths p lp, cells-most (sum (page (m .plain .counts) p)) (omega (arith, page-le (m .plain .counts) p, g .total)))
+    eight-old = omega (arith, g .lengths p lp, cells-most (sum (page (m .plain .counts) p)) (g .sums p lp))
 
     lcode : length (pageBytes (page ys p)) ≡ 30 * n
     lcode = length-page (page ys p)
@@ -193,7 +190,7 @@ module _ (m : Model) (g : Good m) where
 
     -- ---- the numbers
     spare-word : numberAt s 8 2 ≡ length fs
-    spare-word = ap number (h .free-count) ∙ number-two (length fs) (omega (arith, spare-is m g, g .limits .cells-high))
+    spare-word = ap number (h .free-count) ∙ number-two (length fs) (omega (arith, spare-fits m g, g .limits .cells-high))
 
     final : List ℕ
     final = put (put (put t 8 2 (numberAt s 8 2 + k - n)) (entryAt p) 4 (sum (page ys p))) 12 4 (length ys)
@@ -243,7 +240,7 @@ module _ (m : Model) (g : Good m) where
     sum-at q l (no r) =
         off (entryAt q) 4 (λ b. absurd (omega arith)) (λ b. omega (arith, less q r b)) (λ b. absurd (omega arith))
         ∙ mv .low (entryAt q) 4 (omega arith) (λ b. absurd (omega arith)) (λ b. omega arith)
-        ∙ h .sums q l ∙ ap (λ (z : List ℕ). little 4 (sum z)) (sym (page-off (m .plain .counts) ys i q o r))
+        ∙ h .sums q l ∙ ap (λ (z : List ℕ). little 4 (sum z)) (sym (o q r))
       where
         less : (q : ℕ) → (q ≡ p → ⊥) → entryAt q < entryAt p + 4 → q < p
         less q r b = omega arith
@@ -268,7 +265,7 @@ module _ (m : Model) (g : Good m) where
         rw (r, getD-set-same (m .chains) p X [] lr)
         (filled-same t final (cellsFrom P) X (pageBytes (page ys p)) (λ d b. far (cellAt (cellsFrom P) d + 2) 30 (omega arith)) (split .0))
     fill-at q l (no r) =
-        rw (getD-set-other (m .chains) p q X [] r, page-off (m .plain .counts) ys i q o r)
+        rw (getD-set-other (m .chains) p q X [] r, o q r)
         (filled-same s final (cellsFrom P) (getD (m .chains) q []) (pageBytes (page (m .plain .counts) q))
         (λ d b. let w = page-other p q lp l r d b in far (cellAt (cellsFrom P) d + 2) 30 (omega arith) ∙ mv .other-code d (w .0) (w .1)) (h .fills q l))
 
@@ -308,25 +305,56 @@ module _ (m : Model) (g : Good m) where
       zeros = zeros-filled final (cellsFrom P) Y (30 * length Y) (omega arith) new-zeros;
     }
 
-    -- the bytes are those of the changed model
-    pub rewritten-bytes : rewritten s (cellsFrom P) p k n code (sum (page ys p)) (length ys) ≡ bytesOf (resize m ys p n)
-    unfolding resize
-    rewritten-bytes =
-        let g₂ : Good (resize m ys p n) = keep m ys i g o li ly lt ln in
-        sym final-is ∙ holds-only final (resize m ys p n) g₂ (spread-holds final (resize m ys p n) (g₂ .rows) spread-new)
+    -- the bytes are those of the model after the step
+    pub page-bytes : rewritten s (cellsFrom P) p k n code (sum (page ys p)) (length ys) ≡ bytesOf (resize m ys p n)
+    page-bytes =
+        let g₂ : Chained (resize m ys p n) = page-chained m ys p g o lp ls enough in
+        sym final-is ∙ chained-only final (resize m ys p n) g₂ (spread-holds final (resize m ys p n) (g₂ .rows) spread-new)
 
     -- and what the code asks for holds
-    pub ready : Ready s (cellsFrom P) p k n code (sum (page ys p)) (length ys)
-    ready = record {
+    pub page-ready : length ys < 4294967296 → Ready s (cellsFrom P) p k n code (sum (page ys p)) (length ys)
+    page-ready ly = record {
       low = omega (arith, g .limits .pages-high);
       page = omega (arith, lp);
       size = omega (arith, size-le);
       long = rw (← lA) long;
-      small = omega (arith, page-le ys p);
-      short = omega (arith, g .limits .pages-high);
-      fits = omega (arith, spare-word, spare-is m g, g .limits .cells-high, eight-old);
+      small = omega (arith, ls);
+      short = ly;
+      fits = omega (arith, spare-word, spare-fits m g, g .limits .cells-high, eight-old);
       own = mv .steps₀;
       both = rw (← lA) (mv .steps₁);
       kept = subst₂ (λ (a b : ℕ). Steps (filled (joined s (cellsFrom P) e k) (cellsFrom P) e a code) (cellsFrom P) e b) lA lX (mv .steps₂);
       enough = omega (arith, spare-word, lJ, fits);
     }
+
+-- ---- a count of a good model, at hour i
+module _ (m : Model) (g : Good m) (s : List ℕ) (h : Spread s m) (ys : List ℕ) (i : ℕ) (o : Off (m .plain .counts) ys i)
+    (li : i < 64 * m .plain .pages) (ly : length ys ≤ 64 * m .plain .pages) (lt : sum ys ≤ 4294967295)
+    (ln : need ys (m .plain .pages) ≤ m .plain .cells) where
+  abbrev own : ℕ
+  own = length (getD (m .chains) (i / 64) [])
+
+  abbrev new : ℕ
+  new = cells (sum (page ys (i / 64)))
+
+  abbrev made : List ℕ
+  made = pageBytes (page ys (i / 64)) ++ replicate (240 - 30 * new) 0
+
+  inside : i / 64 < m .plain .pages
+  inside = omega arith
+
+  off-page : OffPage (m .plain .counts) ys (i / 64)
+  off-page q ne = page-off (m .plain .counts) ys i q o ne
+
+  sum-fits : sum (page ys (i / 64)) ≤ maxTotal
+  sum-fits = omega (arith, page-le ys (i / 64), lt)
+
+  cells-enough : new ≤ own + length (m .spare)
+  cells-enough = omega (arith, need-off (m .plain .counts) ys i (m .plain .pages) o inside, spare-is m g, g .lengths (i / 64) inside)
+
+  pub rewritten-bytes : rewritten s (cellsFrom (m .plain .pages)) (i / 64) own new made (sum (page ys (i / 64))) (length ys)
+      ≡ bytesOf (resize m ys (i / 64) new)
+  rewritten-bytes = page-bytes m (good-chained m g) s h ys (i / 64) off-page inside sum-fits cells-enough
+
+  pub ready : Ready s (cellsFrom (m .plain .pages)) (i / 64) own new made (sum (page ys (i / 64))) (length ys)
+  ready = page-ready m (good-chained m g) s h ys (i / 64) off-page inside sum-fits cells-enough (omega (arith, g .limits .pages-high))
