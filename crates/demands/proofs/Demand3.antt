@@ -9,7 +9,8 @@ use native.Mathlib.Decide.{decLe}
 use lib.ListN.{length, getD, take, set, List·getD-eq-default}
 use borrow.Author.Tests.{lt-leb}
 use Rattle.lists.specs.Lists.{pick}
-use Rattle.store.specs.Call.{Fitting, Result, call, freshCall, storeAnswers, storeEnd}
+use Rattle.store.specs.Limits.{Fitting}
+use Rattle.store.specs.Call.{Result, call, freshCall, storeAnswers, storeEnd}
 use Rattle.store.specs.Layout.{Model, bytesOf, fresh}
 use Rattle.store.specs.Plain.{Answer, Append, Call, Count, Day, Free, Outcome, Plain, Reach, Reading, Set}
 use Rattle.store.specs.Plain.{answered, need, plainAnswers, plainEnd, plainFresh, refuse, refused, step, tell}

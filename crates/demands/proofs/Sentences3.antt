@@ -10,7 +10,8 @@ use borrow.Author.Tests.{le-ltb}
 use Rattle.lists.specs.Lists.{concat, occurrences, pick, sum, tabulate}
 use Rattle.bits.specs.Numbers.{numberAt}
 use Rattle.reserve.specs.Reserve.{ceil, reserve}
-use Rattle.store.specs.Call.{Fitting, call, freshCall, storeAnswers, storeEnd}
+use Rattle.store.specs.Limits.{Fitting}
+use Rattle.store.specs.Call.{call, freshCall, storeAnswers, storeEnd}
 use Rattle.store.specs.Layout.{cellAt}
 use Rattle.store.specs.PageCode.{cells}
 use Rattle.store.specs.Plain.{Answer, Append, Call, Free, Plain, Reading, Set, answered, need, plainAnswers, plainFresh, refused, step}

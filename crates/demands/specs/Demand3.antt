@@ -9,10 +9,11 @@ use Rattle.lists.specs.Lists.{tabulate, concat, sum, occurrences}
 use Rattle.bits.specs.Numbers.{numberAt}
 use Rattle.store.specs.PageCode.{cells}
 use Rattle.store.specs.Plain.{Plain, Call, Append, Set, Free, Answer, answered, refused, page, need, plainEnd, plainAnswers, plainFresh}
-use Rattle.store.specs.Layout.{size}
+use Rattle.store.specs.Layout.{cellsFrom, size}
+use Rattle.store.specs.Limits.{Fitting}
 use Rattle.store.specs.Reading.{Runs, firstIn, sumIn, chainIn, spareIn, read}
 use Rattle.store.specs.Sound.{sound, isCell}
-use Rattle.store.specs.Call.{Fitting, call, storeEnd, storeAnswers, freshCall}
+use Rattle.store.specs.Call.{call, storeEnd, storeAnswers, freshCall}
 use Rattle.store.specs.Items.{Items}
 use Rattle.hourlog_c.specs.Public.{Fresh, Live, ofStore}
 use Rattle.hourlog_c.specs.Words.{wordOf}
@@ -45,9 +46,9 @@ pub record StoreHolds (s : List ℕ) (P C : ℕ) (xs : List ℕ) : Type 0 where
   -- each page's chain has the cells that the formula asks for, and ends; so has and does the free chain
   pub page-sum : (p : ℕ) → p < P → sumIn s p ≡ sum (page xs p)
   pub page-cells : (p : ℕ) → p < P → length (chainIn s P p) ≡ cells (sum (page xs p))
-  pub page-ends : (p : ℕ) → p < P → Runs s P (firstIn s p) (chainIn s P p)
+  pub page-ends : (p : ℕ) → p < P → Runs s (cellsFrom P) (firstIn s p) (chainIn s P p)
   pub free-cells : length (spareIn s P) ≡ C - need xs P
-  pub free-ends : Runs s P (numberAt s 6 2) (spareIn s P)
+  pub free-ends : Runs s (cellsFrom P) (numberAt s 6 2) (spareIn s P)
   -- each cell, 1 to C, is on exactly one chain, and nothing else is on any
   pub once : (c : ℕ) → occurrences c (concat (tabulate P (chainIn s P)) ++ spareIn s P) ≡ isCell C c
   -- free cells are those that the formula leaves, and the figure that is answered is this

@@ -13,7 +13,7 @@ use Rattle.store.specs.Layout.{cellAt}
 use Rattle.store.specs.Reading.{chainFrom, codeIn}
 use Rattle.store.specs.Code.Links.{Steps}
 use Rattle.chains.proofs.LinkSteps.{step-of}
-use Rattle.pages.specs.Code.Gathered.{codeFrom}
+use Rattle.pages.specs.Gathered.{codeFrom}
 
 code-short : (k : ℕ) (s : List ℕ) (base a : ℕ) → length (codeFrom s base a k) ≤ 30 * k
 unfolding codeIn chainFrom

@@ -20,7 +20,7 @@ use Rattle.store.proofs.PageCodeLaws.{cells-most, length-page}
 use Rattle.store.proofs.ReadBack.{code-in}
 use Rattle.store.proofs.Spread.{spread-of}
 use Rattle.store.proofs.SoundFacts.{Facts, facts}
-use Rattle.pages.specs.Code.Gathered.{Gathered, codeFrom}
+use Rattle.pages.specs.Gathered.{Gathered, codeFrom}
 
 module _ {s : List ℕ} {base p t k : ℕ} (o : OfPage s base p t k) where
   abbrev m : Model

@@ -11,7 +11,7 @@ ghost use Rattle.lists.specs.Lists.{splice};
 ghost use Rattle.store.specs.Reading.{sumIn};
 ghost use Rattle.store.specs.Code.Links.{Steps};
 ghost use Rattle.store.specs.Code.Hours.{OfPage};
-ghost use Rattle.pages.specs.Code.Gathered.{Gathered, codeFrom};
+ghost use Rattle.pages.specs.Gathered.{Gathered, codeFrom};
 
 // Copies the codes of the k cells from the link at address e on to the front of out, 30 bytes each.
 fn copy_chain(s: &[u8], base: usize, e: usize, k: usize, out: &mut [u8])

@@ -40,7 +40,7 @@ pair-test s a x l h =
     pair (b ∷ d ∷ f ∷ bs) n e = absurd (omega (arith, n))
 
 -- what the header's tests but the last say
-pub record Headed (s : List ℕ) : Type 0 where
+pub record HeadNumbers (s : List ℕ) : Type 0 where
   pub long : 16 ≤ length s
   pub edition : numberAt s 0 2 ≡ 1
   pub gap : numberAt s 10 2 ≡ 0
@@ -48,7 +48,7 @@ pub record Headed (s : List ℕ) : Type 0 where
   pub hours : hoursOf s ≤ 64 * pagesOf s
 
 -- they leave the last: the total
-pub head-last : (s : List ℕ) → Headed s → leb (sum (tabulate (pagesOf s) (sumIn s))) 4294967295 ≡ every (headTests s)
+pub head-last : (s : List ℕ) → HeadNumbers s → leb (sum (tabulate (pagesOf s) (sumIn s))) 4294967295 ≡ every (headTests s)
 unfolding headTests
 head-last s h =
     let P : ℕ = pagesOf s in
@@ -83,7 +83,7 @@ head-last s h =
     )))
 
 -- and the other way: past the header's tests
-pub headed : (s : List ℕ) → every (headTests s) ≡ true → Headed s
+pub headed : (s : List ℕ) → every (headTests s) ≡ true → HeadNumbers s
 unfolding headTests
 headed s e =
     let w = each (headTests s) e in

@@ -1,5 +1,5 @@
 // The soundness check of the live store.
-mod chains;
+mod walk;
 
 ghost use mathlib.Core.Path.{_≡_};
 ghost use Rattle.store.specs.Sound.{sound};
@@ -11,5 +11,5 @@ pub fn check(s: &[u8]) -> bool
     if !sound_head::head_fits(s) {
         return false;
     }
-    chains::chains_fit(s)
+    walk::chains_fit(s)
 }

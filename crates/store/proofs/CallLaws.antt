@@ -1,8 +1,8 @@
 -- The calls that change a store, in the numbers that the code has. Assumes nothing.
-use mathlib.Core.Path.{_≡_, refl, sym, ap, ap₂, _∙_}
+use mathlib.Core.Path.{_≡_, refl, sym, ap, _∙_}
 use mathlib.Core.Bool.{Bool, true, false, not}
 use mathlib.Core.List.{List, [], _∷_, _++_}
-use Prim.Native.Nat.{ℕ, _+_, _*_, _/_, _≤_, _<_}
+use Prim.Native.Nat.{ℕ, _+_, _*_, _≤_, _<_}
 use native.Mathlib.Omega.{arith}
 use lib.ListN.{length, set}
 use borrow.Author.Tests.{eq-eqb, ne-eqb, le-leb, lt-leb, not-false, not-true}
@@ -11,7 +11,7 @@ use Rattle.store.specs.Plain.{Answer, Append, Call, Outcome, Plain, Set,
 use Rattle.store.specs.Layout.{bytesOf}
 use Rattle.store.specs.Reading.{listIn, read}
 use Rattle.store.specs.Sound.{sound}
-use Rattle.store.specs.Call.{Called, after, apply, call, hour}
+use Rattle.store.specs.Call.{Called, after, call, settle}
 use Rattle.store.specs.Code.Heads.{Heads}
 use Rattle.store.specs.declared.header.Header.{Header}
 use Rattle.store.specs.Code.Hours.{Asked, Changes, changeTo, withHour}
@@ -40,32 +40,31 @@ call-sound c s t r e a b = let w = sound-call c s e in record { answer = a ∙ w
 
 -- an answer that leaves the store as it is: a refusal, a number
 stays : (c : Call) (s : List ℕ) (a : Answer) → sound s ≡ true → step c (read s .plain) ≡ record { answer = a; list = read s .plain }
-    → ((p : ℕ) (o : Outcome) → apply (read s) p o a ≡ read s) → Called c s a s
+    → ((o : Outcome) → settle (read s) o a ≡ read s) → Called c s a s
 unfolding after
 stays c s a e st k =
     call-sound c s s a e (sym (ap (λ (o : Outcome). o .answer) st))
     (facts s e .same
     ∙ sym
-    (ap (λ (o : Outcome). bytesOf (apply (read s) (hour c (read s .plain) / 64) o (o .answer))) st
-    ∙ ap bytesOf (k (hour c (read s .plain) / 64) (record { answer = a; list = read s .plain }))))
+    (ap (λ (o : Outcome). bytesOf (settle (read s) o (o .answer))) st ∙ ap bytesOf (k (record { answer = a; list = read s .plain }))))
 
 pub refused-as : (c : Call) (s : List ℕ) (k : ℕ) → sound s ≡ true
     → step c (read s .plain) ≡ record { answer = refused k; list = read s .plain } → Called c s (refused k) s
-unfolding apply
-refused-as c s k e st = stays c s (refused k) e st (λ p o. refl)
+unfolding settle
+refused-as c s k e st = stays c s (refused k) e st (λ o. refl)
 
 pub answered-as : (c : Call) (s : List ℕ) (n : ℕ) → sound s ≡ true
     → step c (read s .plain) ≡ record { answer = answered n; list = read s .plain } → Called c s (answered n) s
-unfolding apply
-answered-as c s n e st = stays c s (answered n) e st (λ p o. refl)
+unfolding settle
+answered-as c s n e st = stays c s (answered n) e st (λ o. refl)
 
 -- a change of hour i is the call's
-changed-as : (c : Call) (s t : List ℕ) (i v : ℕ) (r : Answer) → sound s ≡ true → hour c (read s .plain) ≡ i → step c (read s .plain) ≡ changeTo s i v
+changed-as : (c : Call) (s t : List ℕ) (i v : ℕ) (r : Answer) → sound s ≡ true → step c (read s .plain) ≡ changeTo s i v
     → Changes s i v r t → Called c s r t
 unfolding after
-changed-as c s t i v r e h st w =
+changed-as c s t i v r e st w =
     call-sound c s t r e (w .answer ∙ sym (ap (λ (o : Outcome). o .answer) st))
-    (w .bytes ∙ sym (ap₂ (λ (x : ℕ) (o : Outcome). bytesOf (apply (read s) (x / 64) o (o .answer))) h st))
+    (w .bytes ∙ sym (ap (λ (o : Outcome). bytesOf (settle (read s) o (o .answer))) st))
 
 -- ---- append
 with-end : (xs : List ℕ) (v : ℕ) → withHour xs (length xs) v ≡ xs ++ v ∷ []
@@ -79,10 +78,6 @@ append-room L v l = rw (lt-leb (64 * L .pages) (length (L .counts)) l) (ap (chan
 append-full : (L : Plain) (v : ℕ) → 64 * L .pages ≤ length (L .counts) → step (Append v) L ≡ record { answer = refused 11; list = L }
 unfolding step pick
 append-full L v l = rw (le-leb (64 * L .pages) (length (L .counts)) l)
-
-append-hour : (v : ℕ) (L : Plain) → hour (Append v) L ≡ length (L .counts)
-unfolding hour
-append-hour v L = refl
 
 module _ {s : List ℕ} (v : ℕ) (e : sound s ≡ true) {H : Header} (h : Heads s H) where
   pub append-11 : 64 * H .pages ≤ H .hours → Called (Append v) s (refused 11) s
@@ -99,7 +94,7 @@ module _ {s : List ℕ} (v : ℕ) (e : sound s ≡ true) {H : Header} (h : Heads
   append-go {t} {r} l w =
       let f = facts s e in
       let i : length (listIn s) ≡ H .hours = omega (arith, f .hours-are, h .hours-is) in
-      changed-as (Append v) s t (H .hours) v r e (append-hour v (read s .plain) ∙ i)
+      changed-as (Append v) s t (H .hours) v r e
       (append-room (read s .plain) v (omega (arith, f .pages-are, h .pages-is))
       ∙ ap (λ (z : ℕ). change (read s .plain) (withHour (listIn s) z v)) i) w
 
@@ -116,10 +111,6 @@ set-past : (L : Plain) (i v : ℕ) → length (L .counts) ≤ i → step (Set i 
 unfolding step pick
 set-past L i v l = rw (le-leb (length (L .counts)) i l)
 
-set-hour : (i v : ℕ) (L : Plain) → hour (Set i v) L ≡ i
-unfolding hour
-set-hour i v L = refl
-
 module _ {s : List ℕ} (i v : ℕ) (e : sound s ≡ true) {H : Header} (h : Heads s H) where
   pub set-7 : H .hours ≤ i → Called (Set i v) s (refused 7) s
   set-7 l = refused-as (Set i v) s 7 e (set-past (read s .plain) i v (omega (arith, facts s e .hours-are, h .hours-is)))
@@ -133,4 +124,4 @@ module _ {s : List ℕ} (i v : ℕ) (e : sound s ≡ true) {H : Header} (h : Hea
   unfolding changeTo
   set-go {t} {r} l w =
       let f = facts s e in
-      changed-as (Set i v) s t i v r e (set-hour i v (read s .plain)) (set-room (read s .plain) i v (omega (arith, f .hours-are, h .hours-is))) w
+      changed-as (Set i v) s t i v r e (set-room (read s .plain) i v (omega (arith, f .hours-are, h .hours-is))) w

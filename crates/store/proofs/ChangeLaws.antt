@@ -12,13 +12,14 @@ use Rattle.store.specs.PageCode.{cells, pageBytes}
 use Rattle.store.specs.Plain.{Outcome, Plain, change, changed, need, page, refused, relisted}
 use Rattle.store.specs.Layout.{Model, bytesOf, entryAt, cellsFrom}
 use Rattle.store.specs.Reading.{listIn, pagesOf, read, sumIn}
-use Rattle.store.specs.Call.{apply}
+use Rattle.store.specs.Call.{settle}
 use Rattle.store.specs.Code.Links.{Ready, rewritten}
 use Rattle.store.specs.Code.Heads.{Heads}
 use Rattle.store.specs.declared.header.Header.{Header}
 use Rattle.store.specs.Code.Hours.{Asked, Changes, OfPage, changeTo, withHour}
 use Rattle.store.proofs.HourLaws.{With, getD-le, page-hour, page-set, page-sum, tabulate-le, with-hour}
 use Rattle.store.proofs.Keep.{need-off}
+use Rattle.store.proofs.OnePage.{settled-off}
 use Rattle.store.proofs.PageChange.{ready, rewritten-bytes}
 use Rattle.store.proofs.ReadBack.{page-le}
 use Rattle.store.proofs.SoundFacts.{Facts, facts, sum-read}
@@ -158,10 +159,10 @@ module _ {s : List ℕ} {i : ℕ} (v : ℕ) (q : Asked s i) {H : Header} (hd : H
   left = omega (arith, f .free-and-need, ap (need xs) pages-eq, f .cells-are)
 
   unchanged : (k : ℕ) → change (m .plain) ys ≡ record { answer = refused k; list = m .plain } → Changes s i v (refused k) s
-  unfolding apply changeTo
+  unfolding settle changeTo
   unchanged k e = record {
     answer = sym (ap (λ (o : Outcome). o .answer) e);
-    bytes = f .same ∙ sym (ap (λ (o : Outcome). bytesOf (apply m (i / 64) o (o .answer))) e);
+    bytes = f .same ∙ sym (ap (λ (o : Outcome). bytesOf (settle m o (o .answer))) e);
   }
 
   pub end-3 : 4294967295 < total - was + v → Changes s i v (refused 3) s
@@ -218,12 +219,13 @@ module _ {s : List ℕ} {i : ℕ} (v : ℕ) (q : Asked s i) {H : Header} (hd : H
     -- and what it leaves
     pub end-done : {t : List ℕ} {base rise fall : ℕ} → base ≡ cellsFrom (H .pages) → t ≡ rewritten s base p old n code after hours → rise ≡ n - old → fall ≡ old - n
         → Changes s i v (changed rise fall) t
-    unfolding apply changeTo
+    unfolding settle changeTo
     end-done eb e a b =
         let d = change-done (m .plain) ys small enough in
         record {
           answer = sym (ap (λ (o : Outcome). o .answer) d ∙ ap₂ changed (omega (arith, needs)) (omega (arith, needs)));
           bytes =
               e ∙ same-bytes eb ∙ rewritten-bytes m (f .good) s sp ys i (w .off) inside fits small enough
-              ∙ sym (ap (λ (o : Outcome). bytesOf (apply m p o (o .answer))) d);
+              ∙ sym (ap bytesOf (settled-off m ys i (f .good) (w .off) inside))
+              ∙ sym (ap (λ (o : Outcome). bytesOf (settle m o (o .answer))) d);
         }

@@ -5,8 +5,13 @@ pub mod PageCodeLaws
 pub mod Chained
 pub mod Keep
 pub mod FreshLaws
+pub mod Sized
+pub mod SettledGood
+pub mod OnePage
 pub mod StepLaws
 pub mod OneByOne
+pub mod CellByCell
+pub mod Orders
 pub mod Laying
 pub mod Holds
 pub mod ReadBack

@@ -2,21 +2,20 @@
 use mathlib.Core.Path.{_≡_, refl}
 use mathlib.Core.Bool.{Bool, true, false}
 use mathlib.Core.List.{List, [], _∷_, _++_}
-use Prim.Native.Nat.{ℕ, _+_, _-_, _*_, _/_, _≤_, _<_}
+use Prim.Native.Nat.{ℕ, _+_, _-_, _*_, _≤_, _<_}
 use native.Mathlib.Omega.{arith}
 use lib.ListN.{length, set, length-append, length-set}
-use lib.Seq.{getD-set-other}
 use lib.Dec.{ltb}
 use borrow.Author.Tests.{ltb-true, ltb-false, leb-false}
 use Rattle.lists.specs.Lists.{pick, sum}
-use Rattle.store.specs.Call.{after, apply, hour}
-use Rattle.store.specs.Layout.{Model, resize}
+use Rattle.store.specs.Call.{after, settle}
+use Rattle.store.specs.Settle.{settled}
+use Rattle.store.specs.Layout.{Model}
 use Rattle.store.specs.PageCode.{cells}
 use Rattle.store.specs.Plain.{Answer, Append, Call, Count, Day, Free, Outcome, Plain, Reach, relisted}
 use Rattle.store.specs.Plain.{Reading, Set, answered, change, changed, need, next, refused, step}
 use Rattle.store.specs.Sound.{Good}
-use Rattle.lists.proofs.Occurrences.{getD-snoc}
-use Rattle.store.proofs.Keep.{Off, keep}
+use Rattle.store.proofs.SettledGood.{settled-good}
 
 -- 'the rise and the fall of need'
 abbrev pub moved : Plain → List ℕ → Answer
@@ -37,62 +36,55 @@ change-is L ys = go (ltb 4294967295 (sum ys)) (ltb (L .cells) (need ys (L .pages
     go false true e d = rw (e, d) (short (ltb-false _ _ e) (ltb-true _ _ d))
     go false false e d = rw (e, d) (done (ltb-false _ _ e) (ltb-false _ _ d))
 
--- a call's end: a refusal or an answer that changes nothing, or a change of the hour i
-pub data End (L : Plain) (i : ℕ) : Outcome → Type 0 where
-  said : (n : ℕ) → End L i (record { answer = answered n; list = L })
-  not-done : (n : ℕ) → End L i (record { answer = refused n; list = L })
-  made : (ys : List ℕ) → Off (L .counts) ys i → i < 64 * L .pages → length ys ≤ 64 * L .pages → sum ys ≤ 4294967295
-      → need ys (L .pages) ≤ L .cells → End L i (record { answer = moved L ys; list = relisted L ys })
+-- a call's end: a refusal or an answer that changes nothing, or a new list
+pub data End (L : Plain) : Outcome → Type 0 where
+  said : (n : ℕ) → End L (record { answer = answered n; list = L })
+  not-done : (n : ℕ) → End L (record { answer = refused n; list = L })
+  made : (ys : List ℕ) → length ys ≤ 64 * L .pages → sum ys ≤ 4294967295 → need ys (L .pages) ≤ L .cells
+      → End L (record { answer = moved L ys; list = relisted L ys })
 
-change-end : {L : Plain} {ys : List ℕ} {o : Outcome} (i : ℕ) → Off (L .counts) ys i → i < 64 * L .pages → length ys ≤ 64 * L .pages
-    → Change L ys o → End L i o
-change-end i o li ly (over h) = not-done 3
-change-end i o li ly (short h j) = not-done 12
-change-end i o li ly (done h j) = made _ o li ly h j
+change-end : {L : Plain} {ys : List ℕ} {o : Outcome} → length ys ≤ 64 * L .pages → Change L ys o → End L o
+change-end ly (over h) = not-done 3
+change-end ly (short h j) = not-done 12
+change-end ly (done h j) = made _ ly h j
 
-pick-end : (L : Plain) (i : ℕ) (b : Bool) (x y : Outcome) → (b ≡ true → End L i x) → (b ≡ false → End L i y) → End L i (pick b x y)
+pick-end : (L : Plain) (b : Bool) (x y : Outcome) → End L x → (b ≡ false → End L y) → End L (pick b x y)
 unfolding pick
-pick-end L i true x y h j = h refl
-pick-end L i false x y h j = j refl
+pick-end L true x y h j = h
+pick-end L false x y h j = j refl
 
-pub step-end : (c : Call) (L : Plain) → length (L .counts) ≤ 64 * L .pages → End L (hour c L) (step c L)
-unfolding step hour
+pub step-end : (c : Call) (L : Plain) → length (L .counts) ≤ 64 * L .pages → End L (step c L)
+unfolding step
 step-end (Append v) L h =
-    pick-end L _ _ _ _ (λ _. not-done 11) (λ e.
+    pick-end L _ _ _ (not-done 11) (λ e.
     let l : length (L .counts) < 64 * L .pages = leb-false _ _ e in
-    change-end (length (L .counts)) (getD-snoc (L .counts) v) l (omega (arith, length-append (L .counts) (v ∷ [])))
-    (change-is L (L .counts ++ v ∷ [])))
-step-end (Set i v) L h =
-    pick-end L _ _ _ _ (λ _. not-done 7) (λ e.
-    let l : i < length (L .counts) = leb-false _ _ e in
-    change-end i (λ j ne. getD-set-other (L .counts) i j v 0 ne) (omega arith) (omega (arith, length-set (L .counts) i v))
-    (change-is L (set (L .counts) i v)))
-step-end (Count i) L h = pick-end L _ _ _ _ (λ _. not-done 7) (λ _. said _)
-step-end (Reading i) L h = pick-end L _ _ _ _ (λ _. not-done 7) (λ _. said _)
-step-end (Reach p) L h = pick-end L _ _ _ _ (λ _. not-done 8) (λ _. said _)
-step-end (Day d) L h = pick-end L _ _ _ _ (λ _. not-done 7) (λ _. said _)
+    change-end (omega (arith, length-append (L .counts) (v ∷ []))) (change-is L (L .counts ++ v ∷ [])))
+step-end (Set i v) L h = pick-end L _ _ _ (not-done 7) (λ e. change-end (omega (arith, length-set (L .counts) i v)) (change-is L (set (L .counts) i v)))
+step-end (Count i) L h = pick-end L _ _ _ (not-done 7) (λ _. said _)
+step-end (Reading i) L h = pick-end L _ _ _ (not-done 7) (λ _. said _)
+step-end (Reach p) L h = pick-end L _ _ _ (not-done 8) (λ _. said _)
+step-end (Day d) L h = pick-end L _ _ _ (not-done 7) (λ _. said _)
 step-end Free L h = said _
 
-apply-good : (m : Model) (i : ℕ) {o : Outcome} → Good m → End (m .plain) i o → Good (apply m (i / 64) o (o .answer))
-unfolding apply
-apply-good m i g (said n) = g
-apply-good m i g (not-done n) = g
-apply-good m i g (made ys o li ly ls ln) = keep m ys i g o li ly ls ln
+settle-good : (m : Model) {o : Outcome} → Good m → End (m .plain) o → Good (settle m o (o .answer))
+unfolding settle
+settle-good m g (said n) = g
+settle-good m g (not-done n) = g
+settle-good m g (made ys ly ls ln) = settled-good m ys g ln ly ls
 
 pub after-good : (c : Call) (m : Model) → Good m → Good (after c m)
 unfolding after
-after-good c m g = apply-good m (hour c (m .plain)) g (step-end c (m .plain) (g .hours))
+after-good c m g = settle-good m g (step-end c (m .plain) (g .hours))
 
-apply-plain : (m : Model) (i : ℕ) {o : Outcome} → End (m .plain) i o
-    → apply m (i / 64) o (o .answer) .plain ≡ o .list
-unfolding apply resize
-apply-plain m i (said n) = refl
-apply-plain m i (not-done n) = refl
-apply-plain m i (made ys o li ly ls ln) = refl
+settle-plain : (m : Model) {o : Outcome} → End (m .plain) o → settle m o (o .answer) .plain ≡ o .list
+unfolding settle settled
+settle-plain m (said n) = refl
+settle-plain m (not-done n) = refl
+settle-plain m (made ys ly ls ln) = refl
 
 pub after-plain : (c : Call) (m : Model) → Good m → after c m .plain ≡ next c (m .plain)
 unfolding after next
-after-plain c m g = apply-plain m (hour c (m .plain)) (step-end c (m .plain) (g .hours))
+after-plain c m g = settle-plain m (step-end c (m .plain) (g .hours))
 
 -- ---- P and C stay those that fresh was given
 pick-keeps : (b : Bool) (x y : Outcome) (n : ℕ) (f : Plain → ℕ) → f (x .list) ≡ n → f (y .list) ≡ n → f (pick b x y .list) ≡ n

@@ -2,7 +2,7 @@
 use mathlib.Core.Path.{_≡_, refl, sym, ap, _∙_}
 use mathlib.Core.Bool.{Bool, true, false}
 use mathlib.Core.List.{List, [], _∷_}
-use Prim.Native.Nat.{ℕ, zero, suc, _/_}
+use Prim.Native.Nat.{ℕ, zero, suc}
 use native.Mathlib.Omega.{arith}
 use lib.ListN.{getD, take}
 use Rattle.lists.specs.Lists.{pick}
@@ -11,13 +11,13 @@ use Rattle.store.specs.Plain.{Answer, Call, Outcome, answered, refused, 
 use Rattle.store.specs.Layout.{Model, bytesOf, fresh}
 use Rattle.store.specs.Reading.{read}
 use Rattle.store.specs.Sound.{sound}
-use Rattle.store.specs.Call.{Result, after, apply, call, freshCall, freshFits, hour, storeAnswers, storeEnd}
+use Rattle.store.specs.Call.{Result, after, call, freshCall, settle, storeAnswers, storeEnd}
 use Rattle.store.proofs.CallLaws.{call-10, sound-call}
 use Rattle.store.proofs.SoundFacts.{facts}
 
 -- an answer that leaves any model as it is
 abbrev Keeps : Answer → Type 0
-Keeps a = (m : Model) (p : ℕ) (o : Outcome) → apply m p o a ≡ m
+Keeps a = (m : Model) (o : Outcome) → settle m o a ≡ m
 
 -- ---- a live call
 -- a sound store's bytes are those of what they say: the same after a call whose answer leaves this as it is
@@ -31,17 +31,17 @@ keeps c s a k q = go (sound s) refl
         let w = sound-call c s e in
         let L = read s .plain in
         sym (w .bytes)
-        ∙ ap (λ (z : Answer). bytesOf (apply (read s) (hour c L / 64) (step c L) z)) (w .answer ∙ q)
-        ∙ ap bytesOf (k (read s) (hour c L / 64) (step c L))
+        ∙ ap (λ (z : Answer). bytesOf (settle (read s) (step c L) z)) (w .answer ∙ q)
+        ∙ ap bytesOf (k (read s) (step c L))
         ∙ sym (facts s e .same)
 
 pub refused-keeps : (c : Call) (s : List ℕ) (k : ℕ) → call c s .answer ≡ refused k → call c s .bytes ≡ s
-unfolding apply
-refused-keeps c s k = keeps c s (refused k) (λ m p o. refl)
+unfolding settle
+refused-keeps c s k = keeps c s (refused k) (λ m o. refl)
 
 pub answered-keeps : (c : Call) (s : List ℕ) (n : ℕ) → call c s .answer ≡ answered n → call c s .bytes ≡ s
-unfolding apply
-answered-keeps c s n = keeps c s (answered n) (λ m p o. refl)
+unfolding settle
+answered-keeps c s n = keeps c s (answered n) (λ m o. refl)
 
 -- ---- fresh
 pub fresh-refused-keeps : (b : List ℕ) (P C k : ℕ) → freshCall b P C .answer ≡ refused k → freshCall b P C .bytes ≡ b

@@ -51,7 +51,7 @@ unfolding occurrences
 zeros-marked C d l = zeros-at 1801 d
 
 -- they hold
-pub record Headed (s : List ℕ) : Type 0 where
+pub record HeadHolds (s : List ℕ) : Type 0 where
   pub long : 16 ≤ length s
   pub edition : part s 0 2 ≡ 1 ∷ 0 ∷ []
   pub gap : part s 10 2 ≡ 0 ∷ 0 ∷ []
@@ -59,7 +59,7 @@ pub record Headed (s : List ℕ) : Type 0 where
   pub hours : hoursOf s ≤ 64 * pagesOf s
   pub total : sum (tabulate (pagesOf s) (sumIn s)) ≤ 4294967295
 
-pub head-each : (s : List ℕ) → Headed s → Each (headTests s)
+pub head-each : (s : List ℕ) → HeadHolds s → Each (headTests s)
 unfolding headTests
 head-each s h =
     let w = h .fitting in

@@ -18,7 +18,7 @@ use Rattle.store.proofs.Holds.{holds-bytes}
 use Rattle.store.proofs.PageCodeLaws.{cells-most}
 use Rattle.store.proofs.ReadBack.{page-le, read-is}
 use Rattle.store.proofs.SoundLaws.{sound-bytes}
-use Rattle.store.proofs.StepLaws.{Change, after-good, after-plain, change-is, done, over, short}
+use Rattle.store.proofs.StepLaws.{Change, after-good, after-plain, change-is, done, over, short, next-cells, next-pages}
 
 pub call-good : (c : Call) (m : Model) → Good m → call c (bytesOf m) ≡ record { answer = step c (m .plain) .answer; bytes = bytesOf (after c m) }
 unfolding call pick

@@ -3,34 +3,24 @@ use mathlib.Core.List.{List, [], _∷_}
 use mathlib.Core.Path.{_≡_}
 use Prim.Native.Nat.{ℕ, _/_}
 use lib.ListN.{length}
-use Rattle.lists.specs.Lists.{pick, sum}
-use Rattle.store.specs.PageCode.{cells}
-use Rattle.store.specs.Plain.{Plain, Call, Append, Set, Count, Reading, Reach, Day}
-use Rattle.store.specs.Plain.{Free, Answer, changed, answered, refused, Outcome, page, step}
-use Rattle.store.specs.Layout.{Model, bytesOf, fresh, resize}
+use Rattle.lists.specs.Lists.{pick}
+use Rattle.store.specs.Plain.{Answer, Append, Call, Outcome, Plain, Set, answered, changed, refused, step}
+use Rattle.store.specs.Layout.{Model, bytesOf, fresh}
 use Rattle.store.specs.Limits.{fits}
+use Rattle.store.specs.OneCell.{giveCell, listed, takeCell, times}
+use Rattle.store.specs.Settle.{settled, settledByCells}
 use Rattle.store.specs.Reading.{read}
 use Rattle.store.specs.Sound.{sound}
 
--- the hour that a call changes
-unfoldable pub hour : Call → Plain → ℕ
-hour (Append v) L = length (L .counts)
-hour (Set i v) L = i
-hour (Count i) L = 0
-hour (Reading i) L = 0
-hour (Reach p) L = 0
-hour (Day d) L = 0
-hour Free L = 0
-
--- an accepted append or set gives page p the cells that it now needs; nothing else changes anything
-unfoldable pub apply : Model → ℕ → Outcome → Answer → Model
-apply m p o (changed r f) = resize m (o .list .counts) p (cells (sum (page (o .list .counts) p)))
-apply m p o (answered n) = m
-apply m p o (refused k) = m
+-- an accepted change settles the chains; nothing else changes anything
+unfoldable pub settle : Model → Outcome → Answer → Model
+settle m o (changed r f) = settled m (o .list)
+settle m o (answered n) = m
+settle m o (refused k) = m
 
 -- the store after a call
 unfoldable pub after : Call → Model → Model
-after c m = apply m (hour c (m .plain) / 64) (step c (m .plain)) (step c (m .plain) .answer)
+after c m = settle m (step c (m .plain)) (step c (m .plain) .answer)
 
 -- what a call answers, and the bytes afterwards
 pub record Result : Type 0 where
@@ -65,3 +55,20 @@ freshCall b P C =
 pub record Started (b : List ℕ) (P C : ℕ) (r : Answer) (t : List ℕ) : Type 0 where
   pub answer : r ≡ freshCall b P C .answer
   pub bytes : t ≡ freshCall b P C .bytes
+
+-- a call that changes one hour, i
+pub data OneHour : Call → Plain → ℕ → Type 0 where
+  appended : (v : ℕ) (L : Plain) → OneHour (Append v) L (length (L .counts))
+  setAt : (i v : ℕ) (L : Plain) → OneHour (Set i v) L i
+
+-- An accepted append or set of hour i, on any bytes: its page gives back the f cells and takes the r cells that are answered, and that is
+-- all that changes on any chain
+abbrev pub HourInOrder : Type 0
+HourInOrder = (c : Call) (s : List ℕ) (i r f : ℕ) → OneHour c (read s .plain) i → call c s .answer ≡ changed r f
+    → read (call c s .bytes) ≡ listed (step c (read s .plain) .list .counts) (times r (takeCell (i / 64)) (times f (giveCell (i / 64)) (read s)))
+
+-- An accepted change, on any bytes: first the pages that shrink give back cells and then those that grow take cells, one by one, and that is
+-- all that changes on any chain
+abbrev pub CellsInOrder : Type 0
+CellsInOrder = (c : Call) (s : List ℕ) (r f : ℕ) → call c s .answer ≡ changed r f
+    → read (call c s .bytes) ≡ settledByCells (read s) (step c (read s .plain) .list)

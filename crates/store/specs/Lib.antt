@@ -4,6 +4,7 @@ pub mod Plain
 pub mod Layout
 pub mod Limits
 pub mod OneCell
+pub mod Settle
 pub mod Reading
 pub mod Sound
 pub mod Call

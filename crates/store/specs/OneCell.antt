@@ -1,13 +1,11 @@
 -- Document 01, 'The live store': cells that a page takes and gives back, one at a time. Assumes nothing.
 use mathlib.Core.List.{List, [], _∷_, _++_}
 use mathlib.Core.Path.{_≡_}
-use Prim.Native.Nat.{ℕ, zero, suc, _+_, _-_, _/_, _≤_}
+use Prim.Native.Nat.{ℕ, zero, suc, _+_, _-_, _≤_}
 use lib.ListN.{length, getD, take, drop, set}
 use Rattle.lists.specs.Lists.{first}
-use Rattle.store.specs.Plain.{Call, changed, relisted, step}
+use Rattle.store.specs.Plain.{relisted}
 use Rattle.store.specs.Layout.{Model, resize}
-use Rattle.store.specs.Reading.{read}
-use Rattle.store.specs.Call.{call, hour}
 
 -- page p's chain
 abbrev pub chainOf : Model → ℕ → List ℕ
@@ -43,10 +41,3 @@ pub record InOrder (m : Model) (ys : List ℕ) (p : ℕ) : Type 0 where
   pub shrunk : (k : ℕ) → k ≤ length (chainOf m p)
       → resize m ys p k ≡ listed ys (rechained m p (take k (chainOf m p)) (drop k (chainOf m p) ++ m .spare))
   pub gives : (k d : ℕ) → k + d ≡ length (chainOf m p) → resize m ys p k ≡ listed ys (times d (giveCell p) m)
-
--- An accepted append or set of hour i, on any bytes: its page gives back the f cells and takes the r cells that are answered, and that is
--- all that changes on any chain
-abbrev pub CellsInOrder : Type 0
-CellsInOrder = (c : Call) (s : List ℕ) (r f : ℕ) → call c s .answer ≡ changed r f
-    → let p = hour c (read s .plain) / 64 in
-    read (call c s .bytes) ≡ listed (step c (read s .plain) .list .counts) (times r (takeCell p) (times f (giveCell p) (read s)))

@@ -2,7 +2,7 @@
 use mathlib.Core.Bool.{true}
 use mathlib.Core.List.{List, [], _∷_, _++_}
 use mathlib.Core.Path.{_≡_}
-use Prim.Native.Nat.{ℕ, _*_, _/_, _≤_, _<_}
+use Prim.Native.Nat.{ℕ, _*_, _≤_, _<_}
 use lib.ListN.{length, set}
 use lib.Dec.{eqb}
 use Rattle.lists.specs.Lists.{pick}
@@ -11,7 +11,7 @@ use Rattle.store.specs.Plain.{Answer, Outcome, change}
 use Rattle.store.specs.Layout.{bytesOf, cellsFrom}
 use Rattle.store.specs.Reading.{listIn, pagesOf, read, sumIn}
 use Rattle.store.specs.Sound.{sound}
-use Rattle.store.specs.Call.{apply}
+use Rattle.store.specs.Call.{settle}
 
 -- a store that is sound, with a page for hour i, which is logged or the next to be logged
 pub record Asked (s : List ℕ) (i : ℕ) : Type 0 where
@@ -38,4 +38,4 @@ changeTo s i v = change (read s .plain) (withHour (listIn s) i v)
 -- the answer r and the bytes t are those of this change
 pub record Changes (s : List ℕ) (i v : ℕ) (r : Answer) (t : List ℕ) : Type 0 where
   pub answer : r ≡ changeTo s i v .answer
-  pub bytes : t ≡ bytesOf (apply (read s) (i / 64) (changeTo s i v) (changeTo s i v .answer))
+  pub bytes : t ≡ bytesOf (settle (read s) (changeTo s i v) (changeTo s i v .answer))

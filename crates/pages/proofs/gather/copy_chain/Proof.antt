@@ -7,7 +7,7 @@ use lib.ListN.{length}
 use Rattle.lists.specs.Lists.{splice}
 use Rattle.store.specs.Code.Links.{Steps}
 use Rattle.chains.proofs.LinkSteps.{step-of}
-use Rattle.pages.specs.Code.Gathered.{codeFrom}
+use Rattle.pages.specs.Gathered.{codeFrom}
 use Rattle.pages.proofs.Gathering.{all-copied, turned}
 use borrow.Author.Needs.{needs}
 use Rattle.pages.proofs.gather.copy_chain.Statement.{statement}

@@ -1,4 +1,4 @@
--- `soundness::chains::chains_fit` meets its contract. The invariants: the answer is that of the pages, and of the page's cells, that are
+-- `soundness::walk::chains_fit` meets its contract. The invariants: the answer is that of the pages, and of the page's cells, that are
 -- left; the code of the cells that were passed is gathered. Assumes nothing.
 use mathlib.Core.Path.{_≡_, refl, sym, ap, ap₂, _∙_}
 use mathlib.Core.Bool.{Bool, true, false}
@@ -20,8 +20,8 @@ use Rattle.soundness.proofs.ChainTest.{SoFar, cell-broken, cell-next, c
 use Rattle.soundness.proofs.ChainTest.{page-open, page-start, page-wrong, pages-end, pages-start, pagesOn}
 use Rattle.sound_free.proofs.CellTest.{cell-range, good-cell, met-cell, no-cell}
 use borrow.Author.Needs.{needs}
-use Rattle.soundness.proofs.chains.chains_fit.Statement.{statement}
-use Rattle.soundness.proofs.chains.chains_fit.Tie as tie
+use Rattle.soundness.proofs.walk.chains_fit.Statement.{statement}
+use Rattle.soundness.proofs.walk.chains_fit.Tie as tie
 
 clash : (b : Bool) → b ≡ false → b ≡ true → ⊥
 clash b p q = let z : _≡_ {A = ℕ} 0 1 = cc in omega arith
