@@ -1,16 +1,13 @@
 -- The bytes that fresh writes are those of a fresh store. Assumes nothing.
 use mathlib.Core.Path.{_≡_, refl, sym, ap, ap₂, _∙_}
-use mathlib.Core.Bool.{Bool, true, false, _&&_}
-use mathlib.Core.Logic.{_↔_}
+use mathlib.Core.Bool.{true, false}
 use mathlib.Core.List.{List, [], _∷_}
 use Prim.Native.Nat.{ℕ, zero, suc, _+_, _-_, _*_, _≤_, _<_}
 use native.Mathlib.Nat.{not-suc-le-zero}
 use native.Mathlib.Omega.{arith}
 use native.Mathlib.Decide.{ℕ-discrete}
 use lib.ListN.{length, replicate, length-replicate}
-use lib.Dec.{leb, eqb}
-use borrow.Author.Tests.{le-leb, lt-leb, eq-eqb, leb-true, eqb-true}
-use Rattle.lists.specs.Lists.{concat, every, part, pick, tabulate}
+use Rattle.lists.specs.Lists.{concat, part, pick, tabulate}
 use Rattle.bits.specs.Numbers.{little}
 use Rattle.store.specs.Limits.{Limits, fits}
 use Rattle.store.specs.Plain.{answered, refused}
@@ -22,7 +19,6 @@ use Rattle.fresh.specs.Code.Header.{Headed}
 use Rattle.fresh.specs.Code.Cells.{chained}
 use Rattle.store.specs.declared.header.Header.{Header}
 use Rattle.lists.proofs.Tables.{getD-tabulate, tabulate-ext}
-use Rattle.lists.proofs.Tests.{each, every-of}
 use Rattle.lists.proofs.Zeros.{part-zeros}
 use Rattle.bits.proofs.Little.{little-zeros}
 use Rattle.store.proofs.FreshLaws.{cell-is, fresh-first, fresh-good, occurrences-upto, page-none}

@@ -1,5 +1,6 @@
 // The change of one hour's count.
 use bits::numbers::get4;
+use chains::rewrite::PageChange;
 use chains::rewrite::rewrite;
 use pages::code::code_of;
 use pages::counts::counts_at;
@@ -45,7 +46,13 @@ fn change_hour(s: &mut [u8], i: usize, v: u32, hours: usize) -> Answer
     }
     counts[j] = v;
     let code = code_of(counts, after);
-    rewrite(s, base, p, old, new, &code, after, hours);
+    let change = PageChange {
+        page: p,
+        old,
+        new,
+        sum: after,
+    };
+    rewrite(s, base, change, &code, hours);
     Answer::Changed(
         lists::excess(new, old) as u64,
         lists::excess(old, new) as u64,

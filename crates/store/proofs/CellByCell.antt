@@ -1,7 +1,7 @@
 -- Document 02's order, cell by cell. Assumes nothing.
 use mathlib.Core.Path.{_≡_, refl, sym, ap, _∙_}
-use mathlib.Core.List.{List, [], _++_}
-use Prim.Native.Nat.{ℕ, zero, suc, _+_, _-_, _*_, _≤_, _<_, min}
+use mathlib.Core.List.{List, []}
+use Prim.Native.Nat.{ℕ, zero, suc, _+_, _-_, _≤_, _<_, min}
 use native.Mathlib.Omega.{arith}
 use lib.ListN.{length}
 use Rattle.store.specs.Plain.{need, relisted}
@@ -10,7 +10,7 @@ use Rattle.store.specs.OneCell.{chainOf, giveCell, listed, takeCell, tim
 use Rattle.store.specs.Sound.{Good}
 use Rattle.store.proofs.OneByOne.{in-order}
 use Rattle.store.specs.Settle.{pagewise, settled, settledByCells, shrunk, sizeTo, wanted, withList}
-use Rattle.store.proofs.Sized.{Sized, enough-shrink, long, room, sized}
+use Rattle.store.proofs.Sized.{Sized, enough-shrink, room, sized}
 use Rattle.store.proofs.SettledGood.{grows-enough, shrunk-sized}
 
 -- ---- one page

@@ -1,10 +1,9 @@
 -- Document 01's order of taking and giving back cells, for the chains of a store. Assumes nothing.
 use mathlib.Core.Path.{_≡_, refl, sym, ap, ap₂, _∙_}
 use mathlib.Core.List.{List, [], _∷_, _++_, append-nil, append-assoc}
-use Prim.Native.Nat.{ℕ, zero, suc, _+_, _-_, _/_, _≤_, _<_}
+use Prim.Native.Nat.{ℕ, zero, suc, _+_, _-_, _≤_, _<_}
 use native.Mathlib.Nat.{not-suc-le-zero}
 use native.Mathlib.Omega.{arith}
-use native.Mathlib.Decide.{decLe}
 use lib.ListN.{length, getD, take, drop, length-set, length-drop, drop-of-length-le}
 use lib.Seq.{append-snoc, drop-append-add, drop-append-le, getD-set-same, length-take-le, set-getD, set-set}
 use lib.Seq.{take-all, take-append-add, take-append-le, take-suc, take-take}

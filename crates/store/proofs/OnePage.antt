@@ -1,20 +1,20 @@
 -- A change that needs other cells at one page only. Assumes nothing.
 use mathlib.Core.Path.{_≡_, refl, sym, ap, ap₂, _∙_}
 use mathlib.Core.List.{List, [], _++_}
-use Prim.Native.Nat.{ℕ, zero, suc, _+_, _*_, _/_, _≤_, _<_, min}
+use Prim.Native.Nat.{ℕ, zero, suc, _+_, _*_, _/_, _<_, min}
 use native.Mathlib.Omega.{arith}
 use native.Mathlib.Decide.{ℕ-discrete}
-use lib.ListN.{length, take, drop, set, take-append-drop}
+use lib.ListN.{length, take, drop, take-append-drop}
 use lib.Seq.{drop-append-seam, getD-set-same, set-getD, set-set, take-append-seam}
 use Rattle.lists.specs.Lists.{sum}
 use Rattle.store.specs.PageCode.{cells}
-use Rattle.store.specs.Plain.{page, relisted}
+use Rattle.store.specs.Plain.{relisted}
 use Rattle.store.specs.Layout.{Model, resize}
 use Rattle.store.specs.OneCell.{chainOf, rechained}
 use Rattle.store.specs.Sound.{Good}
 use Rattle.store.proofs.Keep.{Off, page-off}
 use Rattle.store.specs.Settle.{pagewise, settled, shrunk, sizeTo, wanted, withList}
-use Rattle.store.proofs.Sized.{long, sized-other, sized-rows}
+use Rattle.store.proofs.Sized.{long, sized-other}
 
 -- a page that keeps its cells
 stays : (m : Model) (p k : ℕ) → k ≡ long m p → sizeTo p k m ≡ m

@@ -1,13 +1,18 @@
 -- Definitions of the crate, in document 01's order.
+-- a page's code; the plain list
 pub mod PageCode
 pub mod Plain
+-- the format and the model: what a store's bytes are, its limits, how chains change
 pub mod Layout
 pub mod Limits
 pub mod OneCell
 pub mod Settle
+-- what bytes say, and when they are sound: computed, and clause by clause
 pub mod Reading
 pub mod Sound
+pub mod Items
+-- the calls on bytes, and the demands
 pub mod Call
 pub mod Answers
-pub mod Items
+-- what functions hand each other
 pub mod Code

@@ -1,5 +1,5 @@
 -- How the chains change when the list does, in any number of pages. Assumes nothing.
-use mathlib.Core.List.{List, [], _∷_, _++_}
+use mathlib.Core.List.{List, _++_}
 use Prim.Native.Nat.{ℕ, zero, suc, _-_, min}
 use lib.ListN.{length, take, drop}
 use Rattle.lists.specs.Lists.{sum}

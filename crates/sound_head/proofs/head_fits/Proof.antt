@@ -1,6 +1,6 @@
 -- `sound_head::head_fits` meets its contract: each return is one of the header's tests. Assumes nothing.
 use mathlib.Core.Path.{sym, ap, ap₂, subst₂, _∙_}
-use Prim.Native.Nat.{ℕ, _+_, _*_}
+use Prim.Native.Nat.{ℕ, _*_}
 use native.Mathlib.Omega.{arith}
 use lib.ListN.{length}
 use lib.Dec.{leb}

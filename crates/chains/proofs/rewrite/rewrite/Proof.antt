@@ -62,7 +62,7 @@ returns c =
     let b = c .before .before .before .before .before .before .before .before .before .before in
     let d = b .before .before .before .before .before .before .before .before .before .before .before .before in
     let a = d .before .before .before .before .before .before .before .before .args in
-    rewritten-is (a .s .now) _ _ _ _ _ _ (a .code .now) (a .base) (a .p) _ (a .old) (a .new) _ _ (a .sum) (a .hours)
+    rewritten-is (a .s .now) _ _ _ _ _ _ (a .code .now) (a .base) (a .c .page) _ (a .c .old) (a .c .new) _ _ (a .c .sum) (a .hours)
     (d .before .before .before .before .before .entry-at .ensures) (d .before .before .before .link .ensures .is) (d .before .before .larger .ensures)
     (d .join .ensures)
     (b .before .before .before .before .before .before .before .before .fill .ensures) (b .before .before .before .before .cut .ensures)
