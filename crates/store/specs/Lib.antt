@@ -11,7 +11,7 @@ pub mod Settle
 pub mod Reading
 pub mod Sound
 pub mod Items
--- the calls on bytes, and the demands
+-- the calls on bytes
 pub mod Call
 pub mod Answers
 -- what functions hand each other
