@@ -60,6 +60,12 @@ fn count(kind: Kind, hour_of_day: usize, random: &mut Random) -> u32 {
     count as u32
 }
 
+/// Hours to ask for one after another, as a report over some months does.
+pub fn in_order(number: usize) -> Vec<u64> {
+    let first = (HOURS - number) as u64 / 2;
+    (first..first + number as u64).collect()
+}
+
 /// Hours or figures to ask for, below a limit.
 pub fn questions(limit: u64, number: usize) -> Vec<u64> {
     let mut random = Random::new(11);

@@ -16,7 +16,7 @@ use tasks::Task;
 fn main() {
     let contenders = contender::all();
     println!(
-        "{:<24} {:>9} {:>9} {:>9}   {:>9} {:>9}",
+        "{:<28} {:>9} {:>9} {:>9}   {:>9} {:>9}",
         "", "library", "straight", "fast", "lib/strai", "lib/fast"
     );
     for kind in Kind::ALL {
@@ -34,7 +34,7 @@ fn main() {
 fn measure(contenders: &[Contender; 3], on: &str, mut task: Task) {
     let [library, straightforward, fast] = timing::best_of_many(contenders, &mut task);
     println!(
-        "{:<24} {library:>9.2} {straightforward:>9.2} {fast:>9.2}   {:>9.2} {:>9.2}",
+        "{:<28} {library:>9.2} {straightforward:>9.2} {fast:>9.2}   {:>9.2} {:>9.2}",
         format!("{} {on}, {}", task.name, task.unit),
         library / straightforward,
         library / fast

@@ -1,7 +1,7 @@
 //! What is timed.
 
 use crate::contender::Contender;
-use crate::data::{questions, HOURS};
+use crate::data::{in_order, questions, HOURS};
 use crate::filled::filled;
 use std::rc::Rc;
 
@@ -30,16 +30,14 @@ pub fn over_image(counts: &[u32]) -> Vec<Task> {
     let total = counts.iter().map(|&count| u64::from(count)).sum::<u64>();
     let mut image = vec![0; rival::image::length::<rival::Fast>(&counts, E) as usize];
     rival::image::write::<rival::Fast>(&counts, E, &mut image);
-    let hours = questions(HOURS as u64, QUESTIONS);
-    let (count_hours, reading_hours) = (hours.clone(), hours);
+    let random = questions(HOURS as u64, QUESTIONS);
+    let ordered = in_order(QUESTIONS);
     let figures = questions(total + 1, QUESTIONS);
     vec![
-        asking("count", &image, move |by, bytes| {
-            all_answers(&count_hours, |hour| (by.count)(bytes, hour as u32))
-        }),
-        asking("reading", &image, move |by, bytes| {
-            all_answers(&reading_hours, |hour| (by.reading)(bytes, hour as u32))
-        }),
+        counting("count", &image, random.clone()),
+        reading("reading", &image, random),
+        counting("count in order", &image, ordered.clone()),
+        reading("reading in order", &image, ordered),
         asking("reach", &image, move |by, bytes| {
             all_answers(&figures, |figure| (by.reach)(bytes, figure))
         }),
@@ -49,6 +47,18 @@ pub fn over_image(counts: &[u32]) -> Vec<Task> {
         }),
         whole("check", &image, |by, bytes| (by.check)(bytes)),
     ]
+}
+
+fn counting(name: &'static str, image: &[u8], hours: Vec<u64>) -> Task {
+    asking(name, image, move |by, bytes| {
+        all_answers(&hours, |hour| (by.count)(bytes, hour as u32))
+    })
+}
+
+fn reading(name: &'static str, image: &[u8], hours: Vec<u64>) -> Task {
+    asking(name, image, move |by, bytes| {
+        all_answers(&hours, |hour| (by.reading)(bytes, hour as u32))
+    })
 }
 
 /// Appends to a store of which most pages hold data, each with its full check.
