@@ -15,7 +15,7 @@ use Rattle.image.specs.Check.{accepted, headed}
 use Rattle.image.specs.Reach.{Free as Latitude, If, Reach, says-six}
 use Rattle.image.specs.Read.{listOf, nOf, sOf}
 use Rattle.image.specs.Reply.{Reply, given, refused}
-use Rattle.image.proofs.Made.{write-refused}
+use Rattle.image.proofs.CallLaws.{write-refused}
 use Rattle.freeze.specs.Freeze.{freezeCall}
 use Rattle.freeze.proofs.Freezing.{freeze-refused}
 use Rattle.hourlog_c.specs.Public.{End, Ends, Fresh, Freeze, ImageCheck, ImageCount, ImageLength, ImageReach, ImageReading, ImageWrite, Live}

@@ -1,5 +1,5 @@
 -- Demand 2, proved. Assumes nothing.
-use Rattle.image.proofs.Made.{length-only}
+use Rattle.image.proofs.CallLaws.{length-only}
 use Rattle.demands.specs.Demand2.{Demand2}
 use Rattle.demands.proofs.ImageRanges.{in-cells, in-image, ranges-of}
 use Rattle.demands.proofs.Theorems.{accepted-exactly, check-accepted, check-holds, count-accepted, reach-accepted, reading-accepted, reads-back}

@@ -20,7 +20,7 @@ use Rattle.pages.proofs.Coding.{tree-at}
 use Rattle.image.specs.Image.{Limits, code, codeStart, image, page, pages, start}
 use Rattle.image.specs.Read.{codeAt, startOf, treeAt, widthOf}
 use Rattle.demands.specs.Demand2.{Coded, InCells, InImage, Ranges, Related, around, before, behind, nodeIn, pageStart, treeStart, within}
-use Rattle.image.proofs.Back.{code-is, start-is, tree-is, width-is}
+use Rattle.image.proofs.ReadLaws.{code-is, start-is, tree-is, width-is}
 use Rattle.image.proofs.PageLaws.{start-next, start-within}
 
 -- ---- in one tree

@@ -16,7 +16,7 @@ use Rattle.tree.proofs.Shape.{counts-tree}
 use Rattle.image.specs.Check.{accepted}
 use Rattle.image.specs.Image.{Limits, image, page, pages}
 use Rattle.image.specs.Read.{listOf, pageOf, treeAt}
-use Rattle.image.proofs.Back.{e-is, headed-image, n-is, pages-is, sum-is, tree-is}
+use Rattle.image.proofs.ReadLaws.{e-is, headed-image, n-is, pages-is, sum-is, tree-is}
 use Rattle.image.proofs.PageLaws.{length-page, pages-cover}
 
 -- the pages, one after another, begin with the list

@@ -14,10 +14,10 @@ use Rattle.image.specs.Query.{count, look, reading, readingAt, theCount}
 use Rattle.image.specs.Reach.{Reach, above-total, any-index, damage, header-wrong, smallest}
 use Rattle.image.specs.Read.{eOf, listOf, nOf, sOf}
 use Rattle.image.specs.Reply.{Reply, given, refused}
-use Rattle.image.proofs.Back.{e-is, headed-image, n-is, s-is}
+use Rattle.image.proofs.ReadLaws.{e-is, headed-image, n-is, s-is}
 use Rattle.image.proofs.Accepted.{accepted-only, length-list}
 use Rattle.image.proofs.HeadLaws.{never}
-use Rattle.image.proofs.Looks.{look-is, reading-at}
+use Rattle.image.proofs.QueryLaws.{look-is, reading-at}
 use Rattle.demands.proofs.ListBack.{accepted-image, list-is}
 
 -- ---- accepted exactly when there is a list whose image the bytes are

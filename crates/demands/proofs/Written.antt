@@ -18,8 +18,8 @@ use Rattle.store.specs.Sound.{sound}
 use Rattle.freeze.specs.Freeze.{freezeCall}
 use Rattle.freeze.proofs.Freezing.{freeze-sound}
 use Rattle.demands.specs.Demand2.{HasRoom, Written}
-use Rattle.image.proofs.Back.{length-image}
-use Rattle.image.proofs.Made.{length-only, length-within, write-put}
+use Rattle.image.proofs.ReadLaws.{length-image}
+use Rattle.image.proofs.CallLaws.{length-only, length-within, write-put}
 
 -- a list within the limits has a length, which N, e and L give; no other has one (`length-only`)
 pub length-is : (e : ℕ) (xs : List ℕ) → Limits e xs → lengthCall e xs ≡ given (size e (length xs) (length (code e xs)))

@@ -21,7 +21,7 @@ use Rattle.store.proofs.SoundFacts.{facts}
 use Rattle.image.specs.Calls.{Wrote, lengthCall, unwritten, writeCall}
 use Rattle.image.specs.Image.{image}
 use Rattle.image.specs.Reply.{given, refused}
-use Rattle.image.proofs.Made.{write-refused}
+use Rattle.image.proofs.CallLaws.{write-refused}
 use Rattle.freeze.specs.Freeze.{freezeCall}
 use Rattle.freeze.proofs.Listing.{front-of, put-length}
 

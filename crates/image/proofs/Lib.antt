@@ -1,11 +1,11 @@
 -- Laws of the definitions.
 pub mod Packed
 pub mod PageLaws
-pub mod Back
+pub mod ReadLaws
 pub mod Accepted
 pub mod DamageLaws
-pub mod Looks
+pub mod QueryLaws
 pub mod HeadLaws
 pub mod RootLaws
-pub mod Made
+pub mod CallLaws
 pub mod Sizes

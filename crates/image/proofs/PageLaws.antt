@@ -1,6 +1,6 @@
 -- Pages of a list. Assumes nothing.
 use mathlib.Core.Path.{_≡_, sym, ap, ap₂, _∙_}
-use mathlib.Core.List.{List}
+use mathlib.Core.List.{List, [], _∷_}
 use Prim.Native.Nat.{ℕ, zero, suc, _+_, _-_, _*_, _/_, _%_, _^_, _≤_, _<_}
 use native.Mathlib.Nat.{mul-le-mul-left, mul-le-mul-right, mul-suc, div-mul-le-self, lt-div-mul-add, lt-of-mul-lt-mul-left, div-add-mod', mod-lt}
 use native.Mathlib.Omega.{arith}
@@ -18,7 +18,7 @@ use Rattle.reserve.proofs.Fit.{bound}
 use Rattle.reserve.proofs.Line.{A, B}
 use Rattle.tree.specs.Tree.{tree}
 use Rattle.tree.proofs.Shape.{length-tree}
-use Rattle.image.specs.Image.{Limits, code, maxHours, maxTotal, page, pageCode, pages, root, start}
+use Rattle.image.specs.Image.{Limits, code, maxCount, maxHours, maxTotal, page, pageCode, pages, root, start}
 
 -- ---- how many pages
 cover-alg : (n m k : ℕ) → 1 ≤ m → n + (m - 1) < k * m + m → n ≤ m * k
@@ -101,6 +101,16 @@ root-le e xs p = sum-take-le (2 ^ e * suc p) xs
 
 pub page-le : (e : ℕ) (xs : List ℕ) (p : ℕ) → sum (page e xs p) ≤ sum xs
 page-le e xs p = omega (arith, page-sum e xs p, root-le e xs p)
+
+-- a list that has an image has counts of document 01 alone
+count-le : (xs : List ℕ) (i : ℕ) → getD xs i 0 ≤ sum xs
+unfolding sum
+count-le [] i = omega arith
+count-le (x ∷ xs) zero = omega arith
+count-le (x ∷ xs) (suc i) = omega (arith, count-le xs i)
+
+pub count-most : {e : ℕ} {xs : List ℕ} → Limits e xs → (i : ℕ) → getD xs i 0 ≤ maxCount
+count-most {e} {xs} m i = omega (arith, count-le xs i, m .total)
 
 pub code-most : (e : ℕ) (xs : List ℕ) → Limits e xs → length (code e xs) ≤ 4294967295
 unfolding code

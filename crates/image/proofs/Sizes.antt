@@ -19,15 +19,15 @@ use Rattle.image.specs.Reach.{Reach, above-total, any-index, damage, hea
 use Rattle.image.specs.Read.{eOf, listOf, nOf, sOf}
 use Rattle.image.specs.Reply.{Reply, given, refused}
 use Rattle.image.proofs.Accepted.{accepted-only, length-list}
-use Rattle.image.proofs.Back.{length-image, s-is}
+use Rattle.image.proofs.ReadLaws.{length-image, s-is}
 use Rattle.image.proofs.HeadLaws.{headed-long, word-most}
-use Rattle.image.proofs.Made.{length-only}
+use Rattle.image.proofs.CallLaws.{length-only}
 use Rattle.image.proofs.PageLaws.{code-most, pages-few}
-use Rattle.image.proofs.Looks.{Most, look-most}
+use Rattle.image.proofs.QueryLaws.{Most, look-most}
 
 -- a number is no more than the total's limit, refusals are 1 to 12
 abbrev pub Small : Reply → Type 0
-Small (given n) = n ≤ 4294967295
+Small (given n) = n ≤ maxTotal
 Small (refused k) = (1 ≤ k) × (k ≤ 12)
 
 abbrev pub SmallVerdict : Verdict → Type 0

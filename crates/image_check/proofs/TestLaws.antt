@@ -31,14 +31,14 @@ use Rattle.image.specs.Query.{readingAt}
 use Rattle.image.specs.Read.{beforeOf, codeAt, eOf, lOf, listOf, nOf, pageOf, pagesOf, rootOf, sOf, startOf, sumOf, treeAt, widthOf}
 use Rattle.image.specs.Reply.{Reply, given}
 use Rattle.image_check.specs.Code.Test.{passesTest, pagesFrom, says}
-use Rattle.image.proofs.Back.{before-is, bits-is, e-is, headed-image, l-is, last-root, n-is, pages-is, root-is, s-is, start-is, sum-is, tree-is, width-is}
+use Rattle.image.proofs.ReadLaws.{before-is, bits-is, e-is, headed-image, l-is, last-root, n-is, pages-is, root-is, s-is, start-is, sum-is, tree-is, width-is}
 use Rattle.image.proofs.Packed.{drop-bits, tail}
 use Rattle.image.proofs.HeadLaws.{word-most}
 use Rattle.image.proofs.PageLaws.{page-sum, start-next, start-within}
 use Rattle.image_check.proofs.Passing.{All, Passes, all-from, bits-long, body-long, code-fits, coded, first-sums, from-all, last, page-counts}
 use Rattle.image_check.proofs.Passing.{page-long, page-total, passes, placeOf, reading-all, size-is, top}
 use Rattle.image.proofs.Accepted.{accepted-only, length-list}
-use Rattle.image.proofs.Looks.{reading-at}
+use Rattle.image.proofs.QueryLaws.{reading-at}
 
 -- ---- lists and bytes
 -- a list with the same sum as its front has nothing but zeros behind it

@@ -16,7 +16,7 @@ use Rattle.image_query.specs.Code.Walk.{answered}
 use Rattle.image.specs.Query.{count, look, lookIn, reading, readingAt, theCount, theReading}
 use Rattle.image.specs.Read.{eOf, nOf, pagesOf, sOf}
 use Rattle.image.specs.Reply.{given, refused}
-use Rattle.image.proofs.Looks.{Most, look-most}
+use Rattle.image.proofs.QueryLaws.{Most, look-most}
 use Rattle.image.proofs.PageLaws.{hour-page}
 use Rattle.image.specs.declared.head.Head.{Head}
 use Rattle.image.specs.declared.page.Page.{Page}

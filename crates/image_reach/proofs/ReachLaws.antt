@@ -20,10 +20,10 @@ use Rattle.image.specs.Reach.{Reach, any-index, damage, smallest}
 use Rattle.image.specs.Read.{beforeOf, eOf, listOf, nOf, pagesOf, rootOf, sOf, sumOf, treeAt}
 use Rattle.image.specs.Reply.{given, refused}
 use Rattle.image_reach.specs.Code.Step.{placed, reachFrom}
-use Rattle.image.proofs.Back.{before-is, e-is, n-is, root-is, sum-is, tree-is}
+use Rattle.image.proofs.ReadLaws.{before-is, e-is, n-is, root-is, sum-is, tree-is}
 use Rattle.image.proofs.PageLaws.{length-page, page-sum}
 use Rattle.image.proofs.Accepted.{accepted-only, length-list}
-use Rattle.image.proofs.Looks.{page-fine}
+use Rattle.image.proofs.QueryLaws.{page-fine}
 
 -- the least index, from the page whose root is q or more
 pub reached-page : (e : ℕ) (xs : List ℕ) (p q : ℕ) → sum (take (2 ^ e * p) xs) < q → q ≤ root e xs p

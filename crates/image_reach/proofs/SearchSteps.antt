@@ -30,8 +30,8 @@ use Rattle.image.proofs.HeadLaws.{bounds, never}
 use Rattle.image.proofs.RootLaws.{root-small}
 use Rattle.image_reach.proofs.ReachLaws.{reach-found}
 use Rattle.image.proofs.Accepted.{accepted-only, length-list}
-use Rattle.image.proofs.Back.{last-root as root-of-last, s-is}
-use Rattle.image.proofs.Looks.{page-fine}
+use Rattle.image.proofs.ReadLaws.{last-root as root-of-last, s-is}
+use Rattle.image.proofs.QueryLaws.{page-fine}
 use Rattle.image.specs.declared.head.Head.{Head}
 use Rattle.image.specs.declared.page.Page.{Page}
 use Rattle.image.specs.declared.page.Root.{Root}

@@ -17,7 +17,7 @@ use Rattle.tree.specs.Tree.{tree}
 use Rattle.tree.proofs.Shape.{length-tree}
 use Rattle.image.specs.Image.{Limits, bytesFor, code, image, page, pageCode, pages, root, size, start}
 use Rattle.image_write.specs.Writer.{PlaceOf, codeStart}
-use Rattle.image.proofs.Back.{length-image}
+use Rattle.image.proofs.ReadLaws.{length-image}
 use Rattle.image_write.proofs.LayoutLaws.{page-from}
 use Rattle.image.proofs.PageLaws.{code-most, page-sum, pages-few, root-le, start-next, start-within, width-most}
 use Rattle.image_write.proofs.Splices.{bits-splice}

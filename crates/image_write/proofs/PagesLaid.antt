@@ -13,7 +13,7 @@ use Rattle.image.specs.Image.{bytesFor, code, pages, size, start}
 use Rattle.image_write.specs.Writer.{PagePut, PlaceOf, Room, codeStart, tableAndCode}
 use Rattle.image_write.specs.declared.layout.Layout.{Layout}
 use Rattle.image_write.specs.declared.put.Place.{Place}
-use Rattle.image.proofs.Back.{length-image}
+use Rattle.image.proofs.ReadLaws.{length-image}
 use Rattle.image_write.proofs.Writing.{laid, laid-all, laid-more, laid-none}
 
 pub first-place : (e : ℕ) (xs : List ℕ) → PlaceOf e xs 0 (record { start = 0; before = 0 })

@@ -17,8 +17,8 @@ use Rattle.image_write.specs.declared.layout.Plan.{Plan}
 use Rattle.image_write.specs.declared.layout.Plan.the-variants.{Image, Refused}
 use Rattle.image.specs.declared.answer.Answer.the-variants.{Number}
 use Rattle.image.specs.declared.answer.Answer.the-variants.{Refused as No}
-use Rattle.image.proofs.Back.{length-image}
-use Rattle.image.proofs.Made.{length-within, write-put}
+use Rattle.image.proofs.ReadLaws.{length-image}
+use Rattle.image.proofs.CallLaws.{length-within, write-put}
 use Rattle.image.proofs.PageLaws.{code-most, pages-few}
 use Rattle.image_write.proofs.Writing.{image-put, splice-front}
 

@@ -15,7 +15,7 @@ use Rattle.bits.proofs.Little.{Bytes, bytes-little, length-little}
 use Rattle.bits.proofs.Packing.{bits-fill}
 use Rattle.image.specs.Image.{bytesFor, code, firstPages, header, image, packed, pageCode, pages, size, start, table}
 use Rattle.image_write.specs.Writer.{codeStart, tableAndCode}
-use Rattle.image.proofs.Back.{bits-code, length-image}
+use Rattle.image.proofs.ReadLaws.{bits-code, length-image}
 use Rattle.image.proofs.Packed.{bits-one, bits-packed, tail}
 use Rattle.image_write.proofs.Splices.{bits-splice, bytes-concat, bytes-join, bytes-pack, byte-in, splice-apart}
 
