@@ -1,5 +1,5 @@
--- What demand 1 says of each call, in document 01's words: 'Where a call is turned down', line by line, and what C gets. Every law rests on
--- `demand-1` alone. Assumes nothing.
+-- What demand 1 says of each call, in document 01's words: 'Where a call is turned down', line by line, and what C gets. Each law takes what
+-- it says from `demand-1`, the last two from the exports' promise; a claim that says less fails here. Assumes nothing.
 use mathlib.Core.Path.{_≡_, refl, sym, ap, _∙_, subst}
 use mathlib.Core.Bool.{true}
 use mathlib.Core.List.{List, [], _∷_}

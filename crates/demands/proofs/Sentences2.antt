@@ -1,4 +1,5 @@
--- What demand 2 says, sentence by sentence, of bits, bytes and lists. Every law rests on `demand-2` alone. Assumes nothing.
+-- What demand 2 says, sentence by sentence, of bits, bytes and lists. Each law takes what it says from `demand-2`; a claim that says less
+-- fails here. Assumes nothing.
 use mathlib.Core.Path.{_≡_, refl, sym, ap, _∙_}
 use mathlib.Core.Bool.{true}
 use mathlib.Core.List.{List, [], _∷_, _++_}

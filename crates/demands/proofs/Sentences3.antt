@@ -1,4 +1,5 @@
--- What demand 3 says, sentence by sentence, of a store after any list of calls. Every law rests on `demand-3` alone. Assumes nothing.
+-- What demand 3 says, sentence by sentence, of a store after any list of calls. Each law takes what it says from `demand-3`; a claim that
+-- says less fails here. Assumes nothing.
 use mathlib.Core.Path.{_≡_, refl, sym, ap, _∙_, subst}
 use mathlib.Core.Logic.{_↔_}
 use mathlib.Core.List.{List, [], _∷_, _++_}
