@@ -1,6 +1,8 @@
 //! Drawing a list of calls: a plain list goes along, so that arguments can be
 //! drawn near the turning points of the state they will meet.
 
+use crate::days::{Changes, WRONG};
+use crate::ffi::{Function, CHANGED_DAYS};
 use crate::plain::Plain;
 use crate::random::{count, Random, Size};
 use crate::store_bytes::{self, fits};
@@ -9,9 +11,11 @@ use crate::store_calls::Call;
 /// What a list of calls is made of.
 pub struct Taste {
     pub size: Size,
-    /// Weights of append and set; the queries together weigh 30.
+    /// Weights of append, of set, and of insert and strike together; the
+    /// queries together weigh 30.
     pub appends: u64,
     pub sets: u64,
+    pub moves: u64,
 }
 
 const QUERIES: u64 = 30;
@@ -37,7 +41,7 @@ pub fn calls(
             Call::Fresh(p, c) if fits(bytes, p.into(), c.into()) => {
                 plain = Plain::fresh(p.into(), c.into());
             }
-            Call::Append(_) | Call::Set(..) => {
+            Call::Append(_) | Call::Set(..) | Call::Insert(..) | Call::Strike(_) => {
                 call.by_plain(&mut plain, &mut []);
             }
             _ => {}
@@ -47,18 +51,25 @@ pub fn calls(
 }
 
 fn draw(random: &mut Random, pages: u32, cells: u32, plain: &Plain, taste: &Taste) -> Call {
-    let kind = random.below(taste.appends + taste.sets + QUERIES);
+    let moves = match Function::Insert.is_there() {
+        true => taste.moves,
+        false => 0,
+    };
+    let kind = random.below(taste.appends + taste.sets + moves + QUERIES);
     if kind < taste.appends {
         return Call::Append(count(random, taste.size));
     }
     if kind < taste.appends + taste.sets {
         return Call::Set(hour(random, plain), count(random, taste.size));
     }
+    if kind < taste.appends + taste.sets + moves {
+        return insert_or_strike(random, pages, plain, taste.size);
+    }
     match random.below(QUERIES) {
         0..=6 => Call::Count(hour(random, plain)),
         7..=13 => Call::Reading(hour(random, plain)),
         14..=20 => Call::Reach(figure(random, plain)),
-        21..=24 => Call::Day(day(random, plain)),
+        21..=24 => Call::Day(day(random, plain), changes(random)),
         25..=27 => Call::Free,
         28 => Call::Freeze(page_size(random), room(random)),
         _ => fresh(random, pages, cells),
@@ -75,6 +86,42 @@ fn hour(random: &mut Random, plain: &Plain) -> u32 {
         _ => random.below(hours + 1),
     };
     hour as u32
+}
+
+/// At the front, at a page's border or anywhere: all hours behind it move.
+fn insert_or_strike(random: &mut Random, pages: u32, plain: &Plain, size: Size) -> Call {
+    let hour = match random.below(4) {
+        0 => 0,
+        1 => (64 * random.below(pages.into()) + random.below(3)).saturating_sub(1) as u32,
+        _ => hour(random, plain),
+    };
+    match random.below(5) {
+        0..=2 => Call::Insert(hour, count(random, size)),
+        _ => Call::Strike(hour),
+    }
+}
+
+/// None, a wrong list, or one with changes on some of the first days.
+fn changes(random: &mut Random) -> Changes {
+    match random.below(8) {
+        _ if !CHANGED_DAYS => Changes::NONE,
+        0 | 1 => Changes::NONE,
+        2 => Changes::of(random.pick(&WRONG)),
+        _ => right_changes(random),
+    }
+}
+
+pub fn right_changes(random: &mut Random) -> Changes {
+    let mut list = Vec::new();
+    let mut number = random.below(3) as u32;
+    for _ in 0..random.below(Changes::MOST as u64 / 2) {
+        list.extend([number, random.pick(&[23, 25])]);
+        number += random.between(1, 4) as u32;
+    }
+    if random.one_in(4) {
+        list.extend([u32::MAX, random.pick(&[23, 25])]);
+    }
+    Changes::of(&list)
 }
 
 fn day(random: &mut Random, plain: &Plain) -> u32 {

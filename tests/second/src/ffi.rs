@@ -10,13 +10,25 @@ use crate::fence;
 use crate::lent::Lender;
 
 #[path = "../../exported.rs"]
-mod c;
+mod exported;
+
+mod c {
+    pub use super::exported::*;
+    #[allow(unused_imports)]
+    pub use crate::not_yet::*;
+}
+
+/// Whether the day call takes a list of changed days; else it is given the
+/// empty one.
+pub const CHANGED_DAYS: bool = cfg!(feature = "changed-days");
 
 #[derive(Clone, Copy, Debug, PartialEq, Eq)]
 pub enum Function {
     Fresh,
     Append,
     Set,
+    Insert,
+    Strike,
     Count,
     Reading,
     Reach,
@@ -29,13 +41,20 @@ pub enum Function {
     ImageCount,
     ImageReading,
     ImageReach,
+    ImageBusiest,
+    ImageMatch,
+    ImageFromBook,
+    ImageToBook,
 }
 
 impl Function {
-    pub const ALL: [Function; 15] = [
+    /// In the order of their declaration.
+    pub const ALL: [Function; 21] = [
         Function::Fresh,
         Function::Append,
         Function::Set,
+        Function::Insert,
+        Function::Strike,
         Function::Count,
         Function::Reading,
         Function::Reach,
@@ -48,15 +67,37 @@ impl Function {
         Function::ImageCount,
         Function::ImageReading,
         Function::ImageReach,
+        Function::ImageBusiest,
+        Function::ImageMatch,
+        Function::ImageFromBook,
+        Function::ImageToBook,
     ];
 
-    /// The refusals that document 01 gives this call; the comparison is not
-    /// done before it has met each of them.
+    /// Those that the library has.
+    pub fn all() -> impl Iterator<Item = Function> {
+        Function::ALL.into_iter().filter(|f| f.is_there())
+    }
+
+    pub const fn is_there(self) -> bool {
+        match self {
+            Function::Insert | Function::Strike => cfg!(feature = "insert-strike"),
+            Function::ImageBusiest => cfg!(feature = "busiest"),
+            Function::ImageMatch => cfg!(feature = "match"),
+            Function::ImageFromBook | Function::ImageToBook => cfg!(feature = "books"),
+            _ => true,
+        }
+    }
+
+    /// The refusals that documents 01 and 02 give this call; the comparison is
+    /// not done before it has met each of them.
     pub fn refusals(self) -> &'static [usize] {
         match self {
             Function::Fresh => &[9],
             Function::Append => &[3, 10, 11, 12],
             Function::Set => &[3, 7, 10, 12],
+            Function::Insert => &[3, 7, 10, 11, 12],
+            Function::Strike => &[7, 10, 12],
+            Function::Day if CHANGED_DAYS => &[7, 10, 16],
             Function::Count | Function::Reading | Function::Day => &[7, 10],
             Function::Reach => &[8, 10],
             Function::Free => &[10],
@@ -66,6 +107,10 @@ impl Function {
             Function::ImageCheck => &[5, 6],
             Function::ImageCount | Function::ImageReading => &[5, 6, 7],
             Function::ImageReach => &[5, 6, 8],
+            Function::ImageBusiest => &[5, 6, 13],
+            Function::ImageMatch => &[5, 6, 17],
+            Function::ImageFromBook => &[1, 2, 4, 14],
+            Function::ImageToBook => &[4, 5, 6, 15],
         }
     }
 }
@@ -84,7 +129,7 @@ pub struct Fault {
 }
 
 /// The number of refusals, and 0 for an answer.
-pub const OUTCOMES: usize = 13;
+pub const OUTCOMES: usize = 18;
 
 #[derive(Default)]
 pub struct Library {
@@ -110,15 +155,36 @@ impl Library {
     over_bytes!(fresh, Fresh, hourlog_fresh, pages: u32, cells: u32);
     over_bytes!(append, Append, hourlog_append, count: u32);
     over_bytes!(set, Set, hourlog_set, hour: u32, count: u32);
+    over_bytes!(insert, Insert, hourlog_insert, hour: u32, count: u32);
+    over_bytes!(strike, Strike, hourlog_strike, hour: u32);
     over_bytes!(count, Count, hourlog_count, hour: u32);
     over_bytes!(reading, Reading, hourlog_reading, hour: u32);
     over_bytes!(reach, Reach, hourlog_reach, figure: u32);
-    over_bytes!(day, Day, hourlog_day, day: u32);
     over_bytes!(free, Free, hourlog_free);
     over_bytes!(image_check, ImageCheck, hourlog_image_check);
     over_bytes!(image_count, ImageCount, hourlog_image_count, hour: u32);
     over_bytes!(image_reading, ImageReading, hourlog_image_reading, hour: u32);
     over_bytes!(image_reach, ImageReach, hourlog_image_reach, figure: u64);
+    over_bytes!(image_busiest, ImageBusiest, hourlog_image_busiest, hours: u32);
+    over_bytes!(image_match, ImageMatch, hourlog_image_match, figure: u64);
+
+    /// The list is only lent to read: that it stays is seen to here.
+    pub fn day(&mut self, store: &mut [u8], day: u32, changes: &[u32]) -> i64 {
+        assert!(
+            CHANGED_DAYS || changes.is_empty(),
+            "the call takes no list yet"
+        );
+        let (len, mut lent) = (store.len(), changes.to_vec());
+        #[cfg(not(feature = "changed-days"))]
+        let call = |at: [*mut u8; 2]| unsafe { c::hourlog_day(at[0], len, day) };
+        #[cfg(feature = "changed-days")]
+        let call = |at: [*mut u8; 2]| unsafe {
+            c::hourlog_day(at[0], len, day, at[1].cast(), changes.len())
+        };
+        let word = self.lend(Function::Day, [&mut *store, bytes_of(&mut lent)], call);
+        assert_eq!(lent, changes, "day leaves the list that it is lent");
+        self.done(Function::Day, store, word)
+    }
 
     pub fn freeze(&mut self, store: &mut [u8], e: u32, image: &mut [u8]) -> i64 {
         let (len, room) = (store.len(), image.len());
@@ -140,6 +206,21 @@ impl Library {
             |at: [*mut u8; 2]| unsafe { c::hourlog_image_write(at[0].cast(), n, e, at[1], room) };
         let word = self.lend(Function::ImageWrite, [bytes_of(counts), &mut *image], call);
         self.done(Function::ImageWrite, image, word)
+    }
+
+    pub fn image_from_book(&mut self, book: &mut [u8], e: u32, image: &mut [u8]) -> i64 {
+        let (len, room) = (book.len(), image.len());
+        let call =
+            |at: [*mut u8; 2]| unsafe { c::hourlog_image_from_bcd(at[0], len, e, at[1], room) };
+        let word = self.lend(Function::ImageFromBook, [book, &mut *image], call);
+        self.done(Function::ImageFromBook, image, word)
+    }
+
+    pub fn image_to_book(&mut self, image: &mut [u8], book: &mut [u8]) -> i64 {
+        let (len, room) = (image.len(), book.len());
+        let call = |at: [*mut u8; 2]| unsafe { c::hourlog_image_to_bcd(at[0], len, at[1], room) };
+        let word = self.lend(Function::ImageToBook, [image, &mut *book], call);
+        self.done(Function::ImageToBook, book, word)
     }
 
     fn lend(

@@ -9,7 +9,7 @@ use crate::tree::{decode, encode, walk, Walked};
 const HEADER: usize = 16;
 const MOST_HOURS: usize = 65_536;
 
-fn page_size_allowed(e: u32) -> bool {
+pub fn page_size_allowed(e: u32) -> bool {
     (2..=8).contains(&e)
 }
 

@@ -1,10 +1,12 @@
 //! Comparison of the image calls.
 
 use crate::bits::number;
+use crate::book_calls::compare_to_book;
 use crate::ffi::Library;
 use crate::image::{self, Reached};
 use crate::random::Random;
 use crate::refusal::{word, Answer};
+use crate::run_calls::{compare_busiest, compare_match};
 use crate::store_calls::{same_bytes, same_word, SECOND};
 use std::fmt;
 
@@ -21,9 +23,10 @@ pub fn compare_writing(
     let length = image.as_ref().map(|image| image.len() as u64);
     let answer = library.image_length(&mut lent, e);
     same_word(answer, word(length.map_err(|&refusal| refusal)), SECOND)?;
-    let exact = image.as_ref().map_or(40, Vec::len);
-    for room in [exact + 13, exact - 1, 0, exact] {
-        compare_write(library, &image, &mut lent, e, room)?;
+    for room in rooms(&image) {
+        compare_output(&image, room, "image", |out| {
+            library.image_write(&mut lent, e, out)
+        })?;
         if lent != before {
             return Err("the lent counts were changed".into());
         }
@@ -31,34 +34,49 @@ pub fn compare_writing(
     Ok(image.ok())
 }
 
-fn compare_write(
-    library: &mut Library,
-    image: &Answer<Vec<u8>>,
-    lent: &mut [u32],
-    e: u32,
+/// Rooms for what a call is to write: more than it takes, a byte less, none,
+/// and just enough.
+pub fn rooms(made: &Answer<Vec<u8>>) -> [usize; 4] {
+    let exact = made.as_ref().map_or(40, Vec::len);
+    [exact + 13, exact.saturating_sub(1), 0, exact]
+}
+
+/// A call that writes into a buffer: its word, what it wrote, and the bytes
+/// beyond.
+pub fn compare_output(
+    made: &Answer<Vec<u8>>,
     room: usize,
+    name: &str,
+    call: impl FnOnce(&mut [u8]) -> i64,
 ) -> Result<(), String> {
     let mut out = vec![0x5A; room];
     let mut second_out = out.clone();
-    let expected = match image {
-        Ok(image) => image::place(image, &mut second_out),
+    let expected = match made {
+        Ok(made) => image::place(made, &mut second_out),
         Err(refusal) => Err(*refusal),
     };
-    let answer = library.image_write(lent, e, &mut out);
+    let answer = call(&mut out);
     same_word(answer, word(expected), SECOND)?;
-    same_bytes(&out, &second_out, "image")
+    same_bytes(&out, &second_out, name)
 }
 
 /// What an image is asked.
 pub struct Questions {
     pub hours: Vec<u32>,
     pub figures: Vec<u64>,
+    /// Numbers of hours whose busiest run is asked for.
+    pub stretches: Vec<u32>,
+    /// Sums of which a run is asked for.
+    pub bags: Vec<u64>,
 }
 
 /// Hours and figures whose low bits alone would be good ones, and the ends of
 /// their types.
 const WILD_HOURS: [u32; 4] = [65_536, 65_537, 1 << 31, u32::MAX];
 const WILD_FIGURES: [u64; 5] = [1 << 32, (1 << 32) + 1, 1 << 40, 1 << 63, u64::MAX];
+
+/// How many runs of hours are asked for: each question has the full check.
+const RUNS: u64 = 6;
 
 impl Questions {
     /// Every hour and figure of a small image, some of a large one; the
@@ -74,9 +92,15 @@ impl Questions {
                 .map(|hour| hour as u32)
                 .collect(),
             figures: some_to(total + 1, most, random).collect(),
+            stretches: some_to(hours + 1, RUNS, random)
+                .map(|hours| hours as u32)
+                .collect(),
+            bags: some_to(total + 1, RUNS, random).collect(),
         };
         questions.hours.extend(WILD_HOURS);
+        questions.stretches.extend(WILD_HOURS);
         questions.figures.extend(WILD_FIGURES);
+        questions.bags.extend(WILD_FIGURES);
         questions
     }
 
@@ -146,11 +170,13 @@ pub fn compare_looking(
             bytes,
         )?;
     }
-    Ok(())
+    compare_busiest(library, bytes, &list, &questions.stretches)?;
+    compare_match(library, bytes, &list, &questions.bags)?;
+    compare_to_book(library, bytes, &list)
 }
 
 /// Whether a call gave a word that it may give, and left all bytes alone.
-fn agree(
+pub fn agree(
     call: fmt::Arguments,
     answer: i64,
     expected: &Reached,

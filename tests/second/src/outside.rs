@@ -2,8 +2,9 @@
 //! lent without its first or its last bytes, in a process of its own, and the
 //! guard of that side must end the process.
 
+use crate::book;
 use crate::fence::STEPPED_OUTSIDE;
-use crate::ffi::{Function, Library};
+use crate::ffi::{Function, Library, CHANGED_DAYS};
 use crate::image;
 use crate::lent::{Short, Side};
 use crate::store;
@@ -16,7 +17,7 @@ const E: u32 = 2;
 /// else ends them, with none.
 pub fn play() -> bool {
     let (mut steps, mut unseen) = (0, 0);
-    for function in Function::ALL {
+    for function in Function::all() {
         assert_eq!(
             status_of(function, None),
             0,
@@ -37,7 +38,8 @@ pub fn play() -> bool {
 /// Each side of each buffer, short by one element.
 fn shorts_of(function: Function) -> Vec<Short> {
     let elements: &[usize] = match function {
-        Function::Freeze => &[1, 1],
+        Function::Freeze | Function::ImageFromBook | Function::ImageToBook => &[1, 1],
+        Function::Day if CHANGED_DAYS => &[1, 4],
         Function::ImageLength => &[4],
         Function::ImageWrite => &[4, 1],
         _ => &[1],
@@ -94,10 +96,11 @@ pub fn step(numbers: &[&str]) -> bool {
 
 /// A call that reads or writes the first and the last byte of each buffer. The
 /// live calls do so by their soundness check, an image's queries by asking for
-/// its last hour.
+/// its last hour or by the full check.
 fn make(library: &mut Library, function: Function) -> i64 {
     let counts = COUNTS.map(u64::from);
     let mut image = image::image(&counts, E).expect("a good list");
+    let mut book = book::book_of(&counts);
     let mut store = vec![0; 16 + 6 + 2 * 32];
     store::fresh(&mut store, 1, 2).expect("a good size");
     for count in counts {
@@ -107,10 +110,13 @@ fn make(library: &mut Library, function: Function) -> i64 {
         Function::Fresh => library.fresh(&mut store, 1, 2),
         Function::Append => library.append(&mut store, 1),
         Function::Set => library.set(&mut store, 0, 9),
+        Function::Insert => library.insert(&mut store, 0, 1),
+        Function::Strike => library.strike(&mut store, 0),
         Function::Count => library.count(&mut store, 0),
         Function::Reading => library.reading(&mut store, 1),
         Function::Reach => library.reach(&mut store, 1),
-        Function::Day => library.day(&mut store, 0),
+        Function::Day if CHANGED_DAYS => library.day(&mut store, 0, &[3, 23, 4, 25]),
+        Function::Day => library.day(&mut store, 0, &[]),
         Function::Free => library.free(&mut store),
         Function::Freeze => library.freeze(&mut store, E, &mut image),
         Function::ImageLength => library.image_length(&mut COUNTS.clone(), E),
@@ -119,5 +125,9 @@ fn make(library: &mut Library, function: Function) -> i64 {
         Function::ImageCount => library.image_count(&mut image, 4),
         Function::ImageReading => library.image_reading(&mut image, 5),
         Function::ImageReach => library.image_reach(&mut image, 8),
+        Function::ImageBusiest => library.image_busiest(&mut image, 2),
+        Function::ImageMatch => library.image_match(&mut image, 8),
+        Function::ImageFromBook => library.image_from_book(&mut book, E, &mut image),
+        Function::ImageToBook => library.image_to_book(&mut image, &mut book),
     }
 }

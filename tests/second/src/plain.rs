@@ -1,6 +1,7 @@
 //! The plain list of document 01: a list of counts, and the P and C that fresh
 //! was given. It never sees a store's bytes.
 
+use crate::days;
 use crate::refusal::{refuse_if, Answer, Moved, Refusal};
 use crate::reserve::cells;
 
@@ -49,11 +50,12 @@ impl Plain {
         Ok(moved)
     }
 
+    fn is_full(&self) -> bool {
+        self.hours() == HOURS_A_PAGE as u64 * self.pages
+    }
+
     pub fn append(&mut self, count: u64) -> Answer<Moved> {
-        refuse_if(
-            self.hours() == HOURS_A_PAGE as u64 * self.pages,
-            Refusal::Full,
-        )?;
+        refuse_if(self.is_full(), Refusal::Full)?;
         let mut counts = self.counts.clone();
         counts.push(count);
         self.become_list(counts)
@@ -63,6 +65,22 @@ impl Plain {
         refuse_if(hour >= self.hours(), Refusal::Hour)?;
         let mut counts = self.counts.clone();
         counts[hour as usize] = count;
+        self.become_list(counts)
+    }
+
+    /// The count joins the list before an hour, at N behind all.
+    pub fn insert(&mut self, hour: u64, count: u64) -> Answer<Moved> {
+        refuse_if(hour > self.hours(), Refusal::Hour)?;
+        refuse_if(self.is_full(), Refusal::Full)?;
+        let mut counts = self.counts.clone();
+        counts.insert(hour as usize, count);
+        self.become_list(counts)
+    }
+
+    pub fn strike(&mut self, hour: u64) -> Answer<Moved> {
+        refuse_if(hour >= self.hours(), Refusal::Hour)?;
+        let mut counts = self.counts.clone();
+        counts.remove(hour as usize);
         self.become_list(counts)
     }
 
@@ -85,14 +103,15 @@ impl Plain {
         self.cells - need(&self.counts)
     }
 
-    pub fn day(&self, day: u64) -> Answer<u64> {
-        refuse_if(24 * day + 24 > self.hours(), Refusal::Hour)?;
-        Ok(self.reading(24 * day + 24)? - self.reading(24 * day)?)
+    pub fn day(&self, day: u64, changes: &[u32]) -> Answer<u64> {
+        let hours = days::hours_of(day, changes)?;
+        refuse_if(hours.end > self.hours().into(), Refusal::Hour)?;
+        Ok(self.reading(hours.end as u64)? - self.reading(hours.start as u64)?)
     }
 }
 
 /// The cells of all pages by the formula.
-fn need(counts: &[u64]) -> u64 {
+pub fn need(counts: &[u64]) -> u64 {
     counts
         .chunks(HOURS_A_PAGE)
         .map(|page| cells(page.iter().sum()))
@@ -108,4 +127,13 @@ pub fn reached(counts: &[u64], figure: u64) -> u64 {
         i += 1;
     }
     i as u64
+}
+
+/// The reading at every hour from 0 to N.
+pub fn readings(counts: &[u64]) -> Vec<u64> {
+    let mut readings = vec![0];
+    for (k, count) in counts.iter().enumerate() {
+        readings.push(readings[k] + count);
+    }
+    readings
 }

@@ -1,5 +1,6 @@
 //! The session program, compared with the plain list line by line.
 
+use crate::days::Changes;
 use crate::plain::Plain;
 use crate::random::{count, Random, Size};
 use crate::store_bytes::fits;
@@ -133,7 +134,7 @@ fn parsed(line: &[u8]) -> Option<Call> {
         (b"g", &[hour]) => Call::Count(hour),
         (b"r", &[hour]) => Call::Reading(hour),
         (b"w", &[figure]) => Call::Reach(figure),
-        (b"d", &[day]) => Call::Day(day),
+        (b"d", &[day]) => Call::Day(day, Changes::NONE),
         (b"f", &[]) => Call::Free,
         _ => return None,
     })

@@ -1,4 +1,4 @@
-//! The refusals of document 01, and answers as the words that C sees.
+//! The refusals of documents 01 and 02, and answers as the words that C sees.
 
 #[derive(Clone, Copy, Debug, PartialEq, Eq)]
 pub enum Refusal {
@@ -14,6 +14,11 @@ pub enum Refusal {
     Unsound = 10,
     Full = 11,
     Cells = 12,
+    Stretch = 13,
+    NotDecimal = 14,
+    NoBookCount = 15,
+    Changes = 16,
+    EmptyBag = 17,
 }
 
 pub type Answer<T> = Result<T, Refusal>;
@@ -27,7 +32,7 @@ pub fn refuse_if(condition: bool, refusal: Refusal) -> Answer<()> {
     }
 }
 
-/// The cells that an append or a set took and gave back.
+/// The cells that a change of the list took and gave back.
 #[derive(Clone, Copy, Debug, PartialEq, Eq)]
 pub struct Moved {
     pub taken: u64,

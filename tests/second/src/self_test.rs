@@ -1,5 +1,6 @@
 //! Whether the comparison can fail: one answer or one byte of the library is
 //! spoilt, for each function in each suite, and each time it must be noticed.
+//! And whether what it compares with is what document 02 asks for.
 
 use crate::ffi::{Fault, Function, Spoilt};
 use crate::image::Reached;
@@ -7,12 +8,14 @@ use crate::image_calls::allowed;
 use crate::refusal::Refusal;
 use crate::run::Run;
 use crate::suites::{self, Suite};
+use crate::{bag, book, busiest, days, forgotten};
 
 pub fn play() -> bool {
     check_latitude();
+    check_requests();
     let mut unnoticed = 0;
     let mut spoilt = 0;
-    for suite in &suites::ALL {
+    for suite in suites::all() {
         for fault in faults_of(suite) {
             spoilt += 1;
             if !notices(suite, fault) {
@@ -33,7 +36,7 @@ fn faults_of(suite: &Suite) -> Vec<Fault> {
     assert!(outcome.is_ok(), "{}: a clean run differs", suite.name);
     let called = |function: &Function| clean.library.calls_of(*function) > 0;
     let mut faults = Vec::new();
-    for function in Function::ALL.into_iter().filter(called) {
+    for function in Function::all().filter(called) {
         for spoilt in [Spoilt::Answer, Spoilt::Byte] {
             // Length is lent no bytes.
             if (function, spoilt) != (Function::ImageLength, Spoilt::Byte) {
@@ -47,6 +50,16 @@ fn faults_of(suite: &Suite) -> Vec<Fault> {
 fn notices(suite: &Suite, fault: Fault) -> bool {
     let mut run = Run::self_test(Some(fault));
     (suite.play)(&mut run).is_err()
+}
+
+/// Document 02's examples and what follows from its sentences, by the second
+/// implementation alone.
+fn check_requests() {
+    busiest::self_test();
+    book::self_test();
+    days::self_test();
+    forgotten::self_test();
+    bag::self_test();
 }
 
 /// Reach on an image that is not accepted has exactly document 01's latitude.

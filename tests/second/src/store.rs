@@ -1,8 +1,9 @@
 //! The live store: a sound one as lists, and each call over bytes, which are
 //! read whole into those lists and written whole again.
 
+use crate::days;
 use crate::image;
-use crate::plain::{reached, HOURS_A_PAGE, TOTAL_LIMIT};
+use crate::plain::{need, reached, HOURS_A_PAGE, TOTAL_LIMIT};
 use crate::refusal::{refuse_if, Answer, Moved, Refusal};
 use crate::reserve::cells;
 use crate::store_bytes::fits;
@@ -73,6 +74,37 @@ impl Store {
         Ok(Moved::between(before as u64, after as u64))
     }
 
+    /// Gives the store another list, page by page: first every page that
+    /// shrinks gives back cells, then every page that grows takes some.
+    fn become_list(&mut self, counts: &[u64]) -> Answer<Moved> {
+        let (before, after) = (need(&self.counts()), need(counts));
+        refuse_if(counts.iter().sum::<u64>() > TOTAL_LIMIT, Refusal::Total)?;
+        refuse_if(after > self.cells as u64, Refusal::Cells)?;
+        let mut filled = counts.to_vec();
+        filled.resize(HOURS_A_PAGE * self.pages.len(), 0);
+        for (page, counts) in self.pages.iter_mut().zip(filled.chunks(HOURS_A_PAGE)) {
+            page.counts = counts.to_vec();
+        }
+        self.hours = counts.len();
+        self.resize_where(|has, asks| asks < has);
+        self.resize_where(|has, asks| asks > has);
+        Ok(Moved::between(before, after))
+    }
+
+    /// Gives the pages that are meant the cells that their sums ask for, the
+    /// lowest page first.
+    fn resize_where(&mut self, meant: fn(usize, usize) -> bool) {
+        for p in 0..self.pages.len() {
+            let has = self.pages[p].chain.len();
+            let asks = cells(self.pages[p].sum()) as usize;
+            if meant(has, asks) {
+                self.resize(p, asks);
+            }
+        }
+    }
+
+    /// Moves one cell after the other, between the end of a page's chain and
+    /// the front of the free chain.
     fn resize(&mut self, page: usize, length: usize) {
         let chain = &mut self.pages[page].chain;
         while chain.len() < length {
@@ -109,6 +141,28 @@ pub fn set(bytes: &mut [u8], hour: u64, count: u64) -> Answer<Moved> {
     Ok(moved)
 }
 
+pub fn insert(bytes: &mut [u8], hour: u64, count: u64) -> Answer<Moved> {
+    let mut store = Store::read(bytes)?;
+    refuse_if(hour > store.hours as u64, Refusal::Hour)?;
+    let full = HOURS_A_PAGE * store.pages.len();
+    refuse_if(store.hours == full, Refusal::Full)?;
+    let mut counts = store.counts();
+    counts.insert(hour as usize, count);
+    let moved = store.become_list(&counts)?;
+    bytes.copy_from_slice(&store.bytes());
+    Ok(moved)
+}
+
+pub fn strike(bytes: &mut [u8], hour: u64) -> Answer<Moved> {
+    let mut store = Store::read(bytes)?;
+    refuse_if(hour >= store.hours as u64, Refusal::Hour)?;
+    let mut counts = store.counts();
+    counts.remove(hour as usize);
+    let moved = store.become_list(&counts)?;
+    bytes.copy_from_slice(&store.bytes());
+    Ok(moved)
+}
+
 pub fn count(bytes: &[u8], hour: u64) -> Answer<u64> {
     let store = Store::read(bytes)?;
     refuse_if(hour >= store.hours as u64, Refusal::Hour)?;
@@ -127,11 +181,12 @@ pub fn reach(bytes: &[u8], figure: u64) -> Answer<u64> {
     Ok(reached(&store.counts(), figure))
 }
 
-pub fn day(bytes: &[u8], day: u64) -> Answer<u64> {
+pub fn day(bytes: &[u8], day: u64, changes: &[u32]) -> Answer<u64> {
     let store = Store::read(bytes)?;
-    refuse_if(24 * day + 24 > store.hours as u64, Refusal::Hour)?;
-    let first = 24 * day as usize;
-    Ok(store.all_counts().skip(first).take(24).sum())
+    let hours = days::hours_of(day, changes)?;
+    refuse_if(hours.end > store.hours as u128, Refusal::Hour)?;
+    let (first, last) = (hours.start as usize, hours.end as usize);
+    Ok(store.all_counts().skip(first).take(last - first).sum())
 }
 
 pub fn free(bytes: &[u8]) -> Answer<u64> {

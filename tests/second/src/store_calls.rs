@@ -1,7 +1,8 @@
 //! One call on a store, and its comparison between the library, the second
 //! implementation and the plain list.
 
-use crate::ffi::Library;
+use crate::days::Changes;
+use crate::ffi::{Function, Library, CHANGED_DAYS};
 use crate::image;
 use crate::plain::Plain;
 use crate::refusal::word;
@@ -17,10 +18,12 @@ pub enum Call {
     Fresh(u32, u32),
     Append(u32),
     Set(u32, u32),
+    Insert(u32, u32),
+    Strike(u32),
     Count(u32),
     Reading(u32),
     Reach(u32),
-    Day(u32),
+    Day(u32, Changes),
     Free,
     /// With e, and by how many bytes the output buffer is longer or shorter
     /// than the image.
@@ -28,17 +31,21 @@ pub enum Call {
 }
 
 /// The letters are those of the session program, so that a list of calls can
-/// be typed in there; freeze has none and is shown as z.
+/// be typed in there; insert, strike and freeze have none and are shown as i, x
+/// and z, and a day's changes behind it.
 impl fmt::Display for Call {
     fn fmt(&self, f: &mut fmt::Formatter) -> fmt::Result {
         match *self {
             Call::Fresh(pages, cells) => write!(f, "n {pages} {cells}"),
             Call::Append(count) => write!(f, "a {count}"),
             Call::Set(hour, count) => write!(f, "s {hour} {count}"),
+            Call::Insert(hour, count) => write!(f, "i {hour} {count}"),
+            Call::Strike(hour) => write!(f, "x {hour}"),
             Call::Count(hour) => write!(f, "g {hour}"),
             Call::Reading(hour) => write!(f, "r {hour}"),
             Call::Reach(figure) => write!(f, "w {figure}"),
-            Call::Day(day) => write!(f, "d {day}"),
+            Call::Day(day, changes) if changes.is_empty() => write!(f, "d {day}"),
+            Call::Day(day, changes) => write!(f, "d {day} {:?}", &*changes),
             Call::Free => write!(f, "f"),
             Call::Freeze(e, room) => write!(f, "z {e} {room:+}"),
         }
@@ -46,15 +53,27 @@ impl fmt::Display for Call {
 }
 
 impl Call {
+    /// Whether the library has this call.
+    pub fn is_there(&self) -> bool {
+        match self {
+            Call::Insert(..) => Function::Insert.is_there(),
+            Call::Strike(_) => Function::Strike.is_there(),
+            Call::Day(_, changes) => changes.is_empty() || CHANGED_DAYS,
+            _ => true,
+        }
+    }
+
     fn by_library(self, library: &mut Library, store: &mut [u8], out: &mut [u8]) -> i64 {
         match self {
             Call::Fresh(pages, cells) => library.fresh(store, pages, cells),
             Call::Append(count) => library.append(store, count),
             Call::Set(hour, count) => library.set(store, hour, count),
+            Call::Insert(hour, count) => library.insert(store, hour, count),
+            Call::Strike(hour) => library.strike(store, hour),
             Call::Count(hour) => library.count(store, hour),
             Call::Reading(hour) => library.reading(store, hour),
             Call::Reach(figure) => library.reach(store, figure),
-            Call::Day(day) => library.day(store, day),
+            Call::Day(day, changes) => library.day(store, day, &changes),
             Call::Free => library.free(store),
             Call::Freeze(e, _) => library.freeze(store, e, out),
         }
@@ -65,10 +84,12 @@ impl Call {
             Call::Fresh(pages, cells) => word(store::fresh(bytes, pages.into(), cells.into())),
             Call::Append(count) => word(store::append(bytes, count.into())),
             Call::Set(hour, count) => word(store::set(bytes, hour.into(), count.into())),
+            Call::Insert(hour, count) => word(store::insert(bytes, hour.into(), count.into())),
+            Call::Strike(hour) => word(store::strike(bytes, hour.into())),
             Call::Count(hour) => word(store::count(bytes, hour.into())),
             Call::Reading(hour) => word(store::reading(bytes, hour.into())),
             Call::Reach(figure) => word(store::reach(bytes, figure.into())),
-            Call::Day(day) => word(store::day(bytes, day.into())),
+            Call::Day(day, changes) => word(store::day(bytes, day.into(), &changes)),
             Call::Free => word(store::free(bytes)),
             Call::Freeze(e, _) => word(store::freeze(bytes, e, out)),
         }
@@ -81,10 +102,12 @@ impl Call {
             Call::Fresh(..) => return None,
             Call::Append(count) => word(plain.append(count.into())),
             Call::Set(hour, count) => word(plain.set(hour.into(), count.into())),
+            Call::Insert(hour, count) => word(plain.insert(hour.into(), count.into())),
+            Call::Strike(hour) => word(plain.strike(hour.into())),
             Call::Count(hour) => word(plain.count(hour.into())),
             Call::Reading(hour) => word(plain.reading(hour.into())),
             Call::Reach(figure) => word(plain.reach(figure.into())),
-            Call::Day(day) => word(plain.day(day.into())),
+            Call::Day(day, changes) => word(plain.day(day.into(), &changes)),
             Call::Free => word(Ok(plain.free())),
             Call::Freeze(e, _) => word(image::write(plain.counts(), e, out)),
         })
@@ -122,9 +145,9 @@ pub fn compare(library: &mut Library, bytes: &mut [u8], call: Call) -> Result<Do
 }
 
 /// Several calls, each on a copy of its own: an append must not change what
-/// the next one sees.
+/// the next one sees. Those that the library does not have are left out.
 pub fn compare_all(library: &mut Library, bytes: &[u8], calls: &[Call]) -> Result<(), String> {
-    for &call in calls {
+    for &call in calls.iter().filter(|call| call.is_there()) {
         compare(library, &mut bytes.to_vec(), call)
             .map_err(|difference| format!("{call}: {difference}"))?;
     }

@@ -1,6 +1,7 @@
 //! The examples that document 01 prints.
 
 use crate::bits::{number, push_field};
+use crate::days::Changes;
 use crate::ffi::Library;
 use crate::image_calls::{compare_looking, compare_writing, Questions};
 use crate::random::Random;
@@ -143,9 +144,14 @@ fn every_call(library: &mut Library) -> Result<(), String> {
         compare(library, &mut bytes, Call::Append(hour))?;
     }
     answers(library, &mut bytes, Call::Count(47), 47)?;
-    answers(library, &mut bytes, Call::Day(0), 23 * 12)?;
-    answers(library, &mut bytes, Call::Day(1), 24 * 24 + 23 * 12)?;
-    answers(library, &mut bytes, Call::Day(2), -7)?;
+    answers(library, &mut bytes, Call::Day(0, Changes::NONE), 23 * 12)?;
+    answers(
+        library,
+        &mut bytes,
+        Call::Day(1, Changes::NONE),
+        24 * 24 + 23 * 12,
+    )?;
+    answers(library, &mut bytes, Call::Day(2, Changes::NONE), -7)?;
     let frozen = compare(library, &mut bytes, Call::Freeze(5, 3))?;
     let image = &frozen.out[..frozen.word as usize];
     let questions = Questions::of(image, &mut Random::new(0), 50);

@@ -51,6 +51,7 @@ fn large_session(seed: u64) -> Session {
         size: Size::Mixed,
         appends: 30,
         sets: 30,
+        moves: 20,
     };
     let list = calls(&mut random, pages, cells, &start, &taste, CALLS);
     Session {

@@ -41,6 +41,7 @@ fn small_session(seed: u64) -> Session {
         size: random.pick(&Size::ALL),
         appends: random.pick(&[10, 40, 80]),
         sets: random.pick(&[5, 30]),
+        moves: random.pick(&[0, 15, 40]),
     };
     let length = random.between(20, 130 * u64::from(pages)) as usize;
     let list = calls(&mut random, pages, cells, &[], &taste, length);

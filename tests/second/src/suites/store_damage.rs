@@ -2,6 +2,7 @@
 //! that are still sound the same answers.
 
 use crate::bits::turn;
+use crate::days::Changes;
 use crate::random::{counts, Random, Size};
 use crate::run::{Outcome, Run};
 use crate::session::built;
@@ -46,7 +47,11 @@ fn probe(run: &mut Run, bytes: &[u8], random: &mut Random) -> Result<(), String>
         Call::Count(0),
         Call::Reading(0),
         Call::Reach(0),
-        Call::Day(0),
+        Call::Day(0, Changes::NONE),
+        Call::Day(0, Changes::of(&[0, 23])),
+        Call::Day(0, Changes::of(&[0, 24])),
+        Call::Insert(0, random.below(300) as u32),
+        Call::Strike(0),
         Call::Free,
         Call::Freeze(random.between(2, 8) as u32, 0),
     ];
@@ -67,7 +72,7 @@ fn all_questions(store: &Store) -> Vec<Call> {
         reading += count as u32;
         calls.push(Call::Reach(reading));
     }
-    calls.extend((0..=hours / 24).map(Call::Day));
+    calls.extend((0..=hours / 24).map(|day| Call::Day(day, Changes::NONE)));
     calls
 }
 

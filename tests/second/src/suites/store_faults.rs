@@ -3,6 +3,7 @@
 //! verdict is document 01's.
 
 use crate::bits::turn;
+use crate::days::Changes;
 use crate::ffi::Library;
 use crate::random::Random;
 use crate::run::{Outcome, Run};
@@ -181,17 +182,21 @@ fn named_faults(library: &mut Library, seed: u64) -> Result<(), String> {
 
 /// Every live call and freeze on these bytes; all refused if one word is given.
 fn verdict(library: &mut Library, bytes: &[u8], all: Option<i64>) -> Result<(), String> {
-    for call in [
+    let calls = [
         Call::Free,
         Call::Append(7),
         Call::Set(0, 7),
+        Call::Insert(0, 7),
+        Call::Strike(0),
         Call::Count(0),
         Call::Reading(0),
         Call::Reach(0),
-        Call::Day(0),
+        Call::Day(0, Changes::NONE),
+        Call::Day(0, Changes::of(&[0])),
         Call::Freeze(3, 0),
         Call::Freeze(1, -1),
-    ] {
+    ];
+    for call in calls.into_iter().filter(Call::is_there) {
         let done = compare(library, &mut bytes.to_vec(), call)
             .map_err(|difference| format!("{call}: {difference}"))?;
         if let Some(expected) = all {

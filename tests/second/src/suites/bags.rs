@@ -1,0 +1,111 @@
+//! Bags matched over images of every page size.
+
+use crate::image::image_of;
+use crate::plain::TOTAL_LIMIT;
+use crate::random::{counts, Random, Size};
+use crate::run::{Outcome, Run};
+use crate::run_calls::compare_match;
+use crate::store_calls::same_word;
+
+const FIRST_SEED: u64 = 8_200_000;
+const LISTS: u64 = 300;
+/// Up to this total every figure is asked.
+const EVERY: u64 = 400;
+
+/// Figures whose low bits alone could be good ones.
+const WILD: [u64; 6] = [0, 1 << 32, (1 << 32) + 5, 1 << 40, 1 << 63, u64::MAX];
+
+pub fn play(run: &mut Run) -> Outcome {
+    let result = by_document_02(run);
+    run.note("bags by document 02", result)?;
+    for e in run.page_sizes() {
+        let result = around_a_border(run, e).and_then(|()| longest(run, e));
+        run.note(format!("bags, e = {e}"), result)?;
+    }
+    run.each_seed(FIRST_SEED, LISTS, random_list)
+}
+
+/// Counts, figure and the word: the first hour, and the hours from 2^32 on.
+const WORDS: [(&[u64], u64, i64); 13] = [
+    (&[0, 0, 5], 5, 3 << 32),
+    (&[5, 0, 0], 5, 1 << 32),
+    (&[9, 0, 5, 0], 5, 1 + (2 << 32)),
+    (&[1, 0, 2, 0, 5], 8, 5 << 32),
+    (&[1, 0, 2, 0, 5], 7, 1 + (4 << 32)),
+    (&[2, 3, 4, 1], 5, 2 << 32),
+    (&[3, 3], 4, 0),
+    (&[3, 3], 7, 0),
+    (&[0, 0], 1, 0),
+    (&[], 1, 0),
+    (&[], 0, -17),
+    (&[0, 0], 0, -17),
+    (&[4_294_967_295], 4_294_967_295, 1 << 32),
+];
+
+fn by_document_02(run: &mut Run) -> Result<(), String> {
+    for (list, figure, expected) in WORDS {
+        let answer = run.library.image_match(&mut image_of(list, 2), figure);
+        same_word(answer, expected, "document 02")?;
+    }
+    // 6 before 17, and 5 before both.
+    let mut damaged = image_of(WORDS[0].0, 2);
+    damaged[8] ^= 1;
+    same_word(run.library.image_match(&mut damaged, 0), -6, "document 02")?;
+    damaged[0] = 9;
+    same_word(run.library.image_match(&mut damaged, 0), -5, "document 02")
+}
+
+fn compare(run: &mut Run, list: &[u64], e: u32, bags: &[u64]) -> Result<(), String> {
+    let image = image_of(list, e);
+    let accepted = Ok(list.to_vec());
+    compare_match(&mut run.library, &image, &accepted, bags)
+        .map_err(|difference| format!("e = {e}, N = {}: {difference}", list.len()))
+}
+
+/// Every figure over two pages and an hour, with zeros at either end and runs
+/// that cross the border.
+fn around_a_border(run: &mut Run, e: u32) -> Result<(), String> {
+    let page = 1usize << e;
+    let mut list = vec![0; 2 * page + 1];
+    (list[1], list[page - 1], list[page], list[2 * page - 1]) = (2, 7, 9, 30);
+    let every: Vec<u64> = (0..=50).chain(WILD).collect();
+    compare(run, &list, e, &every)?;
+    let every: Vec<u64> = (0..=6 * page as u64 + 4).chain(WILD).collect();
+    compare(run, &vec![3; 2 * page + 1], e, &every)
+}
+
+/// The most hours: a hit in the last hour alone, none at all, the whole log,
+/// and more than the log has.
+fn longest(run: &mut Run, e: u32) -> Result<(), String> {
+    let hours = 65_536;
+    let mut list = vec![2; hours];
+    let total = 2 * hours as u64;
+    let some = [1, 2, 3, 999, 1_000, total - 1, total, total + 1];
+    let some: Vec<u64> = some.into_iter().chain(WILD).collect();
+    compare(run, &list, e, &some)?;
+    list[hours - 1] = 3;
+    compare(run, &list, e, &some)?;
+    let mut last_alone = vec![0; hours];
+    last_alone[hours - 1] = TOTAL_LIMIT;
+    compare(run, &last_alone, e, &[1, TOTAL_LIMIT - 1, TOTAL_LIMIT])?;
+    compare(run, &vec![0; hours], e, &[0, 1])
+}
+
+fn random_list(run: &mut Run, seed: u64) -> Result<(), String> {
+    let mut random = Random::new(seed);
+    let (e, length) = (random.between(2, 8) as u32, random.below(120) as usize);
+    let size = random.pick(&Size::ALL);
+    let list = counts(&mut random, length, size);
+    let total: u64 = list.iter().sum();
+    let mut bags: Vec<u64> = WILD.into();
+    if total <= EVERY {
+        bags.extend(1..=total + 1);
+    }
+    for _ in 0..60 {
+        let end = random.between(0, length as u64) as usize;
+        let first = random.between(0, end as u64) as usize;
+        let sum: u64 = list[first..end].iter().sum();
+        bags.extend([sum.saturating_sub(1), sum, sum + 1]);
+    }
+    compare(run, &list, e, &bags)
+}
