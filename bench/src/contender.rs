@@ -2,12 +2,21 @@
 //! through pointers, so that none can be inlined into the timing loop: the
 //! library cannot be.
 
-use rival::{image, store, Code, Fast, Straightforward};
+use rival::{books, image, moves, runs, store, Code, Fast, Straightforward};
 
 // Not every call is measured.
 #[allow(dead_code)]
 #[path = "../../tests/exported.rs"]
-mod c;
+mod exported;
+
+#[path = "../../tests/second/src/not_yet.rs"]
+mod not_yet;
+
+mod c {
+    pub use super::exported::*;
+    #[allow(unused_imports)]
+    pub use super::not_yet::*;
+}
 
 pub struct Contender {
     pub name: &'static str,
@@ -17,6 +26,12 @@ pub struct Contender {
     pub reading: fn(&[u8], u32) -> i64,
     pub reach: fn(&[u8], u64) -> i64,
     pub append: fn(&mut [u8], u32) -> i64,
+    pub busiest: fn(&[u8], u32) -> i64,
+    pub matched: fn(&[u8], u64) -> i64,
+    pub from_book: fn(&[u8], u32, &mut [u8]) -> i64,
+    pub to_book: fn(&[u8], &mut [u8]) -> i64,
+    pub insert: fn(&mut [u8], u32, u32) -> i64,
+    pub strike: fn(&mut [u8], u32) -> i64,
 }
 
 pub fn all() -> [Contender; 3] {
@@ -36,6 +51,12 @@ fn rival<C: Code>(name: &'static str) -> Contender {
         reading: image::reading::<C>,
         reach: image::reach::<C>,
         append: store::append::<C>,
+        busiest: runs::busiest::<C>,
+        matched: runs::matched::<C>,
+        from_book: books::to_image::<C>,
+        to_book: books::from_image::<C>,
+        insert: moves::insert::<C>,
+        strike: moves::strike::<C>,
     }
 }
 
@@ -55,5 +76,23 @@ fn library() -> Contender {
             c::hourlog_image_reach(image.as_ptr(), image.len(), figure)
         },
         append: |store, count| unsafe { c::hourlog_append(store.as_mut_ptr(), store.len(), count) },
+        busiest: |image, hours| unsafe {
+            c::hourlog_image_busiest(image.as_ptr(), image.len(), hours)
+        },
+        matched: |image, figure| unsafe {
+            c::hourlog_image_match(image.as_ptr(), image.len(), figure)
+        },
+        from_book: |book, e, out| unsafe {
+            let (image, room) = (out.as_mut_ptr(), out.len());
+            c::hourlog_image_from_bcd(book.as_ptr(), book.len(), e, image, room)
+        },
+        to_book: |image, out| unsafe {
+            let (book, room) = (out.as_mut_ptr(), out.len());
+            c::hourlog_image_to_bcd(image.as_ptr(), image.len(), book, room)
+        },
+        insert: |store, hour, count| unsafe {
+            c::hourlog_insert(store.as_mut_ptr(), store.len(), hour, count)
+        },
+        strike: |store, hour| unsafe { c::hourlog_strike(store.as_mut_ptr(), store.len(), hour) },
     }
 }

@@ -5,31 +5,28 @@ use rival::{store, Code, Straightforward};
 
 const PAGE: usize = 64;
 
-pub struct Filled {
-    pub bytes: Vec<u8>,
-    /// Hours that can still be logged.
-    pub left: usize,
-}
-
-/// A store of 1,800 cells for every 1,024 pages, all pages but the last filled:
-/// seven in ten have two cells, the others one, and a few cells are free.
-pub fn filled(pages: usize) -> Filled {
+/// A store of 1,800 cells for every 1,024 pages that is full but for so many
+/// hours of its last page: seven pages in ten have two cells, the others one,
+/// and a few cells are free.
+pub fn filled(pages: usize, left: usize) -> Vec<u8> {
+    assert!(left <= PAGE);
     let cells = 1_800 * pages / 1_024;
     let mut bytes = vec![0; 16 + 6 * pages + 32 * cells];
     assert_eq!(store::fresh(&mut bytes, pages as u32, cells as u32), 0);
     let mut random = Random::new(13);
     let mut next = 1;
-    for page in 0..pages - 1 {
+    for page in 0..pages {
         let mut counts = [0; PAGE];
         let most = if page % 10 < 7 { 6 } else { 3 };
-        counts.fill_with(|| random.below(most) as u32);
+        let hours = if page + 1 == pages { PAGE - left } else { PAGE };
+        counts[..hours].fill_with(|| random.below(most) as u32);
         next = fill_page(&mut bytes, pages, page, &counts, next);
     }
     put(&mut bytes, 6, next as u64, 2);
     put(&mut bytes, 8, (cells + 1 - next) as u64, 2);
-    put(&mut bytes, 12, (PAGE * (pages - 1)) as u64, 4);
+    put(&mut bytes, 12, (PAGE * pages - left) as u64, 4);
     assert!(store::free::<Straightforward>(&bytes) > 0, "a sound store");
-    Filled { bytes, left: PAGE }
+    bytes
 }
 
 /// Lays a page's code into cells from `cell` on; gives the first one behind.
@@ -45,7 +42,8 @@ fn fill_page(bytes: &mut [u8], pages: usize, page: usize, counts: &[u32], cell: 
         bytes[at + 2..at + 32].copy_from_slice(&code[30 * k..][..30]);
     }
     put(bytes, 16 + 6 * page, sum, 4);
-    put(bytes, 16 + 6 * page + 4, cell as u64, 2);
+    let first = if number == 0 { 0 } else { cell };
+    put(bytes, 16 + 6 * page + 4, first as u64, 2);
     cell + number
 }
 

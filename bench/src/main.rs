@@ -16,7 +16,7 @@ use tasks::Task;
 fn main() {
     let contenders = contender::all();
     println!(
-        "{:<28} {:>9} {:>9} {:>9}   {:>9} {:>9}",
+        "{:<32} {:>9} {:>9} {:>9}   {:>9} {:>9}",
         "", "library", "straight", "fast", "lib/strai", "lib/fast"
     );
     for kind in Kind::ALL {
@@ -28,13 +28,16 @@ fn main() {
     for pages in [16, 64, 256, 1_024] {
         measure(&contenders, &format!("{pages} pages"), tasks::append(pages));
     }
+    for task in tasks::moves(1_024) {
+        measure(&contenders, "1024 pages", task);
+    }
 }
 
 /// Times one task for each contender and prints a row of the table.
 fn measure(contenders: &[Contender; 3], on: &str, mut task: Task) {
     let [library, straightforward, fast] = timing::best_of_many(contenders, &mut task);
     println!(
-        "{:<28} {library:>9.2} {straightforward:>9.2} {fast:>9.2}   {:>9.2} {:>9.2}",
+        "{:<32} {library:>9.2} {straightforward:>9.2} {fast:>9.2}   {:>9.2} {:>9.2}",
         format!("{} {on}, {}", task.name, task.unit),
         library / straightforward,
         library / fast

@@ -3,11 +3,13 @@
 use crate::contender::Contender;
 use crate::data::{in_order, questions, HOURS};
 use crate::filled::filled;
-use std::rc::Rc;
 
 const E: u32 = 6;
 const QUESTIONS: usize = 8_192;
 const APPENDS: usize = 2;
+const PAGE: usize = 64;
+/// The stretch that is asked for: a day.
+const STRETCH: u32 = 24;
 
 pub type Work = Box<dyn Fn(&Contender, &mut [u8]) -> i64>;
 
@@ -26,14 +28,13 @@ pub struct Task {
 
 /// Each image call over the image of some counts.
 pub fn over_image(counts: &[u32]) -> Vec<Task> {
-    let counts: Rc<[u32]> = counts.into();
     let total = counts.iter().map(|&count| u64::from(count)).sum::<u64>();
-    let mut image = vec![0; rival::image::length::<rival::Fast>(&counts, E) as usize];
-    rival::image::write::<rival::Fast>(&counts, E, &mut image);
+    let image = image_of(counts);
     let random = questions(HOURS as u64, QUESTIONS);
     let ordered = in_order(QUESTIONS);
     let figures = questions(total + 1, QUESTIONS);
-    vec![
+    let written = counts.to_vec();
+    let mut tasks = vec![
         counting("count", &image, random.clone()),
         reading("reading", &image, random),
         counting("count in order", &image, ordered.clone()),
@@ -43,9 +44,60 @@ pub fn over_image(counts: &[u32]) -> Vec<Task> {
         }),
         // Into a buffer that is not clear.
         whole("write", &vec![0xFF; image.len()], move |by, bytes| {
-            (by.write)(&counts, E, bytes)
+            (by.write)(&written, E, bytes)
         }),
         whole("check", &image, |by, bytes| (by.check)(bytes)),
+    ];
+    if cfg!(feature = "busiest") {
+        tasks.push(whole("busiest", &image, |by, bytes| {
+            (by.busiest)(bytes, STRETCH)
+        }));
+    }
+    tasks.extend(matches(counts));
+    tasks.extend(books(counts));
+    tasks
+}
+
+fn image_of(counts: &[u32]) -> Vec<u8> {
+    let mut image = vec![0; rival::image::length::<rival::Fast>(counts, E) as usize];
+    rival::image::write::<rival::Fast>(counts, E, &mut image);
+    image
+}
+
+/// The last count alone is odd: a bag of as many coins is found there and
+/// nowhere else, an odd one of less coins nowhere.
+fn matches(counts: &[u32]) -> Vec<Task> {
+    if !cfg!(feature = "match") {
+        return Vec::new();
+    }
+    let mut counts: Vec<u32> = counts.iter().map(|count| count & !1).collect();
+    *counts.last_mut().expect("hours") = 1_001;
+    let image = image_of(&counts);
+    vec![
+        whole("match at end", &image, |by, bytes| {
+            (by.matched)(bytes, 1_001)
+        }),
+        whole("match none", &image, |by, bytes| (by.matched)(bytes, 999)),
+    ]
+}
+
+/// A book of the counts, as far as four digits hold them, over and back.
+fn books(counts: &[u32]) -> Vec<Task> {
+    if !cfg!(feature = "books") {
+        return Vec::new();
+    }
+    let counts: Vec<u32> = counts.iter().map(|count| count % 10_000).collect();
+    let image = image_of(&counts);
+    let mut book = vec![0; 2 * counts.len()];
+    rival::books::from_image::<rival::Fast>(&image, &mut book);
+    let (no_image, no_book) = (vec![0xFF; image.len()], vec![0xFF; book.len()]);
+    vec![
+        whole("from book", &no_image, move |by, bytes| {
+            (by.from_book)(&book, E, bytes)
+        }),
+        whole("to book", &no_book, move |by, bytes| {
+            (by.to_book)(&image, bytes)
+        }),
     ]
 }
 
@@ -63,19 +115,43 @@ fn reading(name: &'static str, image: &[u8], hours: Vec<u64>) -> Task {
 
 /// Appends to a store of which most pages hold data, each with its full check.
 pub fn append(pages: usize) -> Task {
-    let filled = filled(pages);
-    assert!(filled.left >= APPENDS);
+    let start = filled(pages, PAGE);
+    over_store("append", APPENDS, start, |by, bytes| {
+        let counts: Vec<u64> = (1..=APPENDS as u64).collect();
+        all_answers(&counts, |count| (by.append)(bytes, count as u32))
+    })
+}
+
+fn over_store(
+    name: &'static str,
+    calls: usize,
+    start: Vec<u8>,
+    work: impl Fn(&Contender, &mut [u8]) -> i64 + 'static,
+) -> Task {
     Task {
-        name: "append",
+        name,
         unit: "us",
-        divisor: 1_000.0 * APPENDS as f64,
+        divisor: 1_000.0 * calls as f64,
         rounds: 600,
-        start: filled.bytes,
-        work: Box::new(|by, bytes| {
-            let counts: Vec<u64> = (1..=APPENDS as u64).collect();
-            all_answers(&counts, |count| (by.append)(bytes, count as u32))
-        }),
+        start,
+        work: Box::new(work),
     }
+}
+
+/// An hour more before all others, and the first one struck: in a full log,
+/// or one that lacks an hour, every page is rewritten.
+pub fn moves(pages: usize) -> Vec<Task> {
+    if !cfg!(feature = "insert-strike") {
+        return Vec::new();
+    }
+    vec![
+        over_store("insert", 1, filled(pages, 1), |by, bytes| {
+            (by.insert)(bytes, 0, 5)
+        }),
+        over_store("strike", 1, filled(pages, 0), |by, bytes| {
+            (by.strike)(bytes, 0)
+        }),
+    ]
 }
 
 /// One number that stands for all answers in their order.

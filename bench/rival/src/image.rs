@@ -7,21 +7,40 @@ use crate::refused::{word, BODY, BUFFER, FIGURE, HEADER, HOUR, LIST, PAGE_SIZE, 
 const HEADER_BYTES: usize = 16;
 pub const MOST_HOURS: usize = 65_536;
 pub const MOST_TOTAL: u64 = 4_294_967_295;
-const LARGEST_PAGE: usize = 256;
+pub(crate) const LARGEST_PAGE: usize = 256;
 
-fn page_size_allowed(e: u32) -> bool {
+pub(crate) fn page_size_allowed(e: u32) -> bool {
     (2..=8).contains(&e)
 }
 
-/// Calls `each` with every page's counts, the last one filled with zeros.
-fn each_page(counts: &[u32], e: u32, mut each: impl FnMut(&[u32])) {
-    let pages = counts.chunks_exact(1 << e);
-    let rest = pages.remainder();
-    pages.for_each(&mut each);
-    if !rest.is_empty() {
-        let mut last = [0; LARGEST_PAGE];
-        last[..rest.len()].copy_from_slice(rest);
-        each(&last[..1 << e]);
+/// Where the counts of a new image come from.
+pub(crate) trait Source {
+    fn hours(&self) -> usize;
+
+    fn total(&self) -> u64;
+
+    /// Calls `each` with every page's counts, the last one filled with zeros.
+    fn each_page(&self, e: u32, each: impl FnMut(&[u32]));
+}
+
+impl Source for [u32] {
+    fn hours(&self) -> usize {
+        self.len()
+    }
+
+    fn total(&self) -> u64 {
+        sum(self)
+    }
+
+    fn each_page(&self, e: u32, mut each: impl FnMut(&[u32])) {
+        let pages = self.chunks_exact(1 << e);
+        let rest = pages.remainder();
+        pages.for_each(&mut each);
+        if !rest.is_empty() {
+            let mut last = [0; LARGEST_PAGE];
+            last[..rest.len()].copy_from_slice(rest);
+            each(&last[..1 << e]);
+        }
     }
 }
 
@@ -36,23 +55,21 @@ struct Measures {
     bytes: usize,
 }
 
-fn measured<C: Code>(counts: &[u32], e: u32) -> Result<Measures, i64> {
+fn measured<C: Code>(counts: &(impl Source + ?Sized), e: u32) -> Result<Measures, i64> {
     if !page_size_allowed(e) {
         return Err(PAGE_SIZE);
     }
-    if counts.len() > MOST_HOURS {
+    if counts.hours() > MOST_HOURS {
         return Err(LIST);
     }
-    let total = sum(counts);
+    let total = counts.total();
     if total > MOST_TOTAL {
         return Err(TOTAL);
     }
     let root = digits(total) as usize;
     let mut code_bits = 0;
-    each_page(counts, e, |page| {
-        code_bits += root + C::reserve(e, sum(page))
-    });
-    let bytes = image_bytes(counts.len(), e, code_bits);
+    counts.each_page(e, |page| code_bits += root + C::reserve(e, sum(page)));
+    let bytes = image_bytes(counts.hours(), e, code_bits);
     Ok(Measures {
         total,
         code_bits,
@@ -69,6 +86,10 @@ pub fn length<C: Code>(counts: &[u32], e: u32) -> i64 {
 }
 
 pub fn write<C: Code>(counts: &[u32], e: u32, out: &mut [u8]) -> i64 {
+    write_from::<C>(counts, e, out)
+}
+
+pub(crate) fn write_from<C: Code>(counts: &(impl Source + ?Sized), e: u32, out: &mut [u8]) -> i64 {
     let measures = match measured::<C>(counts, e) {
         Ok(measures) => measures,
         Err(refusal) => return refusal,
@@ -80,19 +101,24 @@ pub fn write<C: Code>(counts: &[u32], e: u32, out: &mut [u8]) -> i64 {
     measures.bytes as i64
 }
 
-fn write_measured<C: Code>(counts: &[u32], e: u32, measures: &Measures, image: &mut [u8]) {
+fn write_measured<C: Code>(
+    counts: &(impl Source + ?Sized),
+    e: u32,
+    measures: &Measures,
+    image: &mut [u8],
+) {
     image.fill(0);
     image[0] = 1;
     image[1] = e as u8;
-    put_four(image, 4, counts.len() as u64);
+    put_four(image, 4, counts.hours() as u64);
     put_four(image, 8, measures.total);
     put_four(image, 12, measures.code_bits as u64);
-    let table_bytes = 4 * counts.len().div_ceil(1 << e);
+    let table_bytes = 4 * counts.hours().div_ceil(1 << e);
     let (table, code) = image[HEADER_BYTES..].split_at_mut(table_bytes);
     let mut starts = table.chunks_exact_mut(4);
     let width = digits(measures.total);
     let (mut at, mut root) = (0, 0);
-    each_page(counts, e, |page| {
+    counts.each_page(e, |page| {
         let start = starts.next().expect("one entry a page");
         put_four(start, 0, at as u64);
         let s = sum(page);
@@ -107,9 +133,9 @@ fn write_measured<C: Code>(counts: &[u32], e: u32, measures: &Measures, image: &
 }
 
 /// An image that refusal 5 let pass.
-struct Image<'a> {
+pub(crate) struct Image<'a> {
     e: u32,
-    hours: usize,
+    pub hours: usize,
     total: u64,
     code_bits: usize,
     starts: &'a [u8],
@@ -236,6 +262,14 @@ impl<'a> Image<'a> {
                 .is_ok_and(|found| found.before + found.count == self.total)
     }
 
+    /// The counts of the page at an hour of an accepted image.
+    #[inline(always)]
+    pub fn read_page<C: Code>(&self, hour: usize, counts: &mut [u32; LARGEST_PAGE]) -> usize {
+        let page = self.page::<C>(hour >> self.e).expect("an accepted image");
+        C::read(self.code, page.at, page.sum, &mut counts[..1 << self.e]);
+        1 << self.e
+    }
+
     /// The first page whose root is the figure or more, 1 ≤ figure ≤ S.
     #[inline(always)]
     fn page_of<C: Code>(&self, figure: u64) -> Result<usize, i64> {
@@ -268,13 +302,17 @@ impl<'a> Image<'a> {
     }
 }
 
+/// An image that the full check accepts.
+pub(crate) fn accepted<C: Code>(bytes: &[u8]) -> Result<Image<'_>, i64> {
+    let image = Image::open(bytes)?;
+    match image.is_exact::<C>() {
+        true => Ok(image),
+        false => Err(BODY),
+    }
+}
+
 pub fn check<C: Code>(bytes: &[u8]) -> i64 {
-    word(Image::open(bytes).and_then(|image| {
-        if !image.is_exact::<C>() {
-            return Err(BODY);
-        }
-        Ok(image.total as i64 + ((image.hours as i64) << 40))
-    }))
+    word(accepted::<C>(bytes).map(|image| image.total as i64 + ((image.hours as i64) << 40)))
 }
 
 pub fn count<C: Code>(bytes: &[u8], hour: u32) -> i64 {

@@ -1,4 +1,4 @@
-//! The hour log of document 01 in unverified, safe Rust: what the library's
+//! The hour log of documents 01 and 02 in unverified, safe Rust: what the library's
 //! speed is measured against.
 //!
 //! Image and store are written once over the trait `Code`, which has two
@@ -10,11 +10,15 @@
 //! purpose: that one is written from document 01 alone, to be read beside it,
 //! and knows nothing of speed; a fault in one is not to hide in the other.
 
+pub mod books;
 mod code;
+mod cursor;
 mod fast;
 mod fields;
 pub mod image;
+pub mod moves;
 mod refused;
+pub mod runs;
 mod sound;
 pub mod store;
 mod straightforward;

@@ -12,6 +12,10 @@ pub const FRESH: i64 = -9;
 pub const UNSOUND: i64 = -10;
 pub const FULL: i64 = -11;
 pub const CELLS: i64 = -12;
+pub const STRETCH: i64 = -13;
+pub const NOT_DECIMAL: i64 = -14;
+pub const NO_BOOK_COUNT: i64 = -15;
+pub const EMPTY_BAG: i64 = -17;
 
 /// The word of a call that may be refused on its way.
 pub fn word(answer: Result<i64, i64>) -> i64 {

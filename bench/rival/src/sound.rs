@@ -5,7 +5,7 @@ use crate::fields::{all_zero, four, two};
 use crate::image::MOST_TOTAL;
 use crate::refused::UNSOUND;
 
-const MOST_PAGES: usize = 1_024;
+pub const MOST_PAGES: usize = 1_024;
 const MOST_CELLS: usize = 1_800;
 pub const PAGE: usize = 64;
 pub const HEIGHT: u32 = 6;

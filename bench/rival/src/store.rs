@@ -9,7 +9,7 @@ use crate::sound::{
 };
 
 impl Sound {
-    fn sum(&self, bytes: &[u8], page: usize) -> u64 {
+    pub(crate) fn sum(&self, bytes: &[u8], page: usize) -> u64 {
         four(bytes, self.layout.entry(page))
     }
 
@@ -28,7 +28,7 @@ impl Sound {
     }
 
     /// The code of a page of a store that is known to be sound.
-    fn code<C: Code>(&self, bytes: &[u8], page: usize) -> [u8; PAGE_CODE] {
+    pub(crate) fn code<C: Code>(&self, bytes: &[u8], page: usize) -> [u8; PAGE_CODE] {
         let mut code = [0; PAGE_CODE];
         let cells = self.joined(bytes, page, cells_of::<C>(self.sum(bytes, page)));
         for (part, &cell) in code.chunks_exact_mut(CELL_CODE).zip(&cells) {
@@ -39,7 +39,7 @@ impl Sound {
         code
     }
 
-    fn counts<C: Code>(&self, bytes: &[u8], page: usize) -> [u32; PAGE] {
+    pub(crate) fn counts<C: Code>(&self, bytes: &[u8], page: usize) -> [u32; PAGE] {
         let mut counts = [0; PAGE];
         let code = self.code::<C>(bytes, page);
         C::read(&code, 0, self.sum(bytes, page), &mut counts);
@@ -93,7 +93,7 @@ impl Sound {
 
     /// Moves the line between a page's chain and the free chain behind it,
     /// and fills the cells on both sides of it that are concerned.
-    fn relink(
+    pub(crate) fn relink(
         &self,
         bytes: &mut [u8],
         page: usize,
@@ -123,7 +123,8 @@ impl Sound {
         let first = if after == 0 { 0 } else { cells[0] };
         put_two(bytes, self.layout.entry(page) + 4, first);
         put_two(bytes, 6, first_of(after, rest));
-        put_two(bytes, 8, self.free + before - after);
+        let free = two(bytes, 8) + before - after;
+        put_two(bytes, 8, free);
     }
 }
 

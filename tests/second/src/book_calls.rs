@@ -1,7 +1,8 @@
 //! Comparison of the calls between books and images.
 
 use crate::book::{book_of_image, image_of_book};
-use crate::ffi::{Function, Library};
+use crate::ffi::Library;
+use crate::function::Function;
 use crate::image_calls::{compare_output, rooms};
 use crate::refusal::Answer;
 use crate::store_calls::same_bytes;

@@ -2,7 +2,7 @@
 //! drawn near the turning points of the state they will meet.
 
 use crate::days::{Changes, WRONG};
-use crate::ffi::{Function, CHANGED_DAYS};
+use crate::function::{Function, CHANGED_DAYS};
 use crate::plain::Plain;
 use crate::random::{count, Random, Size};
 use crate::store_bytes::{self, fits};

@@ -1,7 +1,7 @@
 //! Memory between inaccessible pages, and what is said when a call steps on
 //! one.
 
-use crate::ffi::Function;
+use crate::function::Function;
 use std::sync::atomic::{AtomicU64, AtomicUsize, Ordering::Relaxed};
 
 /// With what status the program ends when a call has stepped outside.

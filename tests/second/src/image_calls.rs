@@ -139,44 +139,42 @@ pub fn compare_looking(
     let answer = library.image_check(&mut lent);
     let expected = Reached::Exactly(image::check(&list));
     agree(format_args!("check"), answer, &expected, &lent, bytes)?;
-    for &hour in &questions.hours {
-        let answer = library.image_count(&mut lent, hour);
+    let (hours, figures) = (&questions.hours, &questions.figures);
+    ask_each("count", bytes, hours, |lent, hour| {
         let expected = Reached::Exactly(image::count(bytes, hour.into()));
-        agree(
-            format_args!("count {hour}"),
-            answer,
-            &expected,
-            &lent,
-            bytes,
-        )?;
-        let answer = library.image_reading(&mut lent, hour);
+        (library.image_count(lent, hour), expected)
+    })?;
+    ask_each("reading", bytes, hours, |lent, hour| {
         let expected = Reached::Exactly(image::reading(bytes, hour.into()));
-        agree(
-            format_args!("reading {hour}"),
-            answer,
-            &expected,
-            &lent,
-            bytes,
-        )?;
-    }
-    for &figure in &questions.figures {
-        let answer = library.image_reach(&mut lent, figure);
+        (library.image_reading(lent, hour), expected)
+    })?;
+    ask_each("reach", bytes, figures, |lent, figure| {
         let expected = image::reach(bytes, &list, figure);
-        agree(
-            format_args!("reach {figure}"),
-            answer,
-            &expected,
-            &lent,
-            bytes,
-        )?;
-    }
+        (library.image_reach(lent, figure), expected)
+    })?;
     compare_busiest(library, bytes, &list, &questions.stretches)?;
     compare_match(library, bytes, &list, &questions.bags)?;
     compare_to_book(library, bytes, &list)
 }
 
+/// Asks one call every question; gives the library's word and what it may be.
+pub fn ask_each<Q: Copy + fmt::Display>(
+    name: &str,
+    bytes: &[u8],
+    questions: &[Q],
+    mut ask: impl FnMut(&mut [u8], Q) -> (i64, Reached),
+) -> Result<(), String> {
+    let mut lent = bytes.to_vec();
+    for &question in questions {
+        let (answer, expected) = ask(&mut lent, question);
+        let call = format_args!("{name} {question}");
+        agree(call, answer, &expected, &lent, bytes)?;
+    }
+    Ok(())
+}
+
 /// Whether a call gave a word that it may give, and left all bytes alone.
-pub fn agree(
+fn agree(
     call: fmt::Arguments,
     answer: i64,
     expected: &Reached,

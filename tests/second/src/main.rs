@@ -20,6 +20,7 @@ mod draw;
 mod fence;
 mod ffi;
 mod forgotten;
+mod function;
 mod image;
 mod image_calls;
 mod lent;
@@ -40,7 +41,8 @@ mod store_calls;
 mod suites;
 mod tree;
 
-use ffi::{Function, Library};
+use ffi::Library;
+use function::Function;
 use run::Run;
 use std::process::ExitCode;
 use std::time::Instant;

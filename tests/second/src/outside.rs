@@ -4,7 +4,8 @@
 
 use crate::book;
 use crate::fence::STEPPED_OUTSIDE;
-use crate::ffi::{Function, Library, CHANGED_DAYS};
+use crate::ffi::Library;
+use crate::function::{Function, CHANGED_DAYS};
 use crate::image;
 use crate::lent::{Short, Side};
 use crate::store;

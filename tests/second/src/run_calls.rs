@@ -2,57 +2,43 @@
 
 use crate::bag::matched;
 use crate::busiest::busiest;
-use crate::ffi::{Function, Library};
+use crate::ffi::Library;
+use crate::function::Function;
 use crate::image::Reached;
-use crate::image_calls::agree;
+use crate::image_calls::ask_each;
 use crate::refusal::{Answer, Packed};
 
-/// The busiest run of each of these numbers of hours, over any bytes.
+/// The busiest run of each of these numbers of hours, over any bytes of which
+/// the full check says this.
 pub fn compare_busiest(
     library: &mut Library,
     bytes: &[u8],
     list: &Answer<Vec<u64>>,
     stretches: &[u32],
 ) -> Result<(), String> {
-    let mut lent = bytes.to_vec();
-    for &hours in stretches {
-        if Function::ImageBusiest.is_there() {
-            let answer = library.image_busiest(&mut lent, hours);
-            let expected = exactly(busiest(list, hours.into()));
-            agree(
-                format_args!("busiest {hours}"),
-                answer,
-                &expected,
-                &lent,
-                bytes,
-            )?;
-        }
+    if !Function::ImageBusiest.is_there() {
+        return Ok(());
     }
-    Ok(())
+    ask_each("busiest", bytes, stretches, |lent, hours| {
+        let expected = exactly(busiest(list, hours.into()));
+        (library.image_busiest(lent, hours), expected)
+    })
 }
 
-/// The run that matches each of these bags, over any bytes.
+/// The run that matches each of these bags.
 pub fn compare_match(
     library: &mut Library,
     bytes: &[u8],
     list: &Answer<Vec<u64>>,
     bags: &[u64],
 ) -> Result<(), String> {
-    let mut lent = bytes.to_vec();
-    for &figure in bags {
-        if Function::ImageMatch.is_there() {
-            let answer = library.image_match(&mut lent, figure);
-            let expected = exactly(matched(list, figure));
-            agree(
-                format_args!("match {figure}"),
-                answer,
-                &expected,
-                &lent,
-                bytes,
-            )?;
-        }
+    if !Function::ImageMatch.is_there() {
+        return Ok(());
     }
-    Ok(())
+    ask_each("match", bytes, bags, |lent, figure| {
+        let expected = exactly(matched(list, figure));
+        (library.image_match(lent, figure), expected)
+    })
 }
 
 fn exactly<T: Packed>(answer: Answer<T>) -> Reached {

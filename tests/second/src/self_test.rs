@@ -2,7 +2,8 @@
 //! spoilt, for each function in each suite, and each time it must be noticed.
 //! And whether what it compares with is what document 02 asks for.
 
-use crate::ffi::{Fault, Function, Spoilt};
+use crate::ffi::{Fault, Spoilt};
+use crate::function::Function;
 use crate::image::Reached;
 use crate::image_calls::allowed;
 use crate::refusal::Refusal;

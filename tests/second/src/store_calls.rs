@@ -2,7 +2,8 @@
 //! implementation and the plain list.
 
 use crate::days::Changes;
-use crate::ffi::{Function, Library, CHANGED_DAYS};
+use crate::ffi::Library;
+use crate::function::{Function, CHANGED_DAYS};
 use crate::image;
 use crate::plain::Plain;
 use crate::refusal::word;

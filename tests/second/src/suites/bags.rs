@@ -5,7 +5,7 @@ use crate::plain::TOTAL_LIMIT;
 use crate::random::{counts, Random, Size};
 use crate::run::{Outcome, Run};
 use crate::run_calls::compare_match;
-use crate::store_calls::same_word;
+use crate::store_calls::{same_bytes, same_word};
 
 const FIRST_SEED: u64 = 8_200_000;
 const LISTS: u64 = 300;
@@ -44,15 +44,21 @@ const WORDS: [(&[u64], u64, i64); 13] = [
 
 fn by_document_02(run: &mut Run) -> Result<(), String> {
     for (list, figure, expected) in WORDS {
-        let answer = run.library.image_match(&mut image_of(list, 2), figure);
-        same_word(answer, expected, "document 02")?;
+        gives(run, &image_of(list, 2), figure, expected)?;
     }
     // 6 before 17, and 5 before both.
     let mut damaged = image_of(WORDS[0].0, 2);
     damaged[8] ^= 1;
-    same_word(run.library.image_match(&mut damaged, 0), -6, "document 02")?;
+    gives(run, &damaged, 0, -6)?;
     damaged[0] = 9;
-    same_word(run.library.image_match(&mut damaged, 0), -5, "document 02")
+    gives(run, &damaged, 0, -5)
+}
+
+fn gives(run: &mut Run, image: &[u8], figure: u64, expected: i64) -> Result<(), String> {
+    let mut lent = image.to_vec();
+    let answer = run.library.image_match(&mut lent, figure);
+    same_word(answer, expected, "document 02")?;
+    same_bytes(&lent, image, "image")
 }
 
 fn compare(run: &mut Run, list: &[u64], e: u32, bags: &[u64]) -> Result<(), String> {

@@ -1,8 +1,10 @@
 //! Old credit books turned into images and back.
 
-use crate::book::{book_of, counts};
+use crate::book::{book_of, counts, image_of_book};
 use crate::book_calls::{compare_from_book, compare_to_book};
 use crate::image::{self, image_of};
+use crate::image_calls::compare_output;
+use crate::plain::TOTAL_LIMIT;
 use crate::random::{Random, Size};
 use crate::run::{Outcome, Run};
 use crate::store_calls::{same_bytes, same_word};
@@ -27,42 +29,40 @@ pub fn play(run: &mut Run) -> Outcome {
     run.each_seed(FIRST_SEED, LISTS, random_book)
 }
 
-/// Ten coins are 00 10; what a book of one hour gives, and each refusal.
+/// Ten coins are 00 10; and each refusal before the next.
 fn by_document_02(run: &mut Run) -> Result<(), String> {
-    let mut image = image_of(&[10], 2);
-    let bytes = image.len() as i64;
-    let mut read = |book: &[u8], e, room: usize| {
-        let mut book = book.to_vec();
-        run.library
-            .image_from_book(&mut book, e, &mut vec![0; room])
-    };
-    let ten = [0x00, 0x10];
-    same_word(read(&ten, 2, 99), bytes, "document 02")?;
-    same_word(read(&[0x0A, 0x10, 0], 9, 0), -1, "document 02")?;
-    same_word(read(&[0x0A, 0x10], 2, 0), -14, "document 02")?;
-    same_word(read(&ten[..1], 2, 0), -14, "document 02")?;
-    same_word(read(&vec![0xF0; MOST_BYTES + 2], 2, 0), -14, "document 02")?;
-    same_word(read(&vec![0; MOST_BYTES + 1], 2, 0), -14, "document 02")?;
-    same_word(read(&vec![0; MOST_BYTES + 2], 2, 0), -2, "document 02")?;
-    same_word(read(&ten, 2, bytes as usize - 1), -4, "document 02")?;
+    let image = image_of(&[10], 2);
+    let (ten, bytes) = ([0x00, 0x10], image.len());
+    reads(run, &ten, (2, 99), bytes as i64)?;
+    reads(run, &[0x0A, 0x10, 0], (9, 0), -1)?;
+    reads(run, &[0x0A, 0x10], (2, 0), -14)?;
+    reads(run, &ten[..1], (2, 0), -14)?;
+    reads(run, &vec![0xF0; MOST_BYTES + 2], (2, 0), -14)?;
+    reads(run, &vec![0; MOST_BYTES + 1], (2, 0), -14)?;
+    reads(run, &vec![0; MOST_BYTES + 2], (2, 0), -2)?;
+    reads(run, &ten, (2, bytes - 1), -4)?;
     let mut book = [0x5A; 3];
-    same_word(
-        run.library.image_to_book(&mut image, &mut book),
-        2,
-        "document 02",
-    )?;
+    let mut lent = image.clone();
+    let answer = run.library.image_to_book(&mut lent, &mut book);
+    same_word(answer, 2, "document 02")?;
+    same_bytes(&book, &[0x00, 0x10, 0x5A], "book of ten coins")?;
+    let answer = run.library.image_to_book(&mut lent, &mut book[..1]);
+    same_word(answer, -4, "document 02")?;
     same_bytes(&book, &[0x00, 0x10, 0x5A], "book of ten coins")?;
     let mut large = image_of(&[10_000], 2);
-    same_word(
-        run.library.image_to_book(&mut large, &mut []),
-        -15,
-        "document 02",
-    )?;
-    same_word(
-        run.library.image_to_book(&mut image, &mut book[..1]),
-        -4,
-        "document 02",
-    )
+    let answer = run.library.image_to_book(&mut large, &mut []);
+    same_word(answer, -15, "document 02")
+}
+
+/// A book read with an e into so much room.
+fn reads(run: &mut Run, book: &[u8], (e, room): (u32, usize), expected: i64) -> Result<(), String> {
+    let (mut lent, mut answer) = (book.to_vec(), 0);
+    compare_output(&image_of_book(book, e), room, "image of the book", |out| {
+        answer = run.library.image_from_book(&mut lent, e, out);
+        answer
+    })?;
+    same_bytes(&lent, book, "lent book")?;
+    same_word(answer, expected, "document 02")
 }
 
 /// Good books, books that are not decimal and one that is too long: all 1.
@@ -135,26 +135,19 @@ fn digits(run: &mut Run) -> Result<(), String> {
     Ok(())
 }
 
-/// Counts at the edge of four digits, in the first hour and in the last.
+/// Counts at the edge of four digits and far above it, in the first hour and in
+/// the last; the same with damage, for 6 comes before 15.
 fn counts_above(run: &mut Run) -> Result<(), String> {
-    for count in [
-        9_998,
-        9_999,
-        10_000,
-        10_001,
-        65_535,
-        65_536 + 5,
-        u32::MAX.into(),
-    ] {
+    for count in [9_998, 9_999, 10_000, 10_001, 65_536 + 5, TOTAL_LIMIT - 3] {
         for list in [vec![count], vec![count, 0, 3], vec![3, 0, 0, 0, count]] {
             for e in run.page_sizes() {
                 let image = image_of(&list, e);
-                compare_to_book(&mut run.library, &image, &Ok(list.clone()))?;
-                // 6 before 15.
                 let mut damaged = image.clone();
                 damaged[8] ^= 1;
-                let verdict = image::list(&damaged);
-                compare_to_book(&mut run.library, &damaged, &verdict)?;
+                for bytes in [image, damaged] {
+                    let verdict = image::list(&bytes);
+                    compare_to_book(&mut run.library, &bytes, &verdict)?;
+                }
             }
         }
     }

@@ -24,7 +24,8 @@ pub fn play(run: &mut Run) -> Outcome {
     })
 }
 
-/// Each refusal before the next, on a full log and on one that is not.
+/// Each refusal before the next: on a log that is full, and on one that lacks
+/// an hour.
 fn by_document_02(run: &mut Run) -> Result<(), String> {
     let too_many = u32::MAX;
     let full = tight().bytes();
@@ -36,7 +37,7 @@ fn by_document_02(run: &mut Run) -> Result<(), String> {
         (Call::Strike(u32::MAX), -7),
         (Call::Strike(0), -12),
         (Call::Strike(64), 0),
-        (Call::Strike(1), 65_536),
+        (Call::Strike(1), 0),
     ];
     all_give(run, &full, &words)?;
     let mut shorter = full.clone();
@@ -44,18 +45,27 @@ fn by_document_02(run: &mut Run) -> Result<(), String> {
     let words = [
         (Call::Insert(128, too_many), -7),
         (Call::Insert(127, too_many), -3),
-        (Call::Insert(127, too_many - 243), -12),
+        (Call::Insert(127, too_many - 244), -12),
         (Call::Insert(0, 1), -12),
         (Call::Insert(127, 0), 0),
     ];
     all_give(run, &shorter, &words)?;
-    let mut unsound = full.clone();
+    let mut unsound = full;
     unsound[11] = 1;
-    all_give(
-        run,
-        &unsound,
-        &[(Call::Insert(999, 0), -10), (Call::Strike(999), -10)],
-    )
+    let words = [(Call::Insert(999, 0), -10), (Call::Strike(999), -10)];
+    all_give(run, &unsound, &words)?;
+    rise_and_fall(run)
+}
+
+fn rise_and_fall(run: &mut Run) -> Result<(), String> {
+    let roomy = built(1, 8, &[0, 123], &mut Random::new(0)).expect("eight cells");
+    let words = [
+        (Call::Strike(0), 0),
+        (Call::Strike(1), 2 * 65_536),
+        (Call::Insert(0, 0), 0),
+        (Call::Insert(1, u32::MAX - 123), 6),
+    ];
+    all_give(run, &roomy.bytes(), &words)
 }
 
 fn all_give(run: &mut Run, bytes: &[u8], words: &[(Call, i64)]) -> Result<(), String> {

@@ -14,7 +14,7 @@ mod store_damage;
 mod store_faults;
 mod stretches;
 
-use crate::ffi::{Function, CHANGED_DAYS};
+use crate::function::{Function, CHANGED_DAYS};
 use crate::run::{Outcome, Run};
 
 pub struct Suite {
