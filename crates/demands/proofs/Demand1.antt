@@ -3,8 +3,8 @@ use mathlib.Core.Path.{_≡_, refl, sym, ap, _∙_, subst}
 use mathlib.Core.Bool.{Bool, true, false, true≢false}
 use mathlib.Core.List.{List, [], _∷_}
 use Prim.Native.Nat.{ℕ, _^_, _≤_, _<_}
+use native.Mathlib.Decide.{decLe}
 use native.Mathlib.Omega.{arith}
-use lib.Dec.{ltb}
 use Rattle.lists.specs.Lists.{reached}
 use Rattle.store.specs.Plain.{Answer, Append, Call, Count, Day, Free, Reach as ReachOf, Reading, Set}
 use Rattle.store.specs.Plain.{answered, changed, refused as turned}
@@ -12,8 +12,8 @@ use Rattle.store.specs.Call.{call, freshCall}
 use Rattle.store.proofs.Unchanged.{answered-keeps, fresh-refused-keeps, refused-keeps}
 use Rattle.image.specs.Calls.{writeCall}
 use Rattle.image.specs.Check.{accepted, headed}
-use Rattle.image.specs.Reach.{Free as Latitude, If, Reach, says-six}
-use Rattle.image.specs.Read.{listOf, nOf, sOf}
+use Rattle.image.specs.Reach.{Reach, above-total, damage, header-wrong, smallest}
+use Rattle.image.specs.Read.{listOf, sOf}
 use Rattle.image.specs.Reply.{Reply, given, refused}
 use Rattle.image.proofs.CallLaws.{write-refused}
 use Rattle.freeze.specs.Freeze.{freezeCall}
@@ -39,14 +39,13 @@ allowed (ImageReach i p) a t d = subst (Allowed (row (ImageReach i p))) (sym (d 
 
 -- ---- there is an answer
 may-reach : (s : List ℕ) (p : ℕ) → (a : Reply) × Reach s p a
-may-reach s p = go (headed s) (ltb (sOf s) p) (accepted s)
+may-reach s p = go (headed s) refl (decLe p (sOf s)) (accepted s) refl
   where
-    go : (x y z : Bool)
-        → (a : Reply) × If x (If y (a ≡ refused 8) (If z (a ≡ given (reached p (listOf s))) (Latitude (nOf s) a))) (a ≡ refused 5)
-    go false y z = (refused 5, refl)
-    go true true z = (refused 8, refl)
-    go true false true = (given (reached p (listOf s)), refl)
-    go true false false = (refused 6, says-six)
+    go : (x : Bool) → headed s ≡ x → Dec (p ≤ sOf s) → (z : Bool) → accepted s ≡ z → (a : Reply) × Reach s p a
+    go false h d z e = (refused 5, header-wrong h)
+    go true h (no n) z e = (refused 8, above-total h (omega arith))
+    go true h (yes l) true e = (given (reached p (listOf s)), smallest e l)
+    go true h (yes l) false e = (refused 6, damage h l e)
 
 some : (c : PublicCall) → (a : End) × (t : List (List ℕ)) × Ends c a t
 some (Fresh s P C) = (_, _, (refl, refl))

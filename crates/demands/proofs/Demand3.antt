@@ -17,7 +17,7 @@ use Rattle.store.specs.Plain.{answered, need, plainAnswers, plainEnd, plainFres
 use Rattle.store.specs.Reading.{read}
 use Rattle.store.specs.Sound.{Good, sound}
 use Rattle.store.proofs.ChainLaws.{Says, says}
-use Rattle.store.proofs.FreshBytes.{fitting-exactly}
+use Rattle.store.proofs.LimitLaws.{fitting-exactly}
 use Rattle.store.proofs.FreshLaws.{fresh-good}
 use Rattle.store.proofs.ItemLaws.{sound-items}
 use Rattle.store.proofs.Unchanged.{kept-at}
@@ -85,7 +85,7 @@ module _ (b : List ℕ) (P C : ℕ) (h : Fitting b P C) (cs : List Call) where
   ended : (m : Model) × Good m × (storeAfter b P C cs ≡ bytesOf m) × (m .plain ≡ listAfter P C cs)
       × (storeAnswers cs (freshCall b P C .bytes) ≡ plainAnswers cs (plainFresh P C))
   ended =
-      let w = ends cs (fresh P C) (fresh-good P C (h .pages-low) (h .pages-high) (h .cells-low) (h .cells-high)) in
+      let w = ends cs (fresh P C) (fresh-good P C (h .limits)) in
       (w .0, w .1, ap (storeEnd cs) start ∙ w .2, w .3 ∙ ap (plainEnd cs) begun, ap (storeAnswers cs) start ∙ w .4 ∙ ap (plainAnswers cs) begun)
 
   pages-kept : listAfter P C cs .pages ≡ P

@@ -13,14 +13,15 @@ use Rattle.store.specs.Plain.{answered, change, refuse, refused as turned, step
 use Rattle.store.specs.Layout.{bytesOf, fresh}
 use Rattle.store.specs.Reading.{read}
 use Rattle.store.specs.Sound.{sound}
-use Rattle.store.specs.Call.{Result, call, freshCall, freshFits}
+use Rattle.store.specs.Limits.{fits}
+use Rattle.store.specs.Call.{Result, call, freshCall}
 use Rattle.store.proofs.CallLaws.{call-10, sound-call}
 use Rattle.store.proofs.StepLaws.{Change, change-is, done, over, short}
 use Rattle.image.specs.Calls.{lengthCall, put, putAfter, unwritten, writeCall}
 use Rattle.image.specs.Check.{accepted, check, fails, headed, holds}
 use Rattle.image.specs.Image.{image}
 use Rattle.image.specs.Query.{count, look, reading, readingAt, theCount, theReading}
-use Rattle.image.specs.Reach.{Free as Latitude, If, Reach, says-index, says-six}
+use Rattle.image.specs.Reach.{Reach, above-total, any-index, damage, header-wrong, smallest}
 use Rattle.image.specs.Read.{listOf, nOf, sOf}
 use Rattle.image.specs.Reply.{Reply, given, refused}
 use Rattle.freeze.specs.Freeze.{freezeCall}
@@ -76,7 +77,7 @@ live-allowed c s = go (sound s) refl
 
 pub fresh-allowed : (b : List ℕ) (P C : ℕ) → Allowed (row (Fresh b P C)) (ofStore (freshCall b P C .answer))
 unfolding freshCall pick row occurrences one ofStore
-fresh-allowed b P C = go (freshFits b P C)
+fresh-allowed b P C = go (fits b P C)
   where
     made : Result
     made = record { answer = answered 0; bytes = bytesOf (fresh P C) }
@@ -164,15 +165,8 @@ reading-allowed s i = or-no (row (ImageReading s i)) refl _ 5 _ (omega arith) (n
 
 pub reach-allowed : (s : List ℕ) (p : ℕ) (a : Reply) → Reach s p a → Allowed (row (ImageReach s p)) (ofImage a)
 unfolding row occurrences one ofImage
-reach-allowed s p a = go (headed s) (ltb (sOf s) p) (accepted s)
-  where
-    free : {z : Reply} → Latitude (nOf s) z → Allowed (row (ImageReach s p)) (ofImage z)
-    free says-six = omega arith
-    free (says-index i l) = refl
-
-    go : (x y z : Bool) → If x (If y (a ≡ refused 8) (If z (a ≡ given (reached p (listOf s))) (Latitude (nOf s) a))) (a ≡ refused 5)
-        → Allowed (row (ImageReach s p)) (ofImage a)
-    go false y z w = subst (λ (z : Reply). Allowed (row (ImageReach s p)) (ofImage z)) (sym w) (omega arith)
-    go true true z w = subst (λ (z : Reply). Allowed (row (ImageReach s p)) (ofImage z)) (sym w) (omega arith)
-    go true false true w = subst (λ (z : Reply). Allowed (row (ImageReach s p)) (ofImage z)) (sym w) refl
-    go true false false w = free w
+reach-allowed s p _ (header-wrong h) = omega arith
+reach-allowed s p _ (above-total h l) = omega arith
+reach-allowed s p _ (smallest e l) = refl
+reach-allowed s p _ (damage h l e) = omega arith
+reach-allowed s p _ (any-index h l e i m) = refl

@@ -17,7 +17,7 @@ use Rattle.image.specs.Query.{beforePassing, count, look, lookIn, pageFine, rea
 use Rattle.image.specs.Reach.{Reach}
 use Rattle.image.specs.Read.{beforeOf, codeAt, eOf, lOf, listOf, nOf, pageOf, pagesOf, rootOf, sOf, startOf, sumOf, treeAt, widthOf}
 use Rattle.image.specs.Reply.{Reply, given, refused}
-use Rattle.demand_2.proofs.Theorems.{reach-accepted}
+use Rattle.demands.proofs.Theorems.{reach-accepted}
 
 -- 'e = 2, counts 1,0,2,0,5: ..'
 abbrev printed : List ℕ

@@ -20,7 +20,7 @@ use Rattle.tree.specs.Tree.{tree}
 use Rattle.tree.proofs.Shape.{counts-tree}
 use Rattle.image.specs.Calls.{lengthCall, writeCall}
 use Rattle.image.specs.Check.{accepted, check, holds}
-use Rattle.image.specs.Image.{IsImage, Limits, bytesFor, code, image, page, pages, size}
+use Rattle.image.specs.Image.{IsImage, Limits, bytesFor, code, codeStart, image, page, pages, size}
 use Rattle.image.specs.Query.{count, reading}
 use Rattle.image.specs.Reach.{Reach}
 use Rattle.image.specs.Read.{eOf, listOf, sOf}
@@ -32,7 +32,7 @@ use Rattle.store.specs.Reading.{read}
 use Rattle.store.specs.Sound.{sound}
 use Rattle.pages.specs.Gathered.{Gathered}
 use Rattle.freeze.specs.Freeze.{freezeCall}
-use Rattle.demands.specs.Demand2.{Related, Written, around, before, behind, codeStart, nodeIn, treeStart, within}
+use Rattle.demands.specs.Demand2.{Related, Written, around, before, behind, nodeIn, treeStart, within}
 use Rattle.demands.proofs.Demand2.{demand-2}
 
 -- bit x is in a node's range
@@ -97,7 +97,7 @@ module _ (e : ℕ) (xs : List ℕ) (m : Limits e xs) where
 
   -- 'L bits of code'
   pub in-the-code : (p : ℕ) (ds : List Side) → p < pages e (length xs) → (x : ℕ) → In x (nodeIn e xs p ds)
-      → (codeStart e xs ≤ x) × (x < codeStart e xs + length (code e xs))
+      → (codeStart (pages e (length xs)) ≤ x) × (x < codeStart (pages e (length xs)) + length (code e xs))
   in-the-code p ds l x i =
       let D = demand-2 .images e xs m in
       (omega (arith, D .in-page p ds .0, i .0), omega (arith, D .in-code p ds l, i .1))

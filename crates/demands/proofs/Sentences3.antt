@@ -13,7 +13,6 @@ use Rattle.bits.specs.Numbers.{numberAt}
 use Rattle.reserve.specs.Reserve.{ceil, reserve}
 use Rattle.store.specs.Limits.{Fitting}
 use Rattle.store.specs.Call.{call, freshCall, storeAnswers, storeEnd}
-use Rattle.store.specs.Layout.{cellAt}
 use Rattle.store.specs.PageCode.{cells}
 use Rattle.store.specs.Plain.{Answer, Append, Call, Free, Plain, Reading, Set, answered, need, plainAnswers, plainFresh, refused, step}
 use Rattle.store.specs.Reading.{Runs, chainIn, codeIn, firstIn, read, readFor, spareIn, sumIn}
@@ -47,7 +46,7 @@ no-length (x ∷ l) e = absurd (omega (arith, e))
 pub fresh-accepted : (b : List ℕ) (P C : ℕ) → 1 ≤ P → P ≤ 1024 → 1 ≤ C → C ≤ 1800 → length b ≡ 16 + 6 * P + 32 * C
     → freshCall b P C .answer ≡ answered 0
 fresh-accepted b P C pl ph cl ch l =
-    demand-3 .calls b P C (record { pages-low = pl; pages-high = ph; cells-low = cl; cells-high = ch; long = l }) [] .accepted
+    demand-3 .calls b P C (record { limits = record { pages-low = pl; pages-high = ph; cells-low = cl; cells-high = ch }; long = l }) [] .accepted
 
 -- ---- after any list of calls
 module _ (b : List ℕ) (P C : ℕ) (h : Fitting b P C) (cs : List Call) where
@@ -74,7 +73,7 @@ module _ (b : List ℕ) (P C : ℕ) (h : Fitting b P C) (cs : List Call) where
   )
 
   -- 'Free cells hold 30 zero bytes'
-  pub free-cells-clear : codeIn S (numberAt S 2 2) (spareIn S (numberAt S 2 2)) ≡ replicate (30 * numberAt S 8 2) 0
+  pub free-cells-clear : codeIn S (16 + 6 * numberAt S 2 2) (spareIn S (numberAt S 2 2)) ≡ replicate (30 * numberAt S 8 2) 0
   free-cells-clear = D .items .free-clear
 
   -- 'A page of sum s has ceil(R(64, s) / 240) cells'
@@ -83,15 +82,15 @@ module _ (b : List ℕ) (P C : ℕ) (h : Fitting b P C) (cs : List Call) where
   page-has p l = D .page-cells p l ∙ ap cells (sym (D .page-sum p l))
 
   -- 'Next 0 ends a chain, and one with first cell 0 is empty'
-  pub chain-ends : (p c : ℕ) → p < P → chainIn S P p ≡ c ∷ [] → (firstIn S p ≡ c) × (numberAt S (cellAt P c) 2 ≡ 0)
-  chain-ends p c l q = let w = subst (Runs S P (firstIn S p)) q (D .page-ends p l) in (w .0, w .2)
+  pub chain-ends : (p c : ℕ) → p < P → chainIn S P p ≡ c ∷ [] → (firstIn S p ≡ c) × (numberAt S (16 + 6 * P + 32 * (c - 1)) 2 ≡ 0)
+  chain-ends p c l q = let w = subst (Runs S (16 + 6 * P) (firstIn S p)) q (D .page-ends p l) in (w .0, w .2)
 
   pub chain-empty : (p : ℕ) → p < P → chainIn S P p ≡ [] → firstIn S p ≡ 0
-  chain-empty p l q = subst (Runs S P (firstIn S p)) q (D .page-ends p l)
+  chain-empty p l q = subst (Runs S (16 + 6 * P) (firstIn S p)) q (D .page-ends p l)
 
   -- 'first free cell (0 if none)'
   pub none-free : need X P ≡ C → numberAt S 6 2 ≡ 0
-  none-free q = subst (Runs S P (numberAt S 6 2)) (no-length (spareIn S P) (omega (arith, D .free-cells, q))) (D .free-ends)
+  none-free q = subst (Runs S (16 + 6 * P) (numberAt S 6 2)) (no-length (spareIn S P) (omega (arith, D .free-cells, q))) (D .free-ends)
 
   -- 'each cell is on exactly one chain'
   pub on-one-chain : (c : ℕ) → 1 ≤ c → c ≤ C → occurrences c (concat (tabulate P (chainIn S P)) ++ spareIn S P) ≡ 1
@@ -134,7 +133,7 @@ module _ (b : List ℕ) (P C : ℕ) (h : Fitting b P C) (cs : List Call) where
 
 -- ---- 'Input `n 1 2`, `a 122`, `f`, `s 0 123`, .. prints `ok`, `ok`, `1`, `ok`, ..'
 printed-fits : (b : List ℕ) → length b ≡ 86 → Fitting b 1 2
-printed-fits b l = record { pages-low = omega arith; pages-high = omega arith; cells-low = omega arith; cells-high = omega arith; long = omega (arith, l) }
+printed-fits b l = record { limits = record { pages-low = omega arith; pages-high = omega arith; cells-low = omega arith; cells-high = omega arith }; long = omega (arith, l) }
 
 -- in C's words: the cells taken, with 2^16 times those given back; numbers; and minus a refusal's
 abbrev printed : List ℕ

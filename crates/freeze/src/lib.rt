@@ -12,7 +12,7 @@ ghost use Rattle.store.specs.Plain.{page};
 ghost use Rattle.store.specs.Reading.{read};
 ghost use Rattle.store.specs.Sound.{sound};
 ghost use Rattle.image.specs.Calls.{writeCall};
-ghost use Rattle.image_write.specs.Writer.{wrote};
+ghost use Rattle.image_steps.specs.Wrote.{wrote};
 ghost use Rattle.freeze.specs.Freeze.{freezeCall};
 
 // Puts a page's counts into the list from index from on.

@@ -9,19 +9,19 @@ use lib.Pow.{pow-mono}
 use Rattle.lists.specs.Lists.{part, splice, sum}
 use Rattle.bits.specs.Bits.{bits}
 use Rattle.reserve.specs.Reserve.{digits, reserve}
-use Rattle.tree.specs.Code.{Lies}
+use Rattle.tree.specs.Code.Node.{Lies}
 use Rattle.tree.specs.Exact.{exact}
 use Rattle.tree.specs.Read.{counts}
 use Rattle.tree.specs.Tree.{tree}
 use Rattle.tree.proofs.Exacts.{tree-exact}
 use Rattle.tree.proofs.Shape.{counts-tree}
 use Rattle.image.specs.Check.{accepted}
-use Rattle.image.specs.Code.{HeadOf}
+use Rattle.image.specs.Code.Head.{HeadOf}
 use Rattle.image.specs.Image.{Limits, bytesFor, code, image, page, pages, size, start}
 use Rattle.image.specs.Read.{beforeOf, codeAt, eOf, listOf, nOf, pagesOf, rootOf, sOf, startOf, sumOf, treeAt, widthOf}
 use Rattle.image.specs.declared.head.Head.{Head}
 use Rattle.image.proofs.Accepted.{accepted-only, length-list}
-use Rattle.image.proofs.Back.{before-is, code-is, length-image, pages-is, root-is, s-is, start-is, sum-is, tree-is, width-is}
+use Rattle.image.proofs.ReadLaws.{before-is, code-is, length-image, pages-is, root-is, s-is, start-is, sum-is, tree-is, width-is}
 use Rattle.image.proofs.PageLaws.{code-most, length-page, page-le, page-sum, pages-few, start-within, width-most}
 
 -- what the code needs to know of it

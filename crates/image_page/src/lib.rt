@@ -10,7 +10,7 @@ ghost use Prim.Native.Nat.{_≤_, _<_};
 ghost use lib.ListN.{length};
 ghost use Rattle.lists.specs.Lists.{splice};
 ghost use Rattle.image.specs.Check.{accepted};
-ghost use Rattle.image.specs.Code.{HeadOf};
+ghost use Rattle.image.specs.Code.Head.{HeadOf};
 ghost use Rattle.image.specs.Image.{page};
 ghost use Rattle.image.specs.Read.{beforeOf, codeAt, eOf, listOf, pagesOf, rootOf, startOf, widthOf};
 

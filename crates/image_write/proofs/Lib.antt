@@ -1,7 +1,2 @@
--- Laws of the definitions.
-pub mod LayoutLaws
-pub mod Splices
-pub mod Writing
-pub mod PageSteps
-pub mod PagesLaid
-pub mod WriteLaws
+-- Laws of the crate.
+pub mod ListPages

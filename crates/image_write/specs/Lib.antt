@@ -1,2 +1,1 @@
--- Definitions of the crate.
-pub mod Writer
+-- Definitions of the crate: none; its contracts are over those of image and image_steps.

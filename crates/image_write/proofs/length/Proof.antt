@@ -1,10 +1,6 @@
 -- `image_write::length` meets its contract. Assumes nothing.
-use mathlib.Core.Path.{subst}
-use native.Mathlib.Omega.{arith}
+use Rattle.image_steps.proofs.Answering.{laying, length-no, length-yes, sized}
 use borrow.Author.Needs.{needs}
-use Rattle.image_write.specs.Writer.{Planned}
-use Rattle.image.proofs.PageLaws.{code-most}
-use Rattle.image_write.proofs.WriteLaws.{length-no, length-yes, sized}
 use Rattle.image_write.proofs.length.Statement.{statement}
 use Rattle.image_write.proofs.length.Tie as tie
 
@@ -17,12 +13,11 @@ enum-known-k c = search needs
 enum-known-r : tie.Need-enum-known-r
 enum-known-r c = search needs
 
-size-of-requires : tie.Need-size-of-requires
-size-of-requires c κs =
+size-requires : tie.Need-size-requires
+size-requires c κs =
     let n = c .before .before .before in
     let a = n .before .before .args in
-    let p = subst (Planned (a .e) (a .counts .now)) (c .before .r .given .1) (n .layout-of .ensures) in
-    (p .0 .e-high, p .0 .hours, omega (arith, code-most (a .e) (a .counts .now) (p .0), p .1 .bits-are))
+    laying (a .e) (a .counts .now) (n .layout-of .result) (c .before .r .given .0 .0) (n .layout-of .ensures) (c .before .r .given .1)
 
 returns : tie.Need-returns
 returns c =
@@ -35,11 +30,11 @@ returns-2 c =
     let n = c .before .before .before .before in
     let a = n .before .before .args in
     let r = c .before .before .r .given .0 .0 in
-    length-yes (a .e) (a .counts .now) r (c .size-of .result)
-    (sized (a .e) (a .counts .now) (n .layout-of .result) r (c .size-of .result) (n .layout-of .ensures) (c .before .before .r .given .1)
-    (c .size-of .ensures))
+    length-yes (a .e) (a .counts .now) r (c .size .result)
+    (sized (a .e) (a .counts .now) (n .layout-of .result) r (c .size .result) (n .layout-of .ensures) (c .before .before .r .given .1)
+    (c .size .ensures))
 
 pub length-spec : {M : Type 1} → statement M
 length-spec =
     tie.close
-    (tie.spec layout-of-requires enum-known-k enum-known-r size-of-requires returns returns-2)
+    (tie.spec layout-of-requires enum-known-k enum-known-r size-requires returns returns-2)

@@ -1,23 +1,19 @@
 -- `image_write::write` meets its contract. Assumes nothing.
-use mathlib.Core.Path.{subst}
-use native.Mathlib.Omega.{arith}
+use Rattle.image_steps.proofs.Answering.{Sized, laying, room, sized, write-no, write-short, write-yes}
 use borrow.Author.Needs.{needs}
-use Rattle.image_write.specs.Writer.{Planned}
-use Rattle.image.proofs.PageLaws.{code-most}
-use Rattle.image_write.proofs.WriteLaws.{Sized, room, sized, write-no, write-short, write-yes}
 use Rattle.image_write.proofs.write.Statement.{statement}
 use Rattle.image_write.proofs.write.Tie as tie
 
 -- the layout and the size, past the refusals of length
-module _ (c : tie.After-size-of) where
+module _ (c : tie.After-size) where
   abbrev call : tie.Start
   call = c .before .before .before .before .before .before .before
 
-  size-is : Sized (call .args .e) (call .args .counts .now) (c .before .before .r .given .0 .0) (c .size-of .result)
+  size-is : Sized (call .args .e) (call .args .counts .now) (c .before .before .r .given .0 .0) (c .size .result)
   size-is =
       let n = c .before .before .before .before in
-      sized (call .args .e) (call .args .counts .now) (n .layout-of .result) (c .before .before .r .given .0 .0) (c .size-of .result)
-      (n .layout-of .ensures) (c .before .before .r .given .1) (c .size-of .ensures)
+      sized (call .args .e) (call .args .counts .now) (n .layout-of .result) (c .before .before .r .given .0 .0) (c .size .result)
+      (n .layout-of .ensures) (c .before .before .r .given .1) (c .size .ensures)
 
 layout-of-requires : tie.Need-layout-of-requires
 layout-of-requires c κs = search needs
@@ -28,24 +24,23 @@ enum-known-k c = search needs
 enum-known-r : tie.Need-enum-known-r
 enum-known-r c = search needs
 
-size-of-requires : tie.Need-size-of-requires
-size-of-requires c κs =
+size-requires : tie.Need-size-requires
+size-requires c κs =
     let n = c .before .before .before in
     let a = n .before .before .before .args in
-    let p = subst (Planned (a .e) (a .counts .now)) (c .before .r .given .1) (n .layout-of .ensures) in
-    (p .0 .e-high, p .0 .hours, omega (arith, code-most (a .e) (a .counts .now) (p .0), p .1 .bits-are))
+    laying (a .e) (a .counts .now) (n .layout-of .result) (c .before .r .given .0 .0) (n .layout-of .ensures) (c .before .r .given .1)
 
 returns : tie.Need-returns
 returns c =
     let a = call (c .before) .args in
-    write-short (a .e) (a .counts .now) (a .out .now) (c .before .before .before .r .given .0 .0) (c .before .size-of .result) (size-is (c .before))
+    write-short (a .e) (a .counts .now) (a .out .now) (c .before .before .before .r .given .0 .0) (c .before .size .result) (size-is (c .before))
     (c .if1 .taken)
 
 put-image-requires : tie.Need-put-image-requires
 put-image-requires c κs =
     let n = c .before .before in
     let a = call n .args in
-    room (a .e) (a .counts .now) (a .out .now) (n .before .before .r .given .0 .0) (n .size-of .result) (size-is n) (c .before .if1 .left)
+    room (a .e) (a .counts .now) (a .out .now) (n .before .before .r .given .0 .0) (n .size .result) (size-is n) (c .before .if1 .left)
 
 returns-2 : tie.Need-returns-2
 returns-2 c =
@@ -54,14 +49,14 @@ returns-2 c =
     write-no (a .e) (a .counts .now) (a .out .now) (n .layout-of .result) (c .before .k .given .0 .0) (n .layout-of .ensures) (c .before .k .given .1)
 
 same-length : tie.Need-same-length
-same-length c = c .before .before .put-image .kept .0
+same-length c = search needs
 
 returns-3 : tie.Need-returns-3
 returns-3 c =
     let p = c .before .before in
     let n = p .before .before .before in
     let a = call n .args in
-    write-yes (a .e) (a .counts .now) (a .out .now) (p .put-image .last .0) (n .before .before .r .given .0 .0) (n .size-of .result) (size-is n)
+    write-yes (a .e) (a .counts .now) (a .out .now) (p .put-image .last .0) (n .before .before .r .given .0 .0) (n .size .result) (size-is n)
     (p .before .before .if1 .left) (p .put-image .ensures)
 
 pub write-spec : {M : Type 1} → statement M
@@ -71,7 +66,7 @@ write-spec =
     layout-of-requires
     enum-known-k
     enum-known-r
-    size-of-requires
+    size-requires
     returns
     put-image-requires
     returns-2

@@ -1,71 +1,122 @@
--- `image_write::put::put_image` meets its contract: header, pages and zeros are the image (`all-put`). Assumes nothing.
+-- `image_write::put::put_image` meets its contract. The loop's invariant: whatever list the pages so far are of, they are still. Assumes nothing.
+use mathlib.Core.List.{List}
+use Prim.Native.Nat.{ℕ, _-_, _*_, _<_}
 use native.Mathlib.Omega.{arith}
-use lib.ListN.{length}
-use Rattle.image_write.proofs.PagesLaid.{room-same}
-use Rattle.image_write.proofs.WriteLaws.{Ends, all-put, ends}
+use Rattle.image_steps.specs.Code.Writing.{Filled, Handed, Laid}
+use Rattle.image_steps.specs.declared.put.Place.{Place}
+use Rattle.image_write.proofs.ListPages.{page-from, page-window}
+use borrow.Author.Needs.{needs}
 use Rattle.image_write.proofs.put.put_image.Statement.{statement}
 use Rattle.image_write.proofs.put.put_image.Tie as tie
 
--- the end of the image, seen from behind its pages
-module _ (c : tie.After-slice-known3) where
-  abbrev call : tie.Start
-  call = c .before .before .before .before .before .before .before .before .before .before
+abbrev Inv-loop : tie.InvT-loop
+Inv-loop out₀ counts r m at₀ out at = (first : List ℕ) → Laid counts first out₀ r at₀ → Laid counts first out r at
 
-  end-is : Ends (call .args .r) (length (call .args .out .now))
-  end-is = ends (call .pre)
+abbrev μ-loop : tie.MeasureT-loop
+μ-loop out₀ counts r m at₀ out at = r .pages - at .page
 
-put-header-requires : tie.Need-put-header-requires
-put-header-requires c κs = omega (arith, ends (c .before .before .before .pre))
+power-requires : tie.Need-power-requires Inv-loop μ-loop
+power-requires c κs = omega (arith, c .before .before .pre .limits)
 
-put-pages-requires : tie.Need-put-pages-requires
-put-pages-requires c κs =
-    let h = c .before .before .before in
-    room-same (h .put-header .last .0) (h .put-header .kept .0) (h .before .before .before .before .pre)
+begin-requires : tie.Need-begin-requires Inv-loop μ-loop
+begin-requires c κs = record { xs = c .before .before .before .before .args .counts .now; room = c .before .before .before .before .pre }
 
-add-spare : tie.Need-add-spare
-add-spare c = omega (arith, end-is (c .before))
+loop-holds : tie.Need-loop-holds Inv-loop μ-loop
+loop-holds c = λ first a. a
 
-mul-spare : tie.Need-mul-spare
-mul-spare c = omega (arith, end-is (c .before))
+-- the pages so far
+module _ (c : tie.After-struct-known3 Inv-loop μ-loop) where
+  abbrev call : tie.Start Inv-loop μ-loop
+  call = c .before .before .before .before .before .before .before .before .before .before .before .before .before
 
-sub-spare : tie.Need-sub-spare
-sub-spare c = omega arith
+  abbrev place : Place
+  place = c .before .before .before .before .before .loop .at
 
-add-clear-bits : tie.Need-add-clear-bits
-add-clear-bits c = omega (arith, end-is (c .before .before .before .before))
+  so-far : Laid (call .args .counts .now) (call .args .out .now) (c .before .before .before .before .before .loop .out) (call .args .r) place
+  so-far =
+      c .before .before .before .before .before .loop .inv (call .args .out .now)
+      (c .before .before .before .before .before .before .before .before .begin .ensures .1 (record { xs = call .args .counts .now; room = call .pre }))
 
-clear-bits-requires : tie.Need-clear-bits-requires
-clear-bits-requires c κs =
-    let n = c .before .before .before .before in
-    let p = n .before .before in
-    omega (arith, end-is n, p .put-pages .kept .0, p .before .before .before .before .put-header .kept .0)
+  size : c .before .before .before .before .before .before .before .before .before .before .power .result * place .page < 65536
+  size =
+      page-from (call .args .r .e) (call .args .counts .now) (place .page)
+      (c .before .before .before .before .before .before .before .before .before .before .power .result) (call .pre .limits .e-high)
+      (call .pre .limits .hours) (omega (arith, c .before .before .if1 .taken, call .pre .layout .pages-are))
+      (c .before .before .before .before .before .before .before .before .before .before .power .ensures) .0
 
-same-length : tie.Need-same-length
-same-length c =
-    let z = c .before .before in
-    let p = z .before .before .before .before .before .before .before in
-    omega (arith, z .clear-bits .kept .0, p .put-pages .kept .0, p .before .before .before .before .put-header .kept .0)
+  abbrev handed : (first : List ℕ) → Laid (call .args .counts .now) first (c .before .before .before .before .before .loop .out) (call .args .r) place
+      → Handed (call .args .r) place (call .args .counts .now)
+      (c .before .before .before .before .before .before .before .before .before .before .power .result * place .page)
+      (c .before .before .before .before .before .loop .out)
+  handed first a = record {
+    xs = call .args .counts .now;
+    first = first;
+    so-far = a;
+    more = c .before .before .if1 .taken;
+    counts-are = page-window (call .args .r .e) (call .args .counts .now) (place .page)
+        (c .before .before .before .before .before .before .before .before .before .before .power .result)
+        (c .before .before .before .before .before .before .before .before .before .before .power .ensures);
+    near = omega (arith, size);
+  }
 
-returns : tie.Need-returns
-returns c =
-    let z = c .before .before in
-    let p = z .before .before .before .before .before .before .before in
-    let h = p .before .before .before .before in
-    let s = h .before .before .before in
-    all-put (h .put-header .last .0) (p .put-pages .last .0) (z .clear-bits .last .0) (s .before .pre)
-    (λ i. omega (arith, s .slice-known .given i)) (λ i. omega (arith, c .slice-known4 .given i)) (h .put-header .ensures) (p .put-pages .ensures)
-    (z .clear-bits .ensures)
+mul-put-page : tie.Need-mul-put-page Inv-loop μ-loop
+mul-put-page c = omega (arith, size c)
+
+put-page-requires : tie.Need-put-page-requires Inv-loop μ-loop
+put-page-requires c κs = handed c (call c .args .out .now) (so-far c)
+
+loop-less : tie.Need-loop-less Inv-loop μ-loop
+loop-less c =
+    let n = c .before .before .before in
+    omega (arith, c .before .before .put-page .ensures .0, n .before .before .if1 .taken)
+
+loop-again : tie.Need-loop-again Inv-loop μ-loop
+loop-again c =
+    let n = c .before .before .before in
+    λ first a. c .before .before .put-page .ensures .1 (handed n first (n .before .before .before .before .before .loop .inv first a))
+
+-- all pages
+module _ (c : tie.After-end-arg Inv-loop μ-loop) where
+  abbrev start : tie.Start Inv-loop μ-loop
+  start = c .before .before .before .before .before .before .before .before .before .before .before .before
+
+  whole : Laid (start .args .counts .now) (start .args .out .now) (c .before .before .before .before .loop .out) (start .args .r)
+      (c .before .before .before .before .loop .at)
+  whole =
+      c .before .before .before .before .loop .inv (start .args .out .now)
+      (c .before .before .before .before .before .before .before .begin .ensures .1 (record { xs = start .args .counts .now; room = start .pre }))
+
+  abbrev filled : Filled (start .args .r) (c .before .before .before .before .loop .out)
+  filled = record {
+    xs = start .args .counts .now;
+    first = start .args .out .now;
+    at = c .before .before .before .before .loop .at;
+    so-far = whole;
+    all = c .before .if1 .left;
+  }
+
+end-requires : tie.Need-end-requires Inv-loop μ-loop
+end-requires c κs = filled c
+
+same-length : tie.Need-same-length Inv-loop μ-loop
+same-length c = omega (arith, c .before .before .end .kept .0, whole (c .before .before .before) .long)
+
+returns : tie.Need-returns Inv-loop μ-loop
+returns c = c .before .before .end .ensures (filled (c .before .before .before))
 
 pub put-image-spec : {M : Type 1} → statement M
 put-image-spec =
     tie.close
     (tie.spec
-    put-header-requires
-    put-pages-requires
-    add-spare
-    mul-spare
-    sub-spare
-    add-clear-bits
-    clear-bits-requires
+    Inv-loop
+    μ-loop
+    power-requires
+    begin-requires
+    loop-holds
+    mul-put-page
+    put-page-requires
+    loop-less
+    loop-again
+    end-requires
     same-length
     returns)

@@ -1,0 +1,3 @@
+-- What the functions of src/ hand one another, and their callers.
+pub mod Planning
+pub mod Writing
