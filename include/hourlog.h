@@ -152,7 +152,7 @@ typedef uint64_t hourlog_size;
 
 /* Bytes of stack that suffice for freeze, and for every other call: as measured
  * on x86-64, with some room.  Recursion is never deeper than 8. */
-#define HOURLOG_FREEZE_STACK 278528u
+#define HOURLOG_FREEZE_STACK 12288u
 #define HOURLOG_STACK 8192u
 
 /* ---- refusals ---------------------------------------------------------- */

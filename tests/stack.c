@@ -35,13 +35,22 @@ static int64_t reading(void) { return hourlog_reading(STORE, 62); }
 static int64_t reach(void) { return hourlog_reach(STORE, 100); }
 static int64_t day(void) { return hourlog_day(STORE, 1); }
 static int64_t free_cells(void) { return hourlog_free(STORE); }
-static int64_t freeze(void) { return hourlog_freeze(STORE, IMAGE_E, image, sizeof image); }
 static int64_t length(void) { return hourlog_image_length(LIST); }
 static int64_t write_image(void) { return hourlog_image_write(LIST, image, sizeof image); }
 static int64_t check(void) { return hourlog_image_check(IMAGE); }
 static int64_t image_count(void) { return hourlog_image_count(IMAGE, LAST); }
 static int64_t image_reading(void) { return hourlog_image_reading(IMAGE, LAST); }
 static int64_t image_reach(void) { return hourlog_image_reach(IMAGE, 5000000); }
+
+/* Freeze at every page size: which one takes most is not said anywhere. */
+static int64_t freeze(void)
+{
+    int64_t last = 0;
+    for (uint32_t e = HOURLOG_E_MIN; e <= HOURLOG_E_MAX && !hourlog_is_refused(last); e++) {
+        last = hourlog_freeze(STORE, e, image, sizeof image);
+    }
+    return last;
+}
 
 struct measured {
     const char *name;

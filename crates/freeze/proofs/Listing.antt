@@ -1,14 +1,19 @@
--- Pages put into a list, one after another. Assumes nothing.
+-- Pages of a store put into a list, one after another. Assumes nothing.
 use mathlib.Core.Path.{_≡_, sym, ap, _∙_}
-use mathlib.Core.List.{List}
-use Prim.Native.Nat.{ℕ, _+_, _-_, _*_, _≤_, _<_}
+use mathlib.Core.List.{List, _++_}
+use Prim.Native.Nat.{ℕ, suc, _+_, _-_, _*_, _/_, _%_, _≤_, _<_, min}
+use native.Mathlib.Decide.{decLe}
 use native.Mathlib.Numerals.{add-one}
 use native.Mathlib.Omega.{arith}
-use lib.ListN.{length, getD, set, take}
-use lib.Seq.{sets, take-all}
-use Rattle.lists.specs.Lists.{concat, part, splice, tabulate}
+use lib.ListN.{length, getD, set, replicate, length-append, length-replicate, List·getD-append, List·getD-eq-default}
+use lib.Seq.{ext-getD, getD-append-add, sets, take-all}
+use Rattle.lists.specs.Lists.{concat, fill, part, splice, tabulate, window}
+use Rattle.lists.proofs.Pages.{concat-get}
 use Rattle.lists.proofs.Parts.{length-splice, sets-next, sets-splice, splice-nil, splice-then}
-use Rattle.lists.proofs.Tables.{concat-each, concat-suc}
+use Rattle.lists.proofs.Tables.{concat-each, concat-suc, getD-tabulate, length-tabulate, tabulate-ext}
+use Rattle.lists.proofs.Zeros.{splice-zeros, zeros-at}
+use Rattle.store.specs.Plain.{page}
+use Rattle.store.proofs.Holds.{page-length}
 
 -- one more store
 pub next : (s v : List ℕ) (a i : ℕ) → i < length v → set (sets s a (part v 0 i)) (a + i) (getD v i 0) ≡ sets s a (part v 0 (i + 1))
@@ -41,7 +46,51 @@ pub put-length : (l m : List ℕ) (f : ℕ → List ℕ) (p : ℕ) → ((j : ℕ
 put-length l m f p n h em =
     ap length em ∙ length-splice l 0 (concat (tabulate p f)) (omega (arith, concat-each p 64 f (λ j _. n j)))
 
--- the front of the list
-pub front-of : (l : List ℕ) (xs : List ℕ) (k : ℕ) → k ≤ length xs → take k (splice l 0 xs) ≡ take k xs
-unfolding splice
-front-of l xs k h = lib.Seq.take-append-le k xs _ h
+-- ---- a block
+-- an hour of k pages from page first on, zeros behind them
+block-at : (xs : List ℕ) (P first k z : ℕ) → length xs ≤ 64 * P → k ≡ min (P - first) 4 → (i : ℕ) → i < 256
+    → getD (concat (tabulate k (λ (j : ℕ). page xs (first + j))) ++ replicate z 0) i 0 ≡ getD xs (64 * first + i) 0
+unfolding page
+block-at xs P first k z h ek i l = go (decLe (suc i) (64 * k))
+  where
+    f : ℕ → List ℕ
+    f j = page xs (first + j)
+
+    F : List ℕ
+    F = concat (tabulate k f)
+
+    long : length F ≡ 64 * k
+    long = concat-each k 64 f (λ j _. page-length xs (first + j))
+
+    go : Dec (suc i ≤ 64 * k) → getD (F ++ replicate z 0) i 0 ≡ getD xs (64 * first + i) 0
+    go (yes q) =
+        List·getD-append F (replicate z 0) 0 i (omega (arith, long))
+        ∙ ap (λ (n : ℕ). getD F n 0) {x = i} {y = 64 * (i / 64) + i % 64} (omega arith)
+        ∙ concat-get k 64 f (i / 64) (i % 64) (λ j _. page-length xs (first + j)) (omega arith) (omega arith)
+        ∙ getD-tabulate 64 (λ j. getD xs (64 * (first + i / 64) + j) 0) (i % 64) 0 (omega arith)
+        ∙ ap (λ (n : ℕ). getD xs n 0) {x = 64 * (first + i / 64) + i % 64} {y = 64 * first + i} (omega arith)
+    go (no q) =
+        let p : 64 * k ≤ i = omega (arith, q) in
+        ap (λ (n : ℕ). getD (F ++ replicate z 0) n 0) {x = i} {y = length F + (i - 64 * k)} (omega (arith, long))
+        ∙ getD-append-add F (replicate z 0) (i - 64 * k) 0 ∙ zeros-at z (i - 64 * k)
+        ∙ sym (List·getD-eq-default xs 0 {n = 64 * first + i} (omega arith))
+
+pub block-is : (xs l r : List ℕ) (P first k : ℕ) → length xs ≤ 64 * P → k ≡ min (P - first) 4 → l ≡ replicate 256 0
+    → r ≡ splice l 0 (concat (tabulate k (λ (i : ℕ). page xs (first + i)))) → r ≡ window xs (64 * first) 256
+unfolding window fill
+block-is xs l r P first k h ek el er =
+    let F : List ℕ = concat (tabulate k (λ (i : ℕ). page xs (first + i))) in
+    let Z : List ℕ = replicate (256 - length F) 0 in
+    let g : ℕ → ℕ = λ j. getD xs (64 * first + j) 0 in
+    let lF : length F ≡ 64 * k = concat-each k 64 (λ (i : ℕ). page xs (first + i)) (λ j _. page-length xs (first + j)) in
+    let long : length (F ++ Z) ≡ 256 = omega (arith, length-append F Z, length-replicate {A = ℕ} (256 - length F) 0) in
+    er ∙ ap (λ (y : List ℕ). splice y 0 F) el ∙ splice-zeros 256 F
+    ∙ ext-getD 0 (F ++ Z) (tabulate 256 g) (long ∙ sym (length-tabulate 256 g)) (λ i q.
+    block-at xs P first k (256 - length F) h ek i (omega arith) ∙ sym (getD-tabulate 256 g i 0 (omega arith)))
+
+-- a window of a window
+pub window-in : (xs : List ℕ) (a n f k : ℕ) → f + k ≤ n → window (window xs a n) f k ≡ window xs (a + f) k
+unfolding window
+window-in xs a n f k h =
+    tabulate-ext k (λ j. getD (tabulate n (λ i. getD xs (a + i) 0)) (f + j) 0) (λ j. getD xs (a + f + j) 0)
+    (λ j l. getD-tabulate n (λ i. getD xs (a + i) 0) (f + j) 0 (omega arith) ∙ ap (λ (i : ℕ). getD xs i 0) {x = a + (f + j)} {y = a + f + j} (omega arith))

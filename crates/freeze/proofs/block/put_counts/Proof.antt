@@ -1,4 +1,4 @@
--- `freeze::put_page` meets its contract. Assumes nothing.
+-- `freeze::block::put_counts` meets its contract. Assumes nothing.
 use mathlib.Core.Path.{_≡_, refl, ap, _∙_}
 use Prim.Native.Nat.{_+_, _-_, _≤_}
 use native.Mathlib.Omega.{arith}
@@ -7,8 +7,8 @@ use lib.Seq.{sets}
 use Rattle.lists.specs.Lists.{part}
 use Rattle.freeze.proofs.Listing.{all-stored, next}
 use borrow.Author.Needs.{needs}
-use Rattle.freeze.proofs.put_page.Statement.{statement}
-use Rattle.freeze.proofs.put_page.Tie as tie
+use Rattle.freeze.proofs.block.put_counts.Statement.{statement}
+use Rattle.freeze.proofs.block.put_counts.Tie as tie
 
 abbrev Inv-loop : tie.InvT-loop
 Inv-loop list₀ from counts i₀ list i = (i ≤ 64) × (length list ≡ length list₀) × (list ≡ sets list₀ from (part counts 0 i))
@@ -59,8 +59,8 @@ returns c =
     let l = c .before .loop in
     l .inv .2 ∙ all-stored (a .args .list .now) (a .args .counts .now) (a .args .from) (l .i) (a .pre .1) (omega arith) (a .pre .0)
 
-pub put-page-spec : {M : Type 1} → statement M
-put-page-spec =
+pub put-counts-spec : {M : Type 1} → statement M
+put-counts-spec =
     tie.close
     (tie.spec
     Inv-loop
