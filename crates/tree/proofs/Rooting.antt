@@ -1,21 +1,22 @@
 -- Where a node lies in bytes, so do its field, its two subtrees and its left-over bits. Assumes nothing.
 use mathlib.Core.Path.{_≡_, sym, ap, _∙_}
-use mathlib.Core.Bool.{true, false}
+use mathlib.Core.Bool.{true}
 use mathlib.Core.List.{List}
-use Prim.Native.Nat.{ℕ, suc, _+_, _-_, _^_, _≤_, _<_}
-use native.Mathlib.Nat.{pow-succ'}
+use Prim.Native.Nat.{ℕ, suc, _+_, _-_, _/_, _%_, _^_, _≤_, _<_}
+use native.Mathlib.Nat.{pow-succ', add-zero}
 use native.Mathlib.Numerals.{add-one}
 use native.Mathlib.Omega.{arith}
 use lib.Dec.{leb}
-use borrow.Author.Tests.{lt-leb, le-leb}
 use Rattle.lists.specs.Lists.{part}
 use Rattle.bits.specs.Bits.{bits, value}
+use Rattle.bits.specs.Code.Front.{Front}
+use Rattle.bits.proofs.Laws.{length-bits}
 use Rattle.reserve.specs.Reserve.{digits, reserve}
 use Rattle.reserve.proofs.Exact.{digits-le}
 use Rattle.reserve.proofs.Fit.{fit-all}
 use Rattle.tree.specs.Read.{leftOf, leftAt, rightAt}
 use Rattle.tree.specs.Exact.{spareAt}
-use Rattle.tree.specs.Code.Node.{Lies, Rooted}
+use Rattle.tree.specs.Code.Node.{Lies, Parted, Rooted}
 use Rattle.tree.specs.declared.node.Split.{Split}
 
 -- a node of height h + 1 and left sum l
@@ -35,12 +36,30 @@ pub left-sum : (b : List ℕ) (a s t l : ℕ) → t ≡ digits s → l ≡ value
 unfolding leftOf
 left-sum b a s t l e i = i ∙ ap (λ (k : ℕ). value (part b a k)) e
 
--- its test
-pub above : (b : List ℕ) (a s l : ℕ) → l ≡ leftOf s b a → s < l → false ≡ leb (leftOf s b a) s
-above b a s l e k = sym (lt-leb (leftOf s b a) s (omega arith))
+-- the left sum, out of a word at whose high end the node's bits stand, by a width that was computed
+pub front-sum : (b : List ℕ) (a h s w t l : ℕ) → Lies b a (h + 1) s → Front (bits b) a w → t ≡ digits s → l ≡ w / 2 ^ (64 - (0 + t)) % 2 ^ t
+    → l ≡ leftOf s (bits b) a
+unfolding leftOf
+front-sum b a h s w t l y f et el =
+    let n : Halves b a h s 0 = halves 0 y (omega arith) in
+    el ∙ ap (λ (k : ℕ). w / 2 ^ (64 - (0 + k)) % 2 ^ k) et
+    ∙ sym (f 0 (digits s) (omega (arith, n .few)) (omega (arith, n .left .inside, length-bits b)))
+    ∙ ap (λ (k : ℕ). value (part (bits b) k (digits s))) (add-zero a)
 
-pub within : (b : List ℕ) (a s l : ℕ) → l ≡ leftOf s b a → l ≤ s → true ≡ leb (leftOf s b a) s
-within b a s l e k = sym (le-leb (leftOf s b a) s (omega arith))
+-- a node with the left sum that stands there
+pub rooted : {b : List ℕ} {a h s l : ℕ} {r : Split} → l ≡ leftOf s b a → Parted l a h s r → Rooted b a h s r
+rooted {b} {a} {h} {s} e p =
+    record {
+      ok-is = p .ok-is ∙ ap (λ (z : ℕ). leb z s) e;
+      left-is = λ k. p .left-is k ∙ e;
+      left-le = p .left-le;
+      first-is = p .first-is;
+      second-is = p .second-is;
+    }
+
+-- its left subtree ends within the node's reserve
+pub left-fits : (a h s l : ℕ) → l ≤ s → a + digits s + reserve h l ≤ a + reserve (h + 1) s
+left-fits a h s l k = rw add-one (omega (arith, fit-all h s l (s - l) (omega arith)))
 
 -- ---- heights as the recursions have them: h for the node, h - 1 below it
 same-height : (h : ℕ) → (h ≡ 0 → ⊥) → h - 1 + 1 ≡ h

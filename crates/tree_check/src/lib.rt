@@ -2,7 +2,7 @@
 use bits::word::low_bits;
 use reserve::digits_of;
 use reserve::reserve_of;
-use tree::node::root;
+use tree::node::root_by_shifts;
 ghost use mathlib.Core.Bool.{true, false};
 ghost use mathlib.Core.Path.{_≡_};
 ghost use Prim.Native.Nat.{_+_, _*_, _≤_, _<_, _^_};
@@ -87,7 +87,7 @@ fn check_node(b: &&[u8], at: usize, h: u32, s: u64, r: usize) -> bool
         return low_levels(*b, at, h, s, r);
     }
     let down = h - 1;
-    let n = root(*b, at, down, s);
+    let n = root_by_shifts(*b, at, down, s);
     if !n.ok {
         return false;
     }

@@ -21,7 +21,7 @@ use Rattle.tree_walk.specs.Code.Answers.{walkAnswer, spotted}
 use Rattle.tree.specs.declared.node.Split.{Split}
 use Rattle.tree_walk.specs.declared.pairs.Pair.{Pair}
 use Rattle.tree.proofs.TwoCounts.{reserve-pair}
-use Rattle.tree.proofs.Rooting.{Inner}
+use Rattle.tree.proofs.Rooting.{Inner, front-sum}
 use Rattle.tree.proofs.WalkLaws.{walk-left, walk-right}
 use Rattle.tree.proofs.SearchLaws.{seek-left, seek-right}
 use Rattle.tree_walk.proofs.WalkSteps.{walk-damaged, walk-low, walk-high}
@@ -107,11 +107,7 @@ module _ {b : List ℕ} {a s w : ℕ} (o : Low b a s w) where
   piece k n l i = sym (o .front k n l (omega (arith, o .lies .inside, length-bits b)))
 
   pub left-piece : (t l : ℕ) → t ≡ digits s → l ≡ w / 2 ^ (64 - (0 + t)) % 2 ^ t → leftOf s (bits b) a ≡ l
-  unfolding leftOf
-  left-piece t l et el =
-      sym (el ∙ ap (λ (n : ℕ). w / 2 ^ (64 - (0 + n)) % 2 ^ n) et
-      ∙ piece 0 (digits s) (omega (arith, o .few)) (omega (arith, fit-all 1 s 0 s (omega arith)))
-      ∙ ap (λ (k : ℕ). value (part (bits b) k (digits s))) (add-zero a))
+  left-piece t l et el = sym (front-sum b a 1 s w t l (o .lies) (o .front) et el)
 
   module _ (l : ℕ) (el : leftOf s (bits b) a ≡ l) where
     above : s < l → leb (leftOf s (bits b) a) s ≡ false

@@ -5,7 +5,7 @@ use crate::pairs::one_word;
 use bits::front;
 use lists::either;
 use reserve::digits_of;
-use tree::node::root;
+use tree::node::root_by_shifts;
 ghost use mathlib.Core.Path.{_≡_};
 ghost use Prim.Native.Nat.{_+_, _≤_, _<_, _^_};
 ghost use Rattle.bits.specs.Bits.{bits};
@@ -47,7 +47,7 @@ pub(crate) fn walk_node(b: &&[u8], at: usize, h: u32, s: u64, j: u64, acc: u64, 
         return acc + s;
     }
     let down = h - 1;
-    let r = root(*b, at, down, s);
+    let r = root_by_shifts(*b, at, down, s);
     if !r.ok {
         return DAMAGED;
     }

@@ -19,7 +19,7 @@ use Rattle.reserve.proofs.reserve_of.Reads as reserve-of-reads
 use Rattle.tree_check.proofs.low_levels.Reads as low-levels-reads
 use Rattle.tree_check.proofs.one_load.Reads as one-load-reads
 use Rattle.tree_check.proofs.zero_bits.Reads as zero-bits-reads
-use Rattle.tree.proofs.node.root.Reads as root-reads
+use Rattle.tree.proofs.node.root_by_shifts.Reads as root-by-shifts-reads
 use Rattle.tree_check.proofs.+check_node.{statement}
 use Rattle.tree_check.proofs.+check_node.Tie.{close}
 
@@ -40,8 +40,8 @@ callees t = (
   one-load-reads.Learnt,
   low-levels-reads.Asked,
   low-levels-reads.Learnt,
-  root-reads.Asked,
-  root-reads.Learnt,
+  root-by-shifts-reads.Asked,
+  root-by-shifts-reads.Learnt,
   reserve-of-reads.Asked,
   reserve-of-reads.Learnt,
   zero-bits-reads.Asked,
@@ -62,13 +62,13 @@ module _ (t : ℕ) (c : check-node-lts.Else3 (callees t) (check-node-at t) check
   call = c .before .before .before .before .before .before .before
 
   abbrev n : Split
-  n = c .before .before .root .result
+  n = c .before .before .root-by-shifts .result
 
   tall : 2 ≤ call .args .h
   tall = high t (c .before .before .before .before)
 
   inner : Inner (bits (call .args .b .now .now)) (call .args .at) (call .args .h) (call .args .s) n
-  inner = record { high = not-zero tall; root = c .before .before .root .ensures; sound = not-false (n .ok) (c .if3 .left) }
+  inner = record { high = not-zero tall; root = c .before .before .root-by-shifts .ensures; sound = not-false (n .ok) (c .if3 .left) }
 
   left-le : n .left ≤ call .args .s
   left-le = inner .root .left-le (inner .sound)
@@ -99,11 +99,11 @@ check-node-returns-2 t c = c .low-levels .ensures
 check-node-sub-down : (t : ℕ) → check-node-lts.Need-sub-down (callees t) (check-node-at t) check-node.Post
 check-node-sub-down t c = c .before .before .before .pre .1 .2
 
-check-node-root-requires : (t : ℕ) → check-node-lts.Need-root-requires (callees t) (check-node-at t) check-node.Post
-check-node-root-requires t c κs = top (not-zero (high t (c .before))) (c .before .before .before .before .pre .1 .0)
+check-node-root-by-shifts-requires : (t : ℕ) → check-node-lts.Need-root-by-shifts-requires (callees t) (check-node-at t) check-node.Post
+check-node-root-by-shifts-requires t c κs = top (not-zero (high t (c .before))) (c .before .before .before .before .pre .1 .0)
 
 check-node-returns-3 : (t : ℕ) → check-node-lts.Need-returns-3 (callees t) (check-node-at t) check-node.Post
-check-node-returns-3 t c = exact-bad _ _ _ _ (not-zero (high t (c .before .before .before .before))) (c .before .before .root .ensures) (not-true _ (c .if3 .taken))
+check-node-returns-3 t c = exact-bad _ _ _ _ (not-zero (high t (c .before .before .before .before))) (c .before .before .root-by-shifts .ensures) (not-true _ (c .if3 .taken))
 
 check-node-sub-right : (t : ℕ) → check-node-lts.Need-sub-right (callees t) (check-node-at t) check-node.Post
 check-node-sub-right t c = left-le t (c .before)
@@ -164,7 +164,7 @@ pub +check-node-spec : {M : Type 1} → statement M
     (check-node-low-levels-requires t)
     (check-node-returns-2 t)
     (check-node-sub-down t)
-    (check-node-root-requires t)
+    (check-node-root-by-shifts-requires t)
     (check-node-returns-3 t)
     (check-node-sub-right t)
     (check-node-reserve-of-requires t)

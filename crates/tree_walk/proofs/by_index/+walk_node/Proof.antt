@@ -16,7 +16,7 @@ use Rattle.tree_walk.proofs.by_index.walk_node.Reads as walk-node
 use Rattle.tree_walk.proofs.by_index.walk_node.Kinds as walk-node-kinds
 use Rattle.tree_walk.proofs.by_index.+walk_node.Lts-walk_node as walk-node-lts
 use Rattle.reserve.proofs.power.Reads as power-reads
-use Rattle.tree.proofs.node.root.Reads as root-reads
+use Rattle.tree.proofs.node.root_by_shifts.Reads as root-by-shifts-reads
 use Rattle.tree_walk.proofs.pairs.one_word.Reads as one-word-reads
 use Rattle.tree_walk.proofs.by_index.walk_four.Reads as walk-four-reads
 use Rattle.tree_walk.proofs.by_index.+walk_node.{statement}
@@ -38,8 +38,8 @@ callees t = (
   one-word-reads.Learnt,
   walk-four-reads.Asked,
   walk-four-reads.Learnt,
-  root-reads.Asked,
-  root-reads.Learnt,
+  root-by-shifts-reads.Asked,
+  root-by-shifts-reads.Learnt,
   power-reads.Asked,
   power-reads.Learnt,
   walk-node-below t,
@@ -52,13 +52,13 @@ module _ (t : ℕ) (c : walk-node-lts.Else4 (callees t) (walk-node-at t) walk-no
   call = c .before .before .before .before .before .before .before .before
 
   abbrev r : Split
-  r = c .before .before .root .result
+  r = c .before .before .root-by-shifts .result
 
   inner : Inner (bits (call .args .b .now .now)) (call .args .at) (call .args .h) (call .args .s) r
   inner =
       record {
         high = c .before .before .before .before .if3 .left;
-        root = c .before .before .root .ensures;
+        root = c .before .before .root-by-shifts .ensures;
         sound = not-false (r .ok) (c .if4 .left);
       }
 
@@ -92,11 +92,11 @@ walk-node-returns-3 t c = walk-leaf _ _ _ _ _ _ _ (c .if3 .taken)
 walk-node-sub-down : (t : ℕ) → walk-node-lts.Need-sub-down (callees t) (walk-node-at t) walk-node.Post
 walk-node-sub-down t c = search needs
 
-walk-node-root-requires : (t : ℕ) → walk-node-lts.Need-root-requires (callees t) (walk-node-at t) walk-node.Post
-walk-node-root-requires t c κs = top (c .before .if3 .left) (c .before .before .before .before .before .pre .1 .0)
+walk-node-root-by-shifts-requires : (t : ℕ) → walk-node-lts.Need-root-by-shifts-requires (callees t) (walk-node-at t) walk-node.Post
+walk-node-root-by-shifts-requires t c κs = top (c .before .if3 .left) (c .before .before .before .before .before .pre .1 .0)
 
 walk-node-returns-4 : (t : ℕ) → walk-node-lts.Need-returns-4 (callees t) (walk-node-at t) walk-node.Post
-walk-node-returns-4 t c = walk-bad _ _ _ _ _ _ _ (c .before .before .before .before .if3 .left) (c .before .before .root .ensures) (not-true _ (c .if4 .taken))
+walk-node-returns-4 t c = walk-bad _ _ _ _ _ _ _ (c .before .before .before .before .if3 .left) (c .before .before .root-by-shifts .ensures) (not-true _ (c .if4 .taken))
 
 walk-node-power-requires : (t : ℕ) → walk-node-lts.Need-power-requires (callees t) (walk-node-at t) walk-node.Post
 walk-node-power-requires t c κs = omega (arith, call t c .pre .1)
@@ -146,7 +146,7 @@ pub +walk-node-spec : {M : Type 1} → statement M
     (walk-node-add-result t)
     (walk-node-returns-3 t)
     (walk-node-sub-down t)
-    (walk-node-root-requires t)
+    (walk-node-root-by-shifts-requires t)
     (walk-node-returns-4 t)
     (walk-node-power-requires t)
     (walk-node-walk-node-requires t)
