@@ -6,15 +6,15 @@ use Prim.Native.Nat.{ℕ, _^_, _≤_, _<_}
 use native.Mathlib.Decide.{decLe}
 use native.Mathlib.Omega.{arith}
 use Rattle.lists.specs.Lists.{reached}
-use Rattle.store.specs.Plain.{Answer, Append, Call, Count, Day, Free, Reach as ReachOf, Reading, Set}
-use Rattle.store.specs.Plain.{answered, changed, refused as turned}
+use Rattle.store.specs.Plain.{Append, Call, Count, Day, Free, Reach as ReachOf, Reading, Set}
+use Rattle.answers.specs.Store.{Answer, answered, changed, refused as turned}
 use Rattle.store.specs.Call.{call, freshCall}
 use Rattle.store.proofs.Unchanged.{answered-keeps, fresh-refused-keeps, refused-keeps}
 use Rattle.image.specs.Calls.{writeCall}
 use Rattle.image.specs.Check.{accepted, headed}
 use Rattle.image.specs.Reach.{Reach, above-total, damage, header-wrong, smallest}
 use Rattle.image.specs.Read.{listOf, sOf}
-use Rattle.image.specs.Reply.{Reply, given, refused}
+use Rattle.answers.specs.Image.{Reply, given, refused}
 use Rattle.image.proofs.CallLaws.{write-refused}
 use Rattle.freeze.specs.Freeze.{freezeCall}
 use Rattle.freeze.proofs.Freezing.{freeze-refused}

@@ -12,8 +12,9 @@ use Rattle.lists.specs.Lists.{pick}
 use Rattle.store.specs.Limits.{Fitting}
 use Rattle.store.specs.Call.{Result, call, freshCall, storeAnswers, storeEnd}
 use Rattle.store.specs.Layout.{Model, bytesOf, fresh}
-use Rattle.store.specs.Plain.{Answer, Append, Call, Count, Day, Free, Outcome, Plain, Reach, Reading, Set}
-use Rattle.store.specs.Plain.{answered, need, plainAnswers, plainEnd, plainFresh, refuse, refused, step, tell}
+use Rattle.store.specs.Plain.{Append, Call, Count, Day, Free, Outcome, Plain, Reach, Reading, Set}
+use Rattle.answers.specs.Store.{Answer, answered, refused}
+use Rattle.store.specs.Plain.{need, plainAnswers, plainEnd, plainFresh, refuse, step, tell}
 use Rattle.store.specs.Reading.{read}
 use Rattle.store.specs.Sound.{Good, sound}
 use Rattle.store.proofs.ChainLaws.{Says, says}

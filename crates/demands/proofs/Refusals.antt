@@ -8,8 +8,9 @@ use lib.ListN.{length, drop, set}
 use lib.Dec.{leb, ltb}
 use Rattle.lists.specs.Lists.{occurrences, one, pick, reached}
 use Rattle.tree.specs.Read.{Found, damaged, found}
-use Rattle.store.specs.Plain.{Answer, Append, Call, Count, Day, Free, Outcome, Plain, Reach as ReachOf, Reading, Set}
-use Rattle.store.specs.Plain.{answered, change, refuse, refused as turned, step}
+use Rattle.store.specs.Plain.{Append, Call, Count, Day, Free, Outcome, Plain, Reach as ReachOf, Reading, Set}
+use Rattle.answers.specs.Store.{Answer, answered, refused as turned}
+use Rattle.store.specs.Plain.{change, refuse, step}
 use Rattle.store.specs.Layout.{bytesOf, fresh}
 use Rattle.store.specs.Reading.{read}
 use Rattle.store.specs.Sound.{sound}
@@ -18,12 +19,12 @@ use Rattle.store.specs.Call.{Result, call, freshCall}
 use Rattle.store.proofs.CallLaws.{call-10, sound-call}
 use Rattle.store.proofs.StepLaws.{Change, change-is, done, over, short}
 use Rattle.image.specs.Calls.{lengthCall, put, putAfter, unwritten, writeCall}
-use Rattle.image.specs.Check.{accepted, check, fails, headed, holds}
+use Rattle.image.specs.Check.{accepted, check, headed}
+use Rattle.answers.specs.Image.{fails, holds, Reply, given, refused}
 use Rattle.image.specs.Image.{image}
 use Rattle.image.specs.Query.{count, look, reading, readingAt, theCount, theReading}
 use Rattle.image.specs.Reach.{Reach, above-total, any-index, damage, header-wrong, smallest}
 use Rattle.image.specs.Read.{listOf, nOf, sOf}
-use Rattle.image.specs.Reply.{Reply, given, refused}
 use Rattle.freeze.specs.Freeze.{freezeCall}
 use Rattle.freeze.proofs.Freezing.{only-page-size}
 use Rattle.hourlog_c.specs.Public.{Fresh, Freeze, ImageCheck, ImageCount, ImageLength, ImageReach, ImageReading, ImageWrite, Live}

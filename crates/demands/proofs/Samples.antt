@@ -11,12 +11,12 @@ use Rattle.reserve.specs.Reserve.{dense, digits, reserve, sparse}
 use Rattle.tree.specs.Read.{counts, later, leftOf, walk}
 use Rattle.tree.specs.Tree.{tree}
 use Rattle.image.specs.Calls.{lengthCall}
-use Rattle.image.specs.Check.{accepted, check, fails, headed, holds}
+use Rattle.image.specs.Check.{accepted, check, headed}
+use Rattle.answers.specs.Image.{fails, holds, Reply, given, refused}
 use Rattle.image.specs.Image.{bytesFor, code, header, image, packed, page, pageCode, pages, root, size, start, table}
 use Rattle.image.specs.Query.{beforePassing, count, look, lookIn, pageFine, reading, readingAt, theCount, theReading}
 use Rattle.image.specs.Reach.{Reach}
 use Rattle.image.specs.Read.{beforeOf, codeAt, eOf, lOf, listOf, nOf, pageOf, pagesOf, rootOf, sOf, startOf, sumOf, treeAt, widthOf}
-use Rattle.image.specs.Reply.{Reply, given, refused}
 use Rattle.demands.proofs.Theorems.{reach-accepted}
 
 -- 'e = 2, counts 1,0,2,0,5: ..'

@@ -6,15 +6,16 @@ use mathlib.Core.List.{List, [], _∷_}
 use mathlib.Core.Logic.{_↔_, Iff·trans}
 use Prim.Native.Nat.{ℕ, _-_, _*_, _^_, _≤_, _<_}
 use native.Mathlib.Omega.{arith}
-use Rattle.store.specs.Plain.{Answer, Append, Call, Count, Day, Free, Reach as ReachOf, Reading, Set, answered, changed, refused as turned}
+use Rattle.store.specs.Plain.{Append, Call, Count, Day, Free, Reach as ReachOf, Reading, Set}
+use Rattle.answers.specs.Store.{Answer, answered, changed, refused as turned}
 use Rattle.store.specs.Call.{call, freshCall}
 use Rattle.store.specs.Items.{Items}
 use Rattle.store.proofs.Refusals.{one-of-two}
 use Rattle.image.specs.Calls.{lengthCall, writeCall}
-use Rattle.image.specs.Check.{Verdict, check, fails, holds}
+use Rattle.image.specs.Check.{check}
+use Rattle.answers.specs.Image.{Verdict, fails, holds, Reply, given, refused}
 use Rattle.image.specs.Query.{count, reading}
 use Rattle.image.specs.Reach.{Reach}
-use Rattle.image.specs.Reply.{Reply, given, refused}
 use Rattle.freeze.specs.Freeze.{freezeCall}
 use Rattle.hourlog_c.specs.Public.{End, Ends, Fresh, Freeze, ImageCheck, ImageCount, ImageLength, ImageReach, ImageReading, ImageWrite, Live}
 use Rattle.hourlog_c.specs.Public.{PublicCall, lent, ofCheck, ofImage, ofStore, refusal, theCells, theNumber, theSums}

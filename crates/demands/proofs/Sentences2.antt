@@ -19,12 +19,12 @@ use Rattle.tree.specs.Read.{counts}
 use Rattle.tree.specs.Tree.{tree}
 use Rattle.tree.proofs.Shape.{counts-tree}
 use Rattle.image.specs.Calls.{lengthCall, writeCall}
-use Rattle.image.specs.Check.{accepted, check, holds}
+use Rattle.image.specs.Check.{accepted, check}
+use Rattle.answers.specs.Image.{holds, Reply, given, refused}
 use Rattle.image.specs.Image.{IsImage, Limits, bytesFor, code, codeStart, image, page, pages, size}
 use Rattle.image.specs.Query.{count, reading}
 use Rattle.image.specs.Reach.{Reach}
 use Rattle.image.specs.Read.{eOf, listOf, sOf}
-use Rattle.image.specs.Reply.{Reply, given, refused}
 use Rattle.image.proofs.PageLaws.{length-page}
 use Rattle.store.specs.PageCode.{cells}
 use Rattle.store.specs.Plain.{page as plainPage}

@@ -14,7 +14,8 @@ use Rattle.reserve.specs.Reserve.{ceil, reserve}
 use Rattle.store.specs.Limits.{Fitting}
 use Rattle.store.specs.Call.{call, freshCall, storeAnswers, storeEnd}
 use Rattle.store.specs.PageCode.{cells}
-use Rattle.store.specs.Plain.{Answer, Append, Call, Free, Plain, Reading, Set, answered, need, plainAnswers, plainFresh, refused, step}
+use Rattle.store.specs.Plain.{Append, Call, Free, Plain, Reading, Set, need, plainAnswers, plainFresh, step}
+use Rattle.answers.specs.Store.{Answer, answered, refused}
 use Rattle.store.specs.Reading.{Runs, chainIn, codeIn, firstIn, read, readFor, spareIn, sumIn}
 use Rattle.store.proofs.CallLaws.{sound-call}
 use Rattle.store.proofs.Examples.{session, session-answers}

@@ -8,12 +8,12 @@ use lib.ListN.{length, getD, take}
 use lib.Dec.{leb, ltb}
 use borrow.Author.Tests.{le-ltb, leb-false, lt-ltb, ltb-false}
 use Rattle.lists.specs.Lists.{pick, reached, sum}
-use Rattle.image.specs.Check.{accepted, check, fails, headed, holds}
+use Rattle.image.specs.Check.{accepted, check, headed}
+use Rattle.answers.specs.Image.{fails, holds, Reply, given, refused}
 use Rattle.image.specs.Image.{IsImage, Limits, image}
 use Rattle.image.specs.Query.{count, look, reading, readingAt, theCount}
 use Rattle.image.specs.Reach.{Reach, above-total, any-index, damage, header-wrong, smallest}
 use Rattle.image.specs.Read.{eOf, listOf, nOf, sOf}
-use Rattle.image.specs.Reply.{Reply, given, refused}
 use Rattle.image.proofs.ReadLaws.{e-is, headed-image, n-is, s-is}
 use Rattle.image.proofs.Accepted.{accepted-only, length-list}
 use Rattle.image.proofs.HeadLaws.{never}

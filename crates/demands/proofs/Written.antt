@@ -12,7 +12,7 @@ use borrow.Author.Tests.{leb-true}
 use Rattle.lists.specs.Lists.{pick}
 use Rattle.image.specs.Calls.{Wrote, lengthCall, put, putAfter, unwritten, writeCall}
 use Rattle.image.specs.Image.{Limits, code, image, size}
-use Rattle.image.specs.Reply.{Reply, given, refused}
+use Rattle.answers.specs.Image.{Reply, given, refused}
 use Rattle.store.specs.Reading.{read}
 use Rattle.store.specs.Sound.{sound}
 use Rattle.freeze.specs.Freeze.{freezeCall}

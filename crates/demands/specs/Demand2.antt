@@ -7,18 +7,19 @@ use mathlib.Core.List.{List, [], _∷_, _++_}
 use Prim.Native.Nat.{ℕ, suc, _+_, _-_, _*_, _≤_, _<_}
 use lib.ListN.{length, getD, take, drop}
 use lib.Dec.{leb, ltb}
+use Rattle.answers.specs.Refusals.{aboveTotal, notLogged}
 use Rattle.lists.specs.Lists.{part, pick, reached, sum}
 use Rattle.bits.specs.Bits.{bits}
 use Rattle.reserve.specs.Reserve.{digits, reserve}
 use Rattle.tree.specs.Ranges.{Inside, Node, Parts, Side, end, left, node, right}
 use Rattle.tree.specs.Tree.{tree}
 use Rattle.image.specs.Calls.{Wrote, lengthCall, writeCall}
-use Rattle.image.specs.Check.{accepted, check, holds}
+use Rattle.image.specs.Check.{accepted, check}
+use Rattle.answers.specs.Image.{holds, Reply, given, refused}
 use Rattle.image.specs.Image.{IsImage, Limits, code, codeStart, image, page, pages, size, start}
 use Rattle.image.specs.Query.{count, reading}
 use Rattle.image.specs.Reach.{Reach}
 use Rattle.image.specs.Read.{eOf, listOf, sOf}
-use Rattle.image.specs.Reply.{Reply, given, refused}
 use Rattle.store.specs.PageCode.{cells}
 use Rattle.store.specs.Plain.{page as plainPage}
 use Rattle.store.specs.Reading.{read}
@@ -105,11 +106,11 @@ pub record Demand2 : Type 0 where
   pub read-back : (s : List ℕ) (e : ℕ) (xs : List ℕ) → IsImage s e xs → (e ≡ eOf s) × (xs ≡ listOf s)
   -- 'count, reading and reach equal plain sums', and check answers N and S
   pub count-sum : (s : List ℕ) → accepted s ≡ true → (i : ℕ)
-      → count s i ≡ pick (leb (length (listOf s)) i) (refused 7) (given (getD (listOf s) i 0))
+      → count s i ≡ pick (leb (length (listOf s)) i) (refused notLogged) (given (getD (listOf s) i 0))
   pub reading-sum : (s : List ℕ) → accepted s ≡ true → (i : ℕ)
-      → reading s i ≡ pick (ltb (length (listOf s)) i) (refused 7) (given (sum (take i (listOf s))))
+      → reading s i ≡ pick (ltb (length (listOf s)) i) (refused notLogged) (given (sum (take i (listOf s))))
   pub reach-sum : (s : List ℕ) → accepted s ≡ true → (q : ℕ) (r : Reply) → Reach s q r
-      → r ≡ pick (ltb (sum (listOf s)) q) (refused 8) (given (reached q (listOf s)))
+      → r ≡ pick (ltb (sum (listOf s)) q) (refused aboveTotal) (given (reached q (listOf s)))
   pub check-sums : (s : List ℕ) → accepted s ≡ true → check s ≡ holds (length (listOf s)) (sum (listOf s))
   pub check-only : (s : List ℕ) (n t : ℕ) → check s ≡ holds n t → IsImage s (eOf s) (listOf s) × (n ≡ length (listOf s)) × (t ≡ sOf s)
   -- the writer: the lists that have an image, its length, and its bytes

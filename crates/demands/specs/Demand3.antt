@@ -5,10 +5,12 @@ use mathlib.Core.Logic.{_↔_}
 use mathlib.Core.Path.{_≡_}
 use Prim.Native.Nat.{ℕ, suc, _-_, _*_, _≤_, _<_}
 use lib.ListN.{length, getD, take, set}
+use Rattle.answers.specs.Refusals.{cellsShort}
 use Rattle.lists.specs.Lists.{tabulate, concat, sum, occurrences}
 use Rattle.bits.specs.Numbers.{numberAt}
 use Rattle.store.specs.PageCode.{cells}
-use Rattle.store.specs.Plain.{Plain, Call, Append, Set, Free, Answer, answered, refused, page, need, plainEnd, plainAnswers, plainFresh}
+use Rattle.store.specs.Plain.{Plain, Call, Append, Set, Free, page, need, plainEnd, plainAnswers, plainFresh}
+use Rattle.answers.specs.Store.{Answer, answered, refused}
 use Rattle.store.specs.Layout.{cellsFrom, size}
 use Rattle.store.specs.Limits.{Fitting}
 use Rattle.store.specs.Reading.{Runs, firstIn, sumIn, chainIn, spareIn, read}
@@ -64,9 +66,9 @@ pub record HoldsAfter (b : List ℕ) (P C : ℕ) (cs : List Call) : Type 0 where
   pub holds : StoreHolds (storeAfter b P C cs) P C (listAfter P C cs .counts)
   -- call n, an append or set that passes the earlier checks, is refused 12 exactly when the changed list needs more than C cells
   pub when-12 : (n : ℕ) → n < length cs → (ys : List ℕ) → Passes (getD cs n Free) (listAfter P C (take n cs)) ys
-      → (answerAt b P C cs n ≡ refused 12) ↔ (C < need ys P)
+      → (answerAt b P C cs n ≡ refused cellsShort) ↔ (C < need ys P)
   -- and never with at least eight cells a page
-  pub never-12 : 8 * P ≤ C → (n : ℕ) → answerAt b P C cs n ≡ refused 12 → ⊥
+  pub never-12 : 8 * P ≤ C → (n : ℕ) → answerAt b P C cs n ≡ refused cellsShort → ⊥
   -- a refused call changes no byte: after call n, if it is refused, the store is what the n calls before it left
   pub kept : (n k : ℕ) → answerAt b P C cs n ≡ refused k → storeAfter b P C (take (suc n) cs) ≡ storeAfter b P C (take n cs)
 

@@ -6,7 +6,8 @@ mod put;
 
 use crate::plan::layout_of;
 use crate::put::put_image;
-use image::answer::Answer;
+use answers::image::Answer;
+use answers::refusal;
 use image_steps::plan::Planned;
 use image_steps::plan::size;
 ghost use mathlib.Core.Bool.{true};
@@ -27,7 +28,7 @@ fn freeze_list(s: &[u8], e: u32, out: &mut [u8]) -> Answer
         Planned::Image(r) => {
             let n = size(r);
             if (out.len() as u64) < n {
-                return Answer::Refused(4);
+                return Answer::Refused(refusal::BUFFER);
             }
             put_image(out, s, r);
             Answer::Number(n)
@@ -40,7 +41,7 @@ pub fn freeze(s: &[u8], e: u32, out: &mut [u8]) -> Answer
     ensures { λ r. ⌜ wrote r (now (out .exit)) ≡ freezeCall e (now (s .entry)) (now (out .entry)) ⌝ }
 {
     if !soundness::check(s) {
-        return Answer::Refused(10);
+        return Answer::Refused(refusal::UNSOUND);
     }
     freeze_list(s, e, out)
 }

@@ -10,7 +10,7 @@ use lib.ListN.{length, replicate, length-replicate}
 use Rattle.lists.specs.Lists.{concat, part, pick, tabulate}
 use Rattle.bits.specs.Numbers.{little}
 use Rattle.store.specs.Limits.{Limits, fits}
-use Rattle.store.specs.Plain.{answered, refused}
+use Rattle.answers.specs.Store.{answered, refused}
 use Rattle.store.specs.Layout.{bytesOf, cellAt, fresh, header, size, cellsFrom, entryAt}
 use Rattle.store.specs.Call.{Started, freshCall}
 use Rattle.store.specs.Code.Links.{put}

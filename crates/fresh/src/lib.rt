@@ -1,9 +1,10 @@
 // A fresh store.
 mod header;
 
+use answers::refusal;
+use answers::store::Answer;
 use chains::numbers::put_two;
 use header::put_header;
-use store::answer::Answer;
 use store::header::Header;
 use store::header::cell_at;
 use store::header::cells_from;
@@ -14,7 +15,7 @@ ghost use lib.ListN.{length, replicate};
 ghost use Rattle.fresh.specs.Code.Cells.{chained};
 ghost use Rattle.store.specs.Limits.{maxCells};
 ghost use Rattle.store.specs.Call.{Started};
-ghost use Rattle.store.specs.Answers.{told};
+ghost use Rattle.answers.specs.Store.{told};
 
 // Makes every byte 0.
 fn clear(s: &mut [u8])
@@ -46,7 +47,7 @@ pub fn fresh(s: &mut [u8], pages: u32, cells: u32) -> Answer
     let p = pages as usize;
     let c = cells as usize;
     if !fits(s, p, c) {
-        return Answer::Refused(9);
+        return Answer::Refused(refusal::FRESH);
     }
     clear(s);
     put_header(s, Header::fresh(p, c));

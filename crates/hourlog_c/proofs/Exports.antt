@@ -6,16 +6,17 @@ use Prim.Native.Nat.{ℕ, _<_}
 use native.Mathlib.Omega.{arith}
 use lib.ListN.{getD}
 use Rattle.lists.specs.Lists.{pick}
-use Rattle.store.specs.Plain.{Answer, Call, answered, changed, refused as turned}
+use Rattle.store.specs.Plain.{Call}
+use Rattle.answers.specs.Store.{Answer, answered, changed, refused as turned}
 use Rattle.store.specs.Call.{Called, Started, call, freshCall}
 use Rattle.store.specs.Reading.{read}
 use Rattle.store.specs.Sound.{sound}
 use Rattle.store.proofs.Sizes.{Small as SmallAnswer, call-small, fresh-small}
 use Rattle.image.specs.Calls.{Wrote, lengthCall, unwritten, writeCall}
-use Rattle.image.specs.Check.{Verdict, check, fails, holds}
+use Rattle.image.specs.Check.{check}
+use Rattle.answers.specs.Image.{Verdict, fails, holds, Reply, given, refused}
 use Rattle.image.specs.Query.{count, reading}
 use Rattle.image.specs.Reach.{Reach}
-use Rattle.image.specs.Reply.{Reply, given, refused}
 use Rattle.image.proofs.Sizes.{Small as SmallReply, SmallVerdict, check-small, count-small, length-small, reach-small, reading-small, write-small}
 use Rattle.freeze.specs.Freeze.{freezeCall}
 use Rattle.hourlog_c.specs.Public.{End, Ends, Fresh, Freeze, ImageCheck, ImageCount, ImageLength, ImageReach, ImageReading, ImageWrite, Live}

@@ -8,7 +8,8 @@ use native.Mathlib.Omega.{arith}
 use lib.ListN.{length, getD, drop}
 use lib.Dec.{leb}
 use Rattle.lists.specs.Lists.{pick}
-use Rattle.store.specs.Plain.{Answer, Call, answered, changed, refused as turned}
+use Rattle.store.specs.Plain.{Call}
+use Rattle.answers.specs.Store.{Answer, answered, changed, refused as turned}
 use Rattle.store.specs.Call.{call}
 use Rattle.store.specs.Items.{Items}
 use Rattle.store.specs.Reading.{read}
@@ -17,7 +18,7 @@ use Rattle.store.proofs.ItemLaws.{items-sound, sound-items}
 use Rattle.store.proofs.Refusals.{ten-exactly}
 use Rattle.image.specs.Calls.{Wrote, put, putAfter, unwritten, writeCall}
 use Rattle.image.specs.Image.{image}
-use Rattle.image.specs.Reply.{Reply, given, refused}
+use Rattle.answers.specs.Image.{Reply, given, refused}
 use Rattle.freeze.specs.Freeze.{freezeCall}
 use Rattle.freeze.proofs.Freezing.{freeze-10, freeze-sound, only-page-size}
 use Rattle.hourlog_c.specs.Public.{Freeze, Live}

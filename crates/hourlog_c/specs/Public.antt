@@ -3,11 +3,12 @@ use mathlib.Core.List.{List, [], _∷_}
 use mathlib.Core.Logic.{_↔_}
 use mathlib.Core.Path.{_≡_}
 use Prim.Native.Nat.{ℕ}
-use Rattle.store.specs.Plain.{Answer, Call, answered, changed, refused as turned}
+use Rattle.store.specs.Plain.{Call}
+use Rattle.answers.specs.Store.{Answer, answered, changed, refused as turned}
 use Rattle.store.specs.Call.{call, freshCall}
 use Rattle.store.specs.Items.{Items}
-use Rattle.image.specs.Reply.{Reply, given, refused}
-use Rattle.image.specs.Check.{Verdict, check, fails, holds}
+use Rattle.answers.specs.Image.{Reply, given, refused, Verdict, fails, holds}
+use Rattle.image.specs.Check.{check}
 use Rattle.image.specs.Calls.{lengthCall, writeCall}
 use Rattle.image.specs.Query.{count, reading}
 use Rattle.image.specs.Reach.{Reach}

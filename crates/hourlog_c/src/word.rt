@@ -3,9 +3,8 @@ use std::num::wrapping_add_u64;
 use std::num::wrapping_sub_u64;
 ghost use mathlib.Core.Path.{_≡_};
 ghost use Prim.Native.Nat.{_<_};
-ghost use Rattle.store.specs.Answers.{told};
-ghost use Rattle.image.specs.Answers.{told as replied};
-ghost use Rattle.image.specs.Answers.{ruled};
+ghost use Rattle.answers.specs.Store.{told};
+ghost use Rattle.answers.specs.Image.{told as replied, ruled};
 ghost use Rattle.hourlog_c.specs.Public.{ofCheck, ofImage, ofStore};
 ghost use Rattle.hourlog_c.specs.Words.{minus as minusWord, pair as pairWord, wordOf};
 
@@ -22,30 +21,30 @@ fn pair(k: u32, a: u64, b: u64) -> u64
     wrapping_add_u64(a, b << k)
 }
 
-pub(crate) fn of_store(a: store::answer::Answer) -> u64
+pub(crate) fn of_store(a: answers::store::Answer) -> u64
     ensures { λ r. ⌜ r ≡ wordOf (ofStore (told a)) ⌝ }
 {
     match a {
-        store::answer::Answer::Changed(taken, returned) => pair(16, taken, returned),
-        store::answer::Answer::Number(n) => n,
-        store::answer::Answer::Refused(k) => minus(k),
+        answers::store::Answer::Changed(taken, returned) => pair(16, taken, returned),
+        answers::store::Answer::Number(n) => n,
+        answers::store::Answer::Refused(k) => minus(k),
     }
 }
 
-pub(crate) fn of_image(a: image::answer::Answer) -> u64
+pub(crate) fn of_image(a: answers::image::Answer) -> u64
     ensures { λ r. ⌜ r ≡ wordOf (ofImage (replied a)) ⌝ }
 {
     match a {
-        image::answer::Answer::Number(n) => n,
-        image::answer::Answer::Refused(k) => minus(k),
+        answers::image::Answer::Number(n) => n,
+        answers::image::Answer::Refused(k) => minus(k),
     }
 }
 
-pub(crate) fn of_check(v: image::answer::Verdict) -> u64
+pub(crate) fn of_check(v: answers::image::Verdict) -> u64
     ensures { λ r. ⌜ r ≡ wordOf (ofCheck (ruled v)) ⌝ }
 {
     match v {
-        image::answer::Verdict::Holds(hours, total) => pair(40, total, hours),
-        image::answer::Verdict::Refused(k) => minus(k),
+        answers::image::Verdict::Holds(hours, total) => pair(40, total, hours),
+        answers::image::Verdict::Refused(k) => minus(k),
     }
 }

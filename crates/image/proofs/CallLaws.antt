@@ -10,7 +10,7 @@ use borrow.Author.Tests.{le-leb, leb-true}
 use Rattle.lists.specs.Lists.{pick, sum}
 use Rattle.image.specs.Calls.{Wrote, lengthCall, put, putAfter, unwritten, writeCall}
 use Rattle.image.specs.Image.{Limits, image, maxHours, maxTotal}
-use Rattle.image.specs.Reply.{Reply, given, refused}
+use Rattle.answers.specs.Image.{Reply, given, refused}
 use Rattle.lists.proofs.Tests.{left, right}
 
 pub length-within : (e : ℕ) (xs : List ℕ) → Limits e xs → lengthCall e xs ≡ given (length (image e xs))

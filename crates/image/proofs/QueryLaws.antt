@@ -18,7 +18,7 @@ use Rattle.tree.proofs.WalkLaws.{shift, walk-tree}
 use Rattle.image.specs.Image.{Limits, image, page, pages}
 use Rattle.image.specs.Query.{beforePassing, look, lookIn, pageFine, pageTests, readingAt, theReading}
 use Rattle.image.specs.Read.{beforeOf, eOf, lOf, rootOf, sOf, startOf, sumOf, treeAt, widthOf}
-use Rattle.image.specs.Reply.{given}
+use Rattle.answers.specs.Image.{given}
 use Rattle.image.proofs.ReadLaws.{before-is, e-is, l-is, root-is, s-is, start-is, sum-is, tree-is}
 use Rattle.image.proofs.ReadLaws.{width-is}
 use Rattle.image.proofs.DamageLaws.{is-within, within}

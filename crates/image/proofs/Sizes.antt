@@ -12,12 +12,12 @@ use Rattle.lists.proofs.Reach.{reached-le}
 use Rattle.lists.proofs.Tests.{each, left, right}
 use Rattle.tree.specs.Read.{Found, damaged, found}
 use Rattle.image.specs.Calls.{lengthCall, put, putAfter, unwritten, writeCall}
-use Rattle.image.specs.Check.{Verdict, accepted, check, fails, headed, holds}
+use Rattle.image.specs.Check.{accepted, check, headed}
+use Rattle.answers.specs.Image.{Verdict, fails, holds, Reply, given, refused}
 use Rattle.image.specs.Image.{Limits, bytesFor, image, maxHours, maxTotal, size}
 use Rattle.image.specs.Query.{count, look, reading, readingAt, theCount, theReading}
 use Rattle.image.specs.Reach.{Reach, above-total, any-index, damage, header-wrong, smallest}
 use Rattle.image.specs.Read.{eOf, listOf, nOf, sOf}
-use Rattle.image.specs.Reply.{Reply, given, refused}
 use Rattle.image.proofs.Accepted.{accepted-only, length-list}
 use Rattle.image.proofs.ReadLaws.{length-image, s-is}
 use Rattle.image.proofs.HeadLaws.{headed-long, word-most}

@@ -4,16 +4,17 @@ use mathlib.Core.List.{List, _++_}
 use Prim.Native.Nat.{ℕ}
 use lib.ListN.{length, drop}
 use lib.Dec.{leb}
+use Rattle.answers.specs.Refusals.{listTooLong, pageSizeWrong, totalTooHigh}
 use Rattle.lists.specs.Lists.{sum, pick}
 use Rattle.image.specs.Image.{image, maxHours, maxTotal}
-use Rattle.image.specs.Reply.{Reply, given, refused}
+use Rattle.answers.specs.Image.{Reply, given, refused}
 
 -- length: 1, 'e outside 2 to 8'; 2, 'over 65,536 counts'; 3, the total 'above 4,294,967,295'; else 'the image's length in bytes'
 unfoldable pub lengthCall : ℕ → List ℕ → Reply
 lengthCall e xs =
     pick (leb 2 e && leb e 8)
-    (pick (leb (length xs) maxHours) (pick (leb (sum xs) maxTotal) (given (length (image e xs))) (refused 3)) (refused 2))
-    (refused 1)
+    (pick (leb (length xs) maxHours) (pick (leb (sum xs) maxTotal) (given (length (image e xs))) (refused totalTooHigh)) (refused listTooLong))
+    (refused pageSizeWrong)
 
 -- what a call that writes answers, and its buffer afterwards
 pub record Wrote : Type 0 where

@@ -4,7 +4,9 @@ use mathlib.Core.List.{List, [], _∷_, _++_}
 use Prim.Native.Nat.{ℕ}
 use lib.ListN.{length, getD}
 use lib.Dec.{leb, eqb}
+use Rattle.answers.specs.Refusals.{bodyDamaged, headerWrong}
 use Rattle.lists.specs.Lists.{sum, pick, every, same}
+use Rattle.answers.specs.Image.{Verdict, fails, holds}
 use Rattle.image.specs.Image.{headerLength, image, maxHours, maxTotal, size}
 use Rattle.image.specs.Read.{eOf, nOf, sOf, lOf, listOf}
 
@@ -31,9 +33,5 @@ unfoldable pub accepted : List ℕ → Bool
 accepted s = headed s && (leb (sum (listOf s)) maxTotal && same s (image (eOf s) (listOf s)))
 
 -- 'check (returns N and S)', or a refusal
-pub data Verdict : Type 0 where
-  holds : ℕ → ℕ → Verdict
-  fails : ℕ → Verdict
-
 unfoldable pub check : List ℕ → Verdict
-check s = pick (headed s) (pick (accepted s) (holds (nOf s) (sOf s)) (fails 6)) (fails 5)
+check s = pick (headed s) (pick (accepted s) (holds (nOf s) (sOf s)) (fails bodyDamaged)) (fails headerWrong)

@@ -3,11 +3,12 @@ use mathlib.Core.Bool.{Bool, false, not}
 use mathlib.Core.List.{List, [], _∷_, map}
 use Prim.Native.Nat.{ℕ, zero, suc, _+_, _/_, _%_, _^_}
 use lib.Dec.{leb, ltb}
+use Rattle.answers.specs.Refusals.{bodyDamaged, headerWrong, notLogged}
 use Rattle.lists.specs.Lists.{pick, every}
 use Rattle.bits.specs.Bits.{bits}
 use Rattle.reserve.specs.Reserve.{reserve}
 use Rattle.tree.specs.Read.{Found, damaged, found, later, walk}
-use Rattle.image.specs.Reply.{Reply, given, refused}
+use Rattle.answers.specs.Image.{Reply, given, refused}
 use Rattle.image.specs.Read.{eOf, nOf, sOf, lOf, widthOf, startOf, rootOf, beforeOf, sumOf, treeAt}
 use Rattle.image.specs.Check.{headed}
 
@@ -49,11 +50,11 @@ look s i = lookIn s (i / 2 ^ eOf s) (i % 2 ^ eOf s)
 
 -- 'queries: damage' is refusal 6
 unfoldable pub theCount : Found → Reply
-theCount damaged = refused 6
+theCount damaged = refused bodyDamaged
 theCount (found x c) = given c
 
 unfoldable pub theReading : Found → Reply
-theReading damaged = refused 6
+theReading damaged = refused bodyDamaged
 theReading (found x c) = given (x + c)
 
 -- 'Reading at i > 0 walks to hour i-1; reading at 0 is 0.'
@@ -63,8 +64,8 @@ readingAt s (suc i) = theReading (look s i)
 
 -- 'count i: 7 if i ≥ N'
 unfoldable pub count : List ℕ → ℕ → Reply
-count s i = pick (headed s) (pick (leb (nOf s) i) (refused 7) (theCount (look s i))) (refused 5)
+count s i = pick (headed s) (pick (leb (nOf s) i) (refused notLogged) (theCount (look s i))) (refused headerWrong)
 
 -- 'Reading i: 7 if i > N'
 unfoldable pub reading : List ℕ → ℕ → Reply
-reading s i = pick (headed s) (pick (ltb (nOf s) i) (refused 7) (readingAt s i)) (refused 5)
+reading s i = pick (headed s) (pick (ltb (nOf s) i) (refused notLogged) (readingAt s i)) (refused headerWrong)

@@ -17,14 +17,14 @@ use Rattle.tree.specs.Code.Node.{Lies}
 use Rattle.tree_walk.specs.Code.Answers.{walkAnswer as walked}
 use Rattle.tree.specs.Exact.{clear, exact}
 use Rattle.tree.specs.Read.{Found, damaged, found}
-use Rattle.image.specs.Check.{accepted, check, fails, headed, holds}
+use Rattle.image.specs.Check.{accepted, check, headed}
+use Rattle.answers.specs.Image.{fails, holds, Reply}
 use Rattle.image_check.specs.Code.Test.{Tests}
 use Rattle.image.specs.Code.Head.{Opened}
 use Rattle.image.specs.Code.Page.{RootAt}
 use Rattle.image.specs.Image.{bytesFor}
 use Rattle.image.specs.Query.{look, passing, readingAt, theReading}
 use Rattle.image.specs.Read.{codeAt, eOf, lOf, nOf, pagesOf, rootOf, sOf, startOf, widthOf}
-use Rattle.image.specs.Reply.{Reply}
 use Rattle.image_check.specs.Code.Test.{passesTest, pagesFrom, says}
 use Rattle.image.proofs.DamageLaws.{beyond, is-beyond, within}
 use Rattle.image.proofs.HeadLaws.{Bounds, bounds, never}

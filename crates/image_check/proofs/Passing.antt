@@ -29,7 +29,7 @@ use Rattle.image.specs.Check.{headed}
 use Rattle.image.specs.Image.{bytesFor, code, size, tableAt}
 use Rattle.image.specs.Query.{beforePassing, look, lookIn, pageFine, readingAt, theReading}
 use Rattle.image.specs.Read.{beforeOf, codeAt, eOf, lOf, nOf, pageOf, pagesOf, rootOf, sOf, startOf, sumOf, treeAt, widthOf}
-use Rattle.image.specs.Reply.{given}
+use Rattle.answers.specs.Image.{given}
 use Rattle.image_check.specs.Code.Test.{pagesFrom}
 use Rattle.image.proofs.DamageLaws.{is-within, within}
 use Rattle.image.proofs.PageLaws.{hour-low, hour-page, hour-split}

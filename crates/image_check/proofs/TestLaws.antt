@@ -29,7 +29,7 @@ use Rattle.image.specs.Image.{Limits, bytesFor, code, header, headerLength, ima
 use Rattle.image.specs.Image.{tableAt}
 use Rattle.image.specs.Query.{readingAt}
 use Rattle.image.specs.Read.{beforeOf, codeAt, eOf, lOf, listOf, nOf, pageOf, pagesOf, rootOf, sOf, startOf, sumOf, treeAt, widthOf}
-use Rattle.image.specs.Reply.{Reply, given}
+use Rattle.answers.specs.Image.{Reply, given}
 use Rattle.image_check.specs.Code.Test.{passesTest, pagesFrom, says}
 use Rattle.image.proofs.ReadLaws.{before-is, bits-is, e-is, headed-image, l-is, last-root, n-is, pages-is, root-is, s-is, start-is, sum-is, tree-is, width-is}
 use Rattle.image.proofs.Packed.{drop-bits, tail}

@@ -1,5 +1,6 @@
 // The check of an image: whether bytes are the writer's.
-use image::answer::Verdict;
+use answers::image::Verdict;
+use answers::refusal;
 use image::head::Head;
 use image::head::Opening;
 use image::head::open_image;
@@ -16,7 +17,7 @@ ghost use Rattle.image.specs.Image.{bytesFor};
 ghost use Rattle.image.specs.Read.{nOf, sOf, lOf, pagesOf, codeAt};
 ghost use Rattle.image.specs.Query.{readingAt};
 ghost use Rattle.image.specs.Check.{check as checkOf};
-ghost use Rattle.image.specs.Answers.{ruled};
+ghost use Rattle.answers.specs.Image.{ruled};
 ghost use Rattle.image.specs.Code.Head.{Opened};
 ghost use Rattle.image_check.specs.Code.Test.{Tests, pagesFrom, says};
 
@@ -119,16 +120,16 @@ pub fn check(s: &[u8]) -> Verdict
     ensures { λ r. ⌜ ruled r ≡ checkOf (now (s .entry)) ⌝ }
 {
     let Opening::Image(h) = open_image(s) else {
-        return Verdict::Refused(5);
+        return Verdict::Refused(refusal::HEADER);
     };
     if !pages_pass(s, h) {
-        return Verdict::Refused(6);
+        return Verdict::Refused(refusal::BODY);
     }
     if !rest_zero(s, h) {
-        return Verdict::Refused(6);
+        return Verdict::Refused(refusal::BODY);
     }
     if !fill_zero(s, h) {
-        return Verdict::Refused(6);
+        return Verdict::Refused(refusal::BODY);
     }
     Verdict::Holds(h.hours, h.total)
 }

@@ -15,7 +15,7 @@ use Rattle.image.specs.Code.Page.{PageAt}
 use Rattle.image_query.specs.Code.Walk.{answered}
 use Rattle.image.specs.Query.{count, look, lookIn, reading, readingAt, theCount, theReading}
 use Rattle.image.specs.Read.{eOf, nOf, pagesOf, sOf}
-use Rattle.image.specs.Reply.{given, refused}
+use Rattle.answers.specs.Image.{given, refused}
 use Rattle.image.proofs.QueryLaws.{Most, look-most}
 use Rattle.image.proofs.PageLaws.{hour-page}
 use Rattle.image.specs.declared.head.Head.{Head}

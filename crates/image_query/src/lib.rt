@@ -1,5 +1,6 @@
 // Count and reading of an image: each tests only its path.
-use image::answer::Answer;
+use answers::image::Answer;
+use answers::refusal;
 use image::head::Head;
 use image::head::Opening;
 use image::head::open_image;
@@ -12,7 +13,7 @@ ghost use Rattle.tree_walk.specs.Code.Answers.{walkAnswer as walked};
 ghost use Rattle.image.specs.Query.{look as looked, count as counted, reading as read};
 ghost use Rattle.image.specs.Code.Head.{Opened};
 ghost use Rattle.image_query.specs.Code.Walk.{answered};
-ghost use Rattle.image.specs.Answers.{told};
+ghost use Rattle.answers.specs.Image.{told};
 
 // The way to hour i. Answers the hour's count, and with keep = 1 the counts before it too; 2^63 for damage.
 pub fn look(s: &[u8], h: Head, i: u64, keep: u64) -> u64
@@ -32,7 +33,7 @@ fn answer_of(r: u64) -> Answer
     ensures { λ a. ⌜ told a ≡ answered r ⌝ }
 {
     if r == DAMAGED {
-        return Answer::Refused(6);
+        return Answer::Refused(refusal::BODY);
     }
     Answer::Number(r)
 }
@@ -42,10 +43,10 @@ pub fn count(s: &[u8], i: u64) -> Answer
     ensures { λ r. ⌜ told r ≡ counted (now (s .entry)) i ⌝ }
 {
     let Opening::Image(h) = open_image(s) else {
-        return Answer::Refused(5);
+        return Answer::Refused(refusal::HEADER);
     };
     if h.hours <= i {
-        return Answer::Refused(7);
+        return Answer::Refused(refusal::HOUR);
     }
     answer_of(look(s, h, i, 0))
 }
@@ -55,10 +56,10 @@ pub fn reading(s: &[u8], i: u64) -> Answer
     ensures { λ r. ⌜ told r ≡ read (now (s .entry)) i ⌝ }
 {
     let Opening::Image(h) = open_image(s) else {
-        return Answer::Refused(5);
+        return Answer::Refused(refusal::HEADER);
     };
     if h.hours < i {
-        return Answer::Refused(7);
+        return Answer::Refused(refusal::HOUR);
     }
     if i == 0 {
         return Answer::Number(0);

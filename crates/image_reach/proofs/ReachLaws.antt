@@ -18,7 +18,7 @@ use Rattle.image.specs.Image.{Limits, image, page, pages, root}
 use Rattle.image.specs.Query.{pageFine}
 use Rattle.image.specs.Reach.{Reach, any-index, damage, smallest}
 use Rattle.image.specs.Read.{beforeOf, eOf, listOf, nOf, pagesOf, rootOf, sOf, sumOf, treeAt}
-use Rattle.image.specs.Reply.{given, refused}
+use Rattle.answers.specs.Image.{given, refused}
 use Rattle.image_reach.specs.Code.Step.{placed, reachFrom}
 use Rattle.image.proofs.ReadLaws.{before-is, e-is, n-is, root-is, sum-is, tree-is}
 use Rattle.image.proofs.PageLaws.{length-page, page-sum}

@@ -22,7 +22,7 @@ use Rattle.image.specs.Code.Page.{PageAt, RootAt}
 use Rattle.image.specs.Query.{pageFine, pageTests}
 use Rattle.image.specs.Reach.{Reach, above-total, damage, header-wrong}
 use Rattle.image.specs.Read.{beforeOf, eOf, listOf, nOf, pagesOf, rootOf, sOf, sumOf, treeAt}
-use Rattle.image.specs.Reply.{given, refused}
+use Rattle.answers.specs.Image.{given, refused}
 use Rattle.image_reach.specs.Code.Span.{Between, Hit, Narrowable, Narrowed}
 use Rattle.image_reach.specs.Code.Step.{placed, reachFrom}
 use Rattle.image.proofs.DamageLaws.{is-within}

@@ -1,5 +1,6 @@
 // Reach: the least index whose reading is a figure or more.
-use image::answer::Answer;
+use answers::image::Answer;
+use answers::refusal;
 use image::head::Head;
 use image::head::Opening;
 use image::head::open_image;
@@ -10,7 +11,7 @@ ghost use mathlib.Core.Path.{_≡_};
 ghost use Prim.Native.Nat.{_+_, _≤_, _<_};
 ghost use Rattle.image.specs.Reach.{Reach};
 ghost use Rattle.image.specs.Code.Head.{Opened};
-ghost use Rattle.image.specs.Answers.{told};
+ghost use Rattle.answers.specs.Image.{told};
 ghost use Rattle.image_reach.specs.Code.Span.{Narrowable, Between, Narrowed, Hit};
 
 // Pages among which a figure is reached, lo to hi, with the root before the first and the root of the last. Where damage was met, ok is
@@ -138,14 +139,14 @@ fn reach_in(s: &[u8], h: Head, q: u64, at: Span) -> Answer
     ensures { λ r. ⌜ Reach (now (s .entry)) q (told r) ⌝ }
 {
     if !at.ok {
-        return Answer::Refused(6);
+        return Answer::Refused(refusal::BODY);
     }
     let r = page_of(s, h, at.lo);
     if !r.ok {
-        return Answer::Refused(6);
+        return Answer::Refused(refusal::BODY);
     }
     if r.before + r.sum < q {
-        return Answer::Refused(6);
+        return Answer::Refused(refusal::BODY);
     }
     let i = tree_walk::search(
         s,
@@ -156,7 +157,7 @@ fn reach_in(s: &[u8], h: Head, q: u64, at: Span) -> Answer
         reserve::power(h.e) * at.lo,
     );
     if h.hours < i {
-        return Answer::Refused(6);
+        return Answer::Refused(refusal::BODY);
     }
     Answer::Number(i)
 }
@@ -166,10 +167,10 @@ pub fn reach(s: &[u8], p: u64) -> Answer
     ensures { λ r. ⌜ Reach (now (s .entry)) p (told r) ⌝ }
 {
     let Opening::Image(h) = open_image(s) else {
-        return Answer::Refused(5);
+        return Answer::Refused(refusal::HEADER);
     };
     if h.total < p {
-        return Answer::Refused(8);
+        return Answer::Refused(refusal::FIGURE);
     }
     if p == 0 {
         return Answer::Number(0);

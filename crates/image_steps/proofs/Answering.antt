@@ -6,18 +6,17 @@ use native.Mathlib.Omega.{arith}
 use lib.ListN.{length}
 use borrow.Author.Tests.{lt-leb}
 use Rattle.lists.specs.Lists.{pick, splice}
-use Rattle.image.specs.Answers.{told}
+use Rattle.answers.specs.Image.{told, Reply, given}
 use Rattle.image.specs.Calls.{lengthCall, put, putAfter, unwritten, writeCall}
 use Rattle.image.specs.Image.{Limits, image}
-use Rattle.image.specs.Reply.{Reply, given}
 use Rattle.image_steps.specs.Wrote.{wrote}
 use Rattle.image_steps.specs.Code.Planning.{Laying, LayoutOf, Planned}
 use Rattle.image_steps.specs.Code.Writing.{Room}
 use Rattle.image_steps.specs.declared.plan.Layout.{Layout}
 use Rattle.image_steps.specs.declared.plan.Planned.{Planned as Outcome}
 use Rattle.image_steps.specs.declared.plan.Planned.the-variants.{Image, Refused}
-use Rattle.image.specs.declared.answer.Answer.the-variants.{Number}
-use Rattle.image.specs.declared.answer.Answer.the-variants.{Refused as No}
+use Rattle.answers.specs.declared.image.Answer.the-variants.{Number}
+use Rattle.answers.specs.declared.image.Answer.the-variants.{Refused as No}
 use Rattle.image.proofs.CallLaws.{length-within, write-put}
 use Rattle.image_steps.proofs.Writing.{splice-front}
 

@@ -13,7 +13,7 @@ use Rattle.reserve.specs.Reserve.{digits, reserve}
 use Rattle.reserve.proofs.Exact.{digits-le}
 use Rattle.image.specs.Calls.{lengthCall}
 use Rattle.image.specs.Image.{code, image, page, pages, root, size, start}
-use Rattle.image.specs.Reply.{refused}
+use Rattle.answers.specs.Image.{refused}
 use Rattle.image.proofs.ReadLaws.{length-image}
 use Rattle.image.proofs.PageLaws.{code-most, page-sum, pages-cover, pages-few, reserve-most, start-next}
 use Rattle.image_steps.specs.Code.Planning.{Begun, Drafted, Laying, PageSum, Passed, Planned}

@@ -1,9 +1,9 @@
 -- The code's answers of a call that writes, in document 01's numbers. Assumes nothing.
 use mathlib.Core.List.{List}
 use Prim.Native.Nat.{ℕ}
-use Rattle.image.specs.Answers.{told}
+use Rattle.answers.specs.Image.{told}
 use Rattle.image.specs.Calls.{Wrote}
-use Rattle.image.specs.declared.answer.Answer.{Answer}
+use Rattle.answers.specs.declared.image.Answer.{Answer}
 
 -- a call's answer and its buffer afterwards
 abbrev pub wrote : Answer → List ℕ → Wrote

@@ -1,4 +1,5 @@
 // What an image will be, from the sums of its pages, known before a byte is written.
+use answers::refusal;
 use image::head::pages_of;
 use image::head::size_of;
 ghost use mathlib.Core.Path.{_≡_};
@@ -30,10 +31,10 @@ pub fn start(e: u32, hours: u64) -> Started
     let e_wrong = e < 2 || 8 < e;
     let too_long = 65536 < hours;
     if e_wrong {
-        return Started::Refused(1);
+        return Started::Refused(refusal::PAGE_SIZE);
     }
     if too_long {
-        return Started::Refused(2);
+        return Started::Refused(refusal::LIST);
     }
     let pages = pages_of(e, hours) as usize;
     Started::Open(Plan {
@@ -85,7 +86,7 @@ pub fn finish(plan: Plan) -> Planned
     ensures { λ r. ⌜ ((a : Whole plan) → PlannedOf (a .e) (a .xs) r) ⌝ }
 {
     if 4294967295 < plan.total {
-        return Planned::Refused(3);
+        return Planned::Refused(refusal::TOTAL);
     }
     let pages = plan.pages;
     let code = 8 * (16 + 4 * pages);

@@ -4,11 +4,12 @@ mod put;
 
 use crate::plan::layout_of;
 use crate::put::put_image;
-use image::answer::Answer;
+use answers::image::Answer;
+use answers::refusal;
 use image_steps::plan::Planned;
 use image_steps::plan::size;
 ghost use mathlib.Core.Path.{_≡_};
-ghost use Rattle.image.specs.Answers.{told};
+ghost use Rattle.answers.specs.Image.{told};
 ghost use Rattle.image.specs.Calls.{lengthCall, writeCall};
 ghost use Rattle.image_steps.specs.Wrote.{wrote};
 
@@ -31,7 +32,7 @@ pub fn write(counts: &[u32], e: u32, out: &mut [u8]) -> Answer
         Planned::Image(r) => {
             let n = size(r);
             if (out.len() as u64) < n {
-                return Answer::Refused(4);
+                return Answer::Refused(refusal::BUFFER);
             }
             put_image(out, counts, r);
             Answer::Number(n)

@@ -1,18 +1,19 @@
 // The live calls on a store's bytes. Each turns a store that is not sound down first, and then answers as the store's list does.
+use answers::refusal;
+use answers::store::Answer;
 use live_query::query;
 use live_query::search;
 use soundness::check;
-use store::answer::Answer;
 ghost use Rattle.store.specs.Plain.{Append, Count, Day, Free, Reach, Reading, Set};
 ghost use Rattle.store.specs.Call.{Called};
-ghost use Rattle.store.specs.Answers.{told};
+ghost use Rattle.answers.specs.Store.{told};
 
 // Appends the count of the next hour.
 pub fn append(s: &mut [u8], v: u32) -> Answer
     ensures { λ r. ⌜ Called (Append v) (now (s .entry)) (told r) (now (s .exit)) ⌝ }
 {
     if !check(s) {
-        return Answer::Refused(10);
+        return Answer::Refused(refusal::UNSOUND);
     }
     live_change::append(s, v)
 }
@@ -22,7 +23,7 @@ pub fn set(s: &mut [u8], i: u32, v: u32) -> Answer
     ensures { λ r. ⌜ Called (Set i v) (now (s .entry)) (told r) (now (s .exit)) ⌝ }
 {
     if !check(s) {
-        return Answer::Refused(10);
+        return Answer::Refused(refusal::UNSOUND);
     }
     live_change::set(s, i, v)
 }
@@ -32,7 +33,7 @@ pub fn count(s: &[u8], i: u32) -> Answer
     ensures { λ r. ⌜ Called (Count i) (now (s .entry)) (told r) (now (s .exit)) ⌝ }
 {
     if !check(s) {
-        return Answer::Refused(10);
+        return Answer::Refused(refusal::UNSOUND);
     }
     query::count(s, i)
 }
@@ -42,7 +43,7 @@ pub fn reading(s: &[u8], i: u32) -> Answer
     ensures { λ r. ⌜ Called (Reading i) (now (s .entry)) (told r) (now (s .exit)) ⌝ }
 {
     if !check(s) {
-        return Answer::Refused(10);
+        return Answer::Refused(refusal::UNSOUND);
     }
     query::reading(s, i)
 }
@@ -52,7 +53,7 @@ pub fn reach(s: &[u8], p: u32) -> Answer
     ensures { λ r. ⌜ Called (Reach p) (now (s .entry)) (told r) (now (s .exit)) ⌝ }
 {
     if !check(s) {
-        return Answer::Refused(10);
+        return Answer::Refused(refusal::UNSOUND);
     }
     search::reach(s, p)
 }
@@ -62,7 +63,7 @@ pub fn day(s: &[u8], d: u32) -> Answer
     ensures { λ r. ⌜ Called (Day d) (now (s .entry)) (told r) (now (s .exit)) ⌝ }
 {
     if !check(s) {
-        return Answer::Refused(10);
+        return Answer::Refused(refusal::UNSOUND);
     }
     query::day(s, d)
 }
@@ -72,7 +73,7 @@ pub fn free(s: &[u8]) -> Answer
     ensures { λ r. ⌜ Called Free (now (s .entry)) (told r) (now (s .exit)) ⌝ }
 {
     if !check(s) {
-        return Answer::Refused(10);
+        return Answer::Refused(refusal::UNSOUND);
     }
     query::free(s)
 }

@@ -1,10 +1,11 @@
 // The change of one hour's count.
+use answers::refusal;
+use answers::store::Answer;
 use bits::numbers::get4;
 use chains::rewrite::PageChange;
 use chains::rewrite::rewrite;
 use pages::code::code_of;
 use pages::counts::counts_at;
-use store::answer::Answer;
 use store::cells::cells_of;
 use store::header::Header;
 use store::header::cells_from;
@@ -18,7 +19,7 @@ ghost use Rattle.store.specs.Plain.{Append, Set};
 ghost use Rattle.store.specs.Sound.{sound};
 ghost use Rattle.store.specs.Call.{Called};
 ghost use Rattle.store.specs.Code.Hours.{Asked, Changes};
-ghost use Rattle.store.specs.Answers.{told};
+ghost use Rattle.answers.specs.Store.{told};
 
 // Makes the count of hour i v in a sound store, whose number of hours becomes the one given. The page's cells are worked out once for the
 // old sum and once for the new one, and nothing is written before they are known to suffice.
@@ -36,13 +37,13 @@ fn change_hour(s: &mut [u8], i: usize, v: u32, hours: usize) -> Answer
     let was = counts[j];
     let all = total(s, head.pages);
     if Header::MAX_TOTAL < all - was as u64 + v as u64 {
-        return Answer::Refused(3);
+        return Answer::Refused(refusal::TOTAL);
     }
     let after = before - was as u64 + v as u64;
     let new = cells_of(after);
     let room = old + head.free;
     if room < new {
-        return Answer::Refused(12);
+        return Answer::Refused(refusal::CELLS);
     }
     counts[j] = v;
     let code = code_of(counts, after);
@@ -66,7 +67,7 @@ pub fn append(s: &mut [u8], v: u32) -> Answer
 {
     let head = Header::of(s);
     if Header::HOURS * head.pages <= head.hours {
-        return Answer::Refused(11);
+        return Answer::Refused(refusal::FULL);
     }
     change_hour(s, head.hours, v, head.hours + 1)
 }
@@ -78,7 +79,7 @@ pub fn set(s: &mut [u8], i: u32, v: u32) -> Answer
 {
     let head = Header::of(s);
     if head.hours <= i as usize {
-        return Answer::Refused(7);
+        return Answer::Refused(refusal::HOUR);
     }
     change_hour(s, i as usize, v, head.hours)
 }

@@ -1,7 +1,8 @@
 // The prefix-sum search in a sound store: first over the page sums, then in the page's tree.
 use crate::page::search_page;
+use answers::refusal;
+use answers::store::Answer;
 use bits::numbers::get4;
-use store::answer::Answer;
 use store::header::Header;
 use store::header::entry_at;
 use store::link::link;
@@ -14,7 +15,7 @@ ghost use Rattle.store.specs.Plain.{Reach};
 ghost use Rattle.store.specs.Reading.{listIn, pagesOf};
 ghost use Rattle.store.specs.Sound.{sound};
 ghost use Rattle.store.specs.Call.{Called};
-ghost use Rattle.store.specs.Answers.{told};
+ghost use Rattle.answers.specs.Store.{told};
 ghost use Rattle.live_query.specs.Code.Search.{Spots};
 
 // A page, and what of a figure is left when the pages before it are passed.
@@ -59,7 +60,7 @@ pub fn reach(s: &[u8], q: u32) -> Answer
     ensures { λ r. ⌜ Called (Reach q) (now (s .entry)) (told r) (now (s .exit)) ⌝ }
 {
     if total(s, link(s, 2)) < q as u64 {
-        return Answer::Refused(8);
+        return Answer::Refused(refusal::FIGURE);
     }
     Answer::Number(reach_in(s, q as u64))
 }

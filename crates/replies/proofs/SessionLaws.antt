@@ -10,7 +10,8 @@ use borrow.Author.Tests.{eq-eqb}
 use Rattle.lists.specs.Lists.{concat, every, pick}
 use Rattle.store.proofs.LimitLaws.{limits-hold}
 use Rattle.store.specs.Limits.{fits}
-use Rattle.store.specs.Plain.{Call, plainFresh, refused}
+use Rattle.store.specs.Plain.{Call, plainFresh}
+use Rattle.answers.specs.Store.{refused}
 use Rattle.store.specs.Layout.{Model, bytesOf, fresh, size}
 use Rattle.store.specs.Sound.{Good, sound}
 use Rattle.store.specs.Call.{Result, after, call, freshCall}

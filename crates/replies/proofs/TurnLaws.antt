@@ -11,7 +11,7 @@ use Rattle.lists.specs.Lists.{pick, every}
 use Rattle.lists.proofs.Parts.{take-smaller}
 use Rattle.store.specs.Limits.{fits}
 use Rattle.store.specs.Plain.{Call}
-use Rattle.store.specs.Plain.{Answer as Said, changed, answered, refused}
+use Rattle.answers.specs.Store.{Answer as Said, changed, answered, refused}
 use Rattle.store.specs.Layout.{size, bytesOf, fresh}
 use Rattle.store.specs.Call.{Called, Result, Started, call, freshCall}
 use Rattle.session.specs.declared.line.Command.{Command}

@@ -1,8 +1,8 @@
 // What a command prints, and what it does to the store. The store is the first bytes of a buffer.
+use answers::store::Answer;
 use fresh::fresh;
 use session::Command;
 use session::Reply;
-use store::answer::Answer;
 use store::header::Header;
 ghost use mathlib.Core.Bool.{_&&_};
 ghost use mathlib.Core.Path.{_≡_};
@@ -10,7 +10,7 @@ ghost use Prim.Native.Nat.{_≤_};
 ghost use lib.ListN.{length};
 ghost use lib.Dec.{leb};
 ghost use Rattle.lists.specs.Lists.{pick};
-ghost use Rattle.store.specs.Answers.{told};
+ghost use Rattle.answers.specs.Store.{told};
 ghost use Rattle.store.specs.Layout.{size};
 ghost use Rattle.session.specs.declared.line.Command.the-variants.{Fresh};
 ghost use Rattle.replies.specs.Session.{replyTo};

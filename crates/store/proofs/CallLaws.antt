@@ -7,7 +7,8 @@ use native.Mathlib.Omega.{arith}
 use lib.ListN.{length, set}
 use borrow.Author.Tests.{eq-eqb, ne-eqb, le-leb, lt-leb, not-false, not-true}
 use Rattle.lists.specs.Lists.{pick}
-use Rattle.store.specs.Plain.{Answer, Append, Call, Outcome, Plain, Set, answered, change, refused, step}
+use Rattle.store.specs.Plain.{Append, Call, Outcome, Plain, Set, change, step}
+use Rattle.answers.specs.Store.{Answer, answered, refused}
 use Rattle.store.specs.Layout.{bytesOf}
 use Rattle.store.specs.Reading.{listIn, read}
 use Rattle.store.specs.Sound.{sound}

@@ -9,7 +9,8 @@ use borrow.Author.Tests.{lt-ltb, le-ltb}
 use Rattle.lists.specs.Lists.{pick, sum}
 use Rattle.bits.specs.Numbers.{numberAt}
 use Rattle.store.specs.PageCode.{cells, pageBytes}
-use Rattle.store.specs.Plain.{Outcome, Plain, change, changed, need, page, refused, relisted}
+use Rattle.store.specs.Plain.{Outcome, Plain, change, need, page, relisted}
+use Rattle.answers.specs.Store.{changed, refused}
 use Rattle.store.specs.Layout.{Model, bytesOf, entryAt, cellsFrom}
 use Rattle.store.specs.Reading.{listIn, pagesOf, read, sumIn}
 use Rattle.store.specs.Call.{settle}

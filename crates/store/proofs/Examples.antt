@@ -6,8 +6,9 @@ use native.Mathlib.Omega.{arith}
 use Rattle.reserve.specs.Reserve.{ceil, reserve}
 use Rattle.lists.specs.Lists.{least, pick, reached, sum, tabulate}
 use Rattle.store.specs.PageCode.{cells}
-use Rattle.store.specs.Plain.{Append, Call, Free, Reach, Reading, Set, answered, change, changed, dayStart, need, next, page}
-use Rattle.store.specs.Plain.{plainAnswers, plainFresh, refused, step}
+use Rattle.store.specs.Plain.{Append, Call, Free, Reach, Reading, Set, change, dayStart, need, next, page}
+use Rattle.answers.specs.Store.{answered, changed, refused}
+use Rattle.store.specs.Plain.{plainAnswers, plainFresh, step}
 
 -- 'Input `n 1 2`, `a 122`, `f`, `s 0 123`, `f`, `a 5`, `r 2`, `w 124`, `w 129`, `s 1 4294967295`, `s 0 100000` prints `ok`, `ok`, `1`, `ok`,
 -- `0`, `ok`, `128`, `2`, `refused 8`, `refused 3`, `refused 12`'

@@ -10,7 +10,8 @@ use lib.Seq.{getD-set-other}
 use borrow.Author.Tests.{leb-false}
 use Rattle.lists.specs.Lists.{pick, sum}
 use Rattle.lists.proofs.Occurrences.{getD-snoc}
-use Rattle.store.specs.Plain.{Call, Outcome, Plain, changed, need, page, refused, relisted, step}
+use Rattle.store.specs.Plain.{Call, Outcome, Plain, need, page, relisted, step}
+use Rattle.answers.specs.Store.{changed, refused}
 use Rattle.store.specs.Layout.{Model, bytesOf, resize}
 use Rattle.store.specs.PageCode.{cells}
 use Rattle.store.specs.Reading.{read}

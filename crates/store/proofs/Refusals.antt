@@ -7,8 +7,9 @@ use Prim.Native.Nat.{ℕ, _*_}
 use native.Mathlib.Omega.{arith}
 use lib.ListN.{set}
 use Rattle.lists.specs.Lists.{pick}
-use Rattle.store.specs.Plain.{Answer, Append, Call, Count, Day, Free, Outcome, Plain, Reach, Reading, Set}
-use Rattle.store.specs.Plain.{answered, change, changed, need, refuse, refused, step}
+use Rattle.store.specs.Plain.{Append, Call, Count, Day, Free, Outcome, Plain, Reach, Reading, Set}
+use Rattle.answers.specs.Store.{Answer, answered, changed, refused}
+use Rattle.store.specs.Plain.{change, need, refuse, step}
 use Rattle.store.specs.Reading.{read}
 use Rattle.store.specs.Sound.{sound}
 use Rattle.store.specs.Call.{call}

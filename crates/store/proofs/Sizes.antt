@@ -9,8 +9,9 @@ use Rattle.lists.specs.Lists.{pick, sum}
 use Rattle.lists.proofs.Reach.{reached-le}
 use Rattle.lists.proofs.Sums.{sum-take-le}
 use Rattle.store.specs.Limits.{fits, maxCells}
-use Rattle.store.specs.Plain.{Answer, Append, Call, Count, Day, Free, Outcome, Plain, Reach, Reading, Set}
-use Rattle.store.specs.Plain.{answered, change, changed, dayStart, need, refuse, refused, step}
+use Rattle.store.specs.Plain.{Append, Call, Count, Day, Free, Outcome, Plain, Reach, Reading, Set}
+use Rattle.answers.specs.Store.{Answer, answered, changed, refused}
+use Rattle.store.specs.Plain.{change, dayStart, need, refuse, step}
 use Rattle.store.specs.Layout.{bytesOf, fresh}
 use Rattle.store.specs.Reading.{read}
 use Rattle.store.specs.Sound.{sound}

@@ -12,8 +12,9 @@ use Rattle.store.specs.Call.{after, settle}
 use Rattle.store.specs.Settle.{settled}
 use Rattle.store.specs.Layout.{Model}
 use Rattle.store.specs.PageCode.{cells}
-use Rattle.store.specs.Plain.{Answer, Append, Call, Count, Day, Free, Outcome, Plain, Reach, relisted}
-use Rattle.store.specs.Plain.{Reading, Set, answered, change, changed, need, next, refused, step}
+use Rattle.store.specs.Plain.{Append, Call, Count, Day, Free, Outcome, Plain, Reach, relisted}
+use Rattle.answers.specs.Store.{Answer, answered, changed, refused}
+use Rattle.store.specs.Plain.{Reading, Set, change, need, next, step}
 use Rattle.store.specs.Sound.{Good}
 use Rattle.store.proofs.SettledGood.{settled-good}
 

@@ -7,7 +7,8 @@ use native.Mathlib.Omega.{arith}
 use lib.ListN.{getD, take}
 use Rattle.lists.specs.Lists.{pick}
 use Rattle.store.specs.Limits.{fits}
-use Rattle.store.specs.Plain.{Answer, Call, Outcome, answered, refused, step}
+use Rattle.store.specs.Plain.{Call, Outcome, step}
+use Rattle.answers.specs.Store.{Answer, answered, refused}
 use Rattle.store.specs.Layout.{Model, bytesOf, fresh}
 use Rattle.store.specs.Reading.{read}
 use Rattle.store.specs.Sound.{sound}

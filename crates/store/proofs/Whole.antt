@@ -10,8 +10,9 @@ use Rattle.lists.specs.Lists.{pick, sum}
 use Rattle.store.specs.Call.{after, call, storeAnswers, storeEnd}
 use Rattle.store.specs.Layout.{Model, bytesOf}
 use Rattle.store.specs.PageCode.{cells}
-use Rattle.store.specs.Plain.{Answer, Call, Free, Outcome, Plain}
-use Rattle.store.specs.Plain.{answered, change, need, next, page, plainAnswers, plainEnd, refused, step}
+use Rattle.store.specs.Plain.{Call, Free, Outcome, Plain}
+use Rattle.answers.specs.Store.{Answer, answered, refused}
+use Rattle.store.specs.Plain.{change, need, next, page, plainAnswers, plainEnd, step}
 use Rattle.store.specs.Sound.{Good}
 use Rattle.lists.proofs.Sums.{sum-most}
 use Rattle.store.proofs.Holds.{holds-bytes}

@@ -3,8 +3,10 @@ use mathlib.Core.List.{List, [], _∷_}
 use mathlib.Core.Path.{_≡_}
 use Prim.Native.Nat.{ℕ, _/_}
 use lib.ListN.{length}
+use Rattle.answers.specs.Refusals.{freshWrong, notSound}
 use Rattle.lists.specs.Lists.{pick}
-use Rattle.store.specs.Plain.{Answer, Append, Call, Outcome, Plain, Set, answered, changed, refused, step}
+use Rattle.store.specs.Plain.{Append, Call, Outcome, Plain, Set, step}
+use Rattle.answers.specs.Store.{Answer, answered, changed, refused}
 use Rattle.store.specs.Layout.{Model, bytesOf, fresh}
 use Rattle.store.specs.Limits.{fits}
 use Rattle.store.specs.OneCell.{giveCell, listed, takeCell, times}
@@ -30,7 +32,7 @@ pub record Result : Type 0 where
 -- a sound store answers what its list answers; 'every other live call: 10, not sound', and no byte changes
 unfoldable pub call : Call → List ℕ → Result
 call c s = pick (sound s) (record { answer = step c (read s .plain) .answer; bytes = bytesOf (after c (read s)) })
-    (record { answer = refused 10; bytes = s })
+    (record { answer = refused notSound; bytes = s })
 
 -- the answer r and the bytes t are those of the call c on the store s
 pub record Called (c : Call) (s : List ℕ) (r : Answer) (t : List ℕ) : Type 0 where
@@ -49,7 +51,7 @@ storeAnswers (c ∷ cs) s = call c s .answer ∷ storeAnswers cs (call c s .byte
 -- fresh: 'P, C or buffer length wrong' is refused 9; else the buffer becomes a fresh store
 unfoldable pub freshCall : List ℕ → ℕ → ℕ → Result
 freshCall b P C =
-    pick (fits b P C) (record { answer = answered 0; bytes = bytesOf (fresh P C) }) (record { answer = refused 9; bytes = b })
+    pick (fits b P C) (record { answer = answered 0; bytes = bytesOf (fresh P C) }) (record { answer = refused freshWrong; bytes = b })
 
 -- the answer r and the bytes t are those of fresh on the buffer b
 pub record Started (b : List ℕ) (P C : ℕ) (r : Answer) (t : List ℕ) : Type 0 where

@@ -13,6 +13,5 @@ pub mod Sound
 pub mod Items
 -- the calls on bytes
 pub mod Call
-pub mod Answers
 -- what functions hand each other
 pub mod Code

@@ -3,7 +3,9 @@ use mathlib.Core.List.{List, [], _∷_, _++_}
 use Prim.Native.Nat.{ℕ, _+_, _-_, _*_}
 use lib.ListN.{length, getD, set}
 use lib.Dec.{leb, ltb}
+use Rattle.answers.specs.Refusals.{aboveTotal, cellsShort, logFull, notLogged, totalTooHigh}
 use Rattle.lists.specs.Lists.{tabulate, sum, pick, reading, reached}
+use Rattle.answers.specs.Store.{Answer, answered, changed, refused}
 use Rattle.store.specs.PageCode.{cells}
 
 -- 'State: a list of counts, empty at first, and the P and C that fresh was given'
@@ -20,12 +22,6 @@ pub data Call : Type 0 where
   Reach : ℕ → Call
   Day : ℕ → Call
   Free : Call
-
--- what a call answers: the cells taken and given back, a number, or a refusal
-pub data Answer : Type 0 where
-  changed : ℕ → ℕ → Answer
-  answered : ℕ → Answer
-  refused : ℕ → Answer
 
 -- the answer, and the list afterwards, whole
 pub record Outcome : Type 0 where
@@ -57,8 +53,8 @@ unfoldable pub change : Plain → List ℕ → Outcome
 change L ys =
     let old = need (L .counts) (L .pages) in
     let new = need ys (L .pages) in
-    pick (ltb 4294967295 (sum ys)) (refuse 3 L)
-    (pick (ltb (L .cells) new) (refuse 12 L) (record { answer = changed (new - old) (old - new); list = relisted L ys }))
+    pick (ltb 4294967295 (sum ys)) (refuse totalTooHigh L)
+    (pick (ltb (L .cells) new) (refuse cellsShort L) (record { answer = changed (new - old) (old - new); list = relisted L ys }))
 
 -- the hour at which day d begins
 abbrev pub dayStart : ℕ → ℕ
@@ -67,17 +63,17 @@ dayStart d = 24 * d
 -- what each call answers, and the list afterwards: the refusals first, in document 01's order
 unfoldable pub step : Call → Plain → Outcome
 -- 'refused 11 if 64P hours are logged'
-step (Append v) L = pick (leb (64 * L .pages) (length (L .counts))) (refuse 11 L) (change L (L .counts ++ v ∷ []))
+step (Append v) L = pick (leb (64 * L .pages) (length (L .counts))) (refuse logFull L) (change L (L .counts ++ v ∷ []))
 -- '7 if i ≥ N'
-step (Set i v) L = pick (leb (length (L .counts)) i) (refuse 7 L) (change L (set (L .counts) i v))
-step (Count i) L = pick (leb (length (L .counts)) i) (refuse 7 L) (tell (getD (L .counts) i 0) L)
+step (Set i v) L = pick (leb (length (L .counts)) i) (refuse notLogged L) (change L (set (L .counts) i v))
+step (Count i) L = pick (leb (length (L .counts)) i) (refuse notLogged L) (tell (getD (L .counts) i 0) L)
 -- '7 if i > N'
-step (Reading i) L = pick (ltb (length (L .counts)) i) (refuse 7 L) (tell (reading (L .counts) i) L)
+step (Reading i) L = pick (ltb (length (L .counts)) i) (refuse notLogged L) (tell (reading (L .counts) i) L)
 -- '8 if p is above the total'
-step (Reach p) L = pick (ltb (sum (L .counts)) p) (refuse 8 L) (tell (reached p (L .counts)) L)
+step (Reach p) L = pick (ltb (sum (L .counts)) p) (refuse aboveTotal L) (tell (reached p (L .counts)) L)
 -- 'reading at 24d + 24 minus reading at 24d; 7 if 24d + 24 > N'
 step (Day d) L =
-    pick (ltb (length (L .counts)) (dayStart (d + 1))) (refuse 7 L)
+    pick (ltb (length (L .counts)) (dayStart (d + 1))) (refuse notLogged L)
     (tell (reading (L .counts) (dayStart (d + 1)) - reading (L .counts) (dayStart d)) L)
 -- 'C - need'
 step Free L = tell (L .cells - need (L .counts) (L .pages)) L

@@ -1,7 +1,7 @@
 -- `freeze::freeze` meets its contract. Assumes nothing.
 use mathlib.Core.Path.{sym, _∙_}
 use borrow.Author.Tests.{not-true}
-use Rattle.image.specs.Answers.{told}
+use Rattle.answers.specs.Image.{told}
 use Rattle.store.proofs.CallLaws.{passed}
 use Rattle.freeze.proofs.Freezing.{freeze-10, freeze-sound}
 use borrow.Author.Needs.{needs}

@@ -6,7 +6,7 @@ use native.Mathlib.Omega.{arith}
 use lib.ListN.{getD}
 use borrow.Author.Needs.{needs}
 use borrow.Author.Tests.{not-true, not-false}
-use Rattle.image.specs.Answers.{ruled}
+use Rattle.answers.specs.Image.{ruled}
 use Rattle.image.specs.Check.{headed}
 use Rattle.image.specs.Code.Head.{Opened, Opens}
 use Rattle.image_check.proofs.CheckSteps.{check-five, check-holds, check-six}

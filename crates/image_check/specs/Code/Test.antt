@@ -10,7 +10,7 @@ use Rattle.bits.specs.Bits.{bits}
 use Rattle.reserve.specs.Reserve.{reserve}
 use Rattle.tree.specs.Exact.{clear, exact}
 use Rattle.image.specs.Image.{bytesFor}
-use Rattle.image.specs.Reply.{Reply, given, refused}
+use Rattle.answers.specs.Image.{Reply, given, refused}
 use Rattle.image.specs.Read.{eOf, nOf, sOf, lOf, pagesOf, widthOf, startOf, codeAt, rootOf}
 use Rattle.image.specs.Check.{headed}
 use Rattle.image.specs.Query.{passing, readingAt}

@@ -1,7 +1,7 @@
 -- `image_query::answer_of` meets its contract. Assumes nothing.
 use borrow.Author.Tests.{eq-eqb, ne-eqb}
 use Rattle.lists.specs.Lists.{pick}
-use Rattle.image.specs.Answers.{told}
+use Rattle.answers.specs.Image.{told}
 use Rattle.image_query.specs.Code.Walk.{answered}
 use Rattle.image_query.proofs.answer_of.Statement.{statement}
 use Rattle.image_query.proofs.answer_of.Tie as tie

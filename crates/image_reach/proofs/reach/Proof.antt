@@ -4,11 +4,10 @@ use mathlib.Core.Path.{_≡_, sym, subst}
 use Prim.Native.Nat.{ℕ}
 use native.Mathlib.Omega.{arith}
 use borrow.Author.Needs.{needs}
-use Rattle.image.specs.Answers.{told}
+use Rattle.answers.specs.Image.{told, given}
 use Rattle.image.specs.Check.{headed}
 use Rattle.image.specs.Code.Head.{Opened, Opens}
 use Rattle.image.specs.Reach.{Reach}
-use Rattle.image.specs.Reply.{given}
 use Rattle.image_reach.proofs.SearchSteps.{reach-eight, reach-five}
 use Rattle.image_reach.proofs.ReachLaws.{reach-zero}
 use Rattle.image_reach.proofs.reach.Statement.{statement}

@@ -5,9 +5,8 @@ use Prim.Native.Nat.{ℕ, _+_, _*_, _^_, _≤_, _<_}
 use native.Mathlib.Omega.{arith}
 use borrow.Author.Tests.{not-true, not-false}
 use Rattle.tree.specs.Code.Node.{Lies}
-use Rattle.image.specs.Answers.{told}
+use Rattle.answers.specs.Image.{told, given, refused}
 use Rattle.image.specs.Reach.{Reach}
-use Rattle.image.specs.Reply.{given, refused}
 use Rattle.image.proofs.HeadLaws.{bounds}
 use Rattle.image_reach.proofs.SearchSteps.{AtPage, above, before-small, found-six, index, last-six, page-in, page-six}
 use Rattle.image_reach.proofs.reach_in.Statement.{statement}

@@ -2,21 +2,22 @@
 use mathlib.Core.List.{List}
 use Prim.Native.Nat.{ℕ, _+_, _-_, _*_, _^_}
 use lib.Dec.{leb}
+use Rattle.answers.specs.Refusals.{bodyDamaged}
 use Rattle.lists.specs.Lists.{pick}
 use Rattle.bits.specs.Bits.{bits}
 use Rattle.tree.specs.Read.{Place, nowhere, place, seek}
-use Rattle.image.specs.Reply.{Reply, given, refused}
+use Rattle.answers.specs.Image.{Reply, given, refused}
 use Rattle.image.specs.Read.{eOf, nOf, beforeOf, sumOf, treeAt}
 use Rattle.image.specs.Query.{pageFine}
 
 -- an index in the page whose first hour is f, of n hours in all
 unfoldable pub placed : ℕ → ℕ → Place → Reply
-placed f n nowhere = refused 6
-placed f n (place i) = pick (leb (f + i) n) (given (f + i)) (refused 6)
+placed f n nowhere = refused bodyDamaged
+placed f n (place i) = pick (leb (f + i) n) (given (f + i)) (refused bodyDamaged)
 
 -- the reply for the figure q from page p, whose root is q or more and the one before it below q
 unfoldable pub reachFrom : List ℕ → ℕ → ℕ → Reply
 reachFrom s q p =
     pick (pageFine s p)
     (placed (2 ^ eOf s * p) (nOf s) (seek (eOf s) (sumOf s p) (bits s) (treeAt s p) (q - beforeOf s p)))
-    (refused 6)
+    (refused bodyDamaged)

@@ -8,7 +8,7 @@ use Rattle.lists.specs.Lists.{reading, sum}
 use Rattle.reserve.specs.Reserve.{digits}
 use Rattle.image.specs.Calls.{lengthCall}
 use Rattle.image.specs.Image.{Limits, code, page, pages, start}
-use Rattle.image.specs.Reply.{refused}
+use Rattle.answers.specs.Image.{refused}
 use Rattle.image_steps.specs.declared.plan.Layout.{Layout}
 use Rattle.image_steps.specs.declared.plan.Plan.{Plan}
 use Rattle.image_steps.specs.declared.plan.Started.{Started}

@@ -7,7 +7,8 @@ use lib.ListN.{length, set}
 use lib.Dec.{eqb}
 use Rattle.lists.specs.Lists.{pick}
 use Rattle.store.specs.PageCode.{cells}
-use Rattle.store.specs.Plain.{Answer, Outcome, change}
+use Rattle.store.specs.Plain.{Outcome, change}
+use Rattle.answers.specs.Store.{Answer}
 use Rattle.store.specs.Layout.{bytesOf, cellsFrom}
 use Rattle.store.specs.Reading.{listIn, pagesOf, read, sumIn}
 use Rattle.store.specs.Sound.{sound}

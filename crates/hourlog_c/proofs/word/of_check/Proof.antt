@@ -1,6 +1,6 @@
 -- `hourlog_c::word::of_check` meets its contract. Assumes nothing.
 use mathlib.Core.Path.{sym, ap, _∙_}
-use Rattle.image.specs.Answers.{ruled}
+use Rattle.answers.specs.Image.{ruled}
 use Rattle.hourlog_c.specs.Public.{ofCheck}
 use Rattle.hourlog_c.specs.Words.{wordOf}
 use borrow.Author.Needs.{needs}

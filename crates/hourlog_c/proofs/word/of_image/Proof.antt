@@ -1,6 +1,6 @@
 -- `hourlog_c::word::of_image` meets its contract. Assumes nothing.
 use mathlib.Core.Path.{sym, ap, _∙_}
-use Rattle.image.specs.Answers.{told}
+use Rattle.answers.specs.Image.{told}
 use Rattle.hourlog_c.specs.Public.{ofImage}
 use Rattle.hourlog_c.specs.Words.{wordOf}
 use borrow.Author.Needs.{needs}

@@ -1,6 +1,6 @@
 -- `hourlog_c::word::of_store` meets its contract. Assumes nothing.
 use mathlib.Core.Path.{sym, ap, _∙_}
-use Rattle.store.specs.Answers.{told}
+use Rattle.answers.specs.Store.{told}
 use Rattle.hourlog_c.specs.Public.{ofStore}
 use Rattle.hourlog_c.specs.Words.{wordOf}
 use borrow.Author.Needs.{needs}

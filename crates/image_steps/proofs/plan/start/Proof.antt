@@ -9,7 +9,7 @@ use lib.ListN.{length}
 use borrow.Author.Needs.{needs}
 use borrow.Author.Tests.{ltb-true, ltb-false}
 use Rattle.image.specs.Calls.{lengthCall}
-use Rattle.image.specs.Reply.{refused}
+use Rattle.answers.specs.Image.{refused}
 use Rattle.image_steps.proofs.PlanLaws.{begun, e-above, e-below, list-long}
 use Rattle.image_steps.proofs.plan.start.Statement.{statement}
 use Rattle.image_steps.proofs.plan.start.Tie as tie

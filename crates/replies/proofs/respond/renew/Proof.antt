@@ -5,10 +5,9 @@ use lib.Seq.{length-take-le}
 use mathlib.Core.Path.{_≡_}
 use mathlib.Core.List.{[], _∷_}
 use types.Run.{OneOf, miss}
-use Rattle.store.specs.Plain.{refused}
-use Rattle.store.specs.Answers.{told}
-use Rattle.store.specs.declared.answer.Answer.{Answer}
-use Rattle.store.specs.declared.answer.Answer.the-variants.{Changed, Number, Refused}
+use Rattle.answers.specs.Store.{refused, told}
+use Rattle.answers.specs.declared.store.Answer.{Answer}
+use Rattle.answers.specs.declared.store.Answer.the-variants.{Changed, Number, Refused}
 use Rattle.replies.proofs.TurnLaws.{renew-refuses, renew-starts, not-changed, not-answered}
 use borrow.Author.Needs.{needs}
 use Rattle.replies.proofs.respond.renew.Statement.{statement}
@@ -48,7 +47,7 @@ same-length-2 : tie.Need-same-length-2
 same-length-2 c = search needs
 
 -- an answer of the other two cases
-other : (x : Answer) → OneOf (0 ∷ 1 ∷ []) (denote.Enum.Declared.tagOf Rattle.store.proofs.answer.Answer.the-type x) → told x ≡ refused 9 → ⊥
+other : (x : Answer) → OneOf (0 ∷ 1 ∷ []) (denote.Enum.Declared.tagOf Rattle.answers.proofs.store.Answer.the-type x) → told x ≡ refused 9 → ⊥
 other (Changed x y) k e = not-changed x y 9 e
 other (Number n) k e = not-answered n 9 e
 other (Refused n) k e = miss (0 ∷ 1 ∷ []) 2 tt k

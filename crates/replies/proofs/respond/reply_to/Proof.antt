@@ -1,7 +1,7 @@
 -- `replies::respond::reply_to` meets its contract. Assumes nothing.
 use mathlib.Core.Path.{sym, ap}
-use Rattle.store.specs.Answers.{told}
-use Rattle.store.specs.declared.answer.Answer.{Answer}
+use Rattle.answers.specs.Store.{told}
+use Rattle.answers.specs.declared.store.Answer.{Answer}
 use Rattle.replies.specs.Session.{replyTo}
 use borrow.Author.Needs.{needs}
 use Rattle.replies.proofs.respond.reply_to.Statement.{statement}

@@ -1,0 +1,50 @@
+-- Document 01, 'Where a call is turned down': the refusals by their numbers. Assumes nothing.
+use Prim.Native.Nat.{ℕ}
+
+-- 'e outside 2 to 8'
+abbrev pub pageSizeWrong : ℕ
+pageSizeWrong = 1
+
+-- 'over 65,536 counts'
+abbrev pub listTooLong : ℕ
+listTooLong = 2
+
+-- 'above 4,294,967,295'
+abbrev pub totalTooHigh : ℕ
+totalTooHigh = 3
+
+-- 'output buffer shorter than the image'
+abbrev pub bufferShort : ℕ
+bufferShort = 4
+
+-- 'image header'
+abbrev pub headerWrong : ℕ
+headerWrong = 5
+
+-- 'image body'
+abbrev pub bodyDamaged : ℕ
+bodyDamaged = 6
+
+-- 'hour, as in the plain list'
+abbrev pub notLogged : ℕ
+notLogged = 7
+
+-- 'figure, p above the total'
+abbrev pub aboveTotal : ℕ
+aboveTotal = 8
+
+-- 'P, C or buffer length wrong'
+abbrev pub freshWrong : ℕ
+freshWrong = 9
+
+-- 'store, not sound'
+abbrev pub notSound : ℕ
+notSound = 10
+
+-- 'append, log full'
+abbrev pub logFull : ℕ
+logFull = 11
+
+-- 'cells, need above C'
+abbrev pub cellsShort : ℕ
+cellsShort = 12

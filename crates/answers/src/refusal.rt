@@ -1,0 +1,36 @@
+// The refusals of document 01, 'Where a call is turned down'.
+// e outside 2 to 8
+pub const PAGE_SIZE: u32 = 1;
+
+// over 65,536 counts
+pub const LIST: u32 = 2;
+
+// above 4,294,967,295
+pub const TOTAL: u32 = 3;
+
+// output buffer shorter than the image
+pub const BUFFER: u32 = 4;
+
+// image header
+pub const HEADER: u32 = 5;
+
+// image body
+pub const BODY: u32 = 6;
+
+// hour, as in the plain list
+pub const HOUR: u32 = 7;
+
+// figure, p above the total
+pub const FIGURE: u32 = 8;
+
+// P, C or buffer length wrong
+pub const FRESH: u32 = 9;
+
+// store, not sound
+pub const UNSOUND: u32 = 10;
+
+// append, log full
+pub const FULL: u32 = 11;
+
+// cells, need above C
+pub const CELLS: u32 = 12;
