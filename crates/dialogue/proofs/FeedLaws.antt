@@ -20,11 +20,11 @@ use Rattle.replies.specs.declared.respond.Response.{Response}
 use Rattle.dialogue.specs.Dialogue.{State, prints, leaves, next, fed, said, last}
 use Rattle.dialogue.specs.Feed.{Closes, Feeds, stand}
 use Rattle.dialogue.specs.Code.Answer.{Answers}
-use Rattle.dialogue.specs.declared.Place.{Place}
+use Rattle.dialogue.specs.declared.Standing.{Standing}
 use Rattle.dialogue.proofs.DialogueLaws.{fed-append, said-append}
 
 -- a command, from its response and the line that is printed
-pub answers : {c : Command} {p : Place} {s s′ out out′ : List ℕ} {q : Response} {n : ℕ} → p .said + 32 ≤ length out
+pub answers : {c : Command} {p : Standing} {s s′ out out′ : List ℕ} {q : Response} {n : ℕ} → p .said + 32 ≤ length out
     → Responds c s (p .used) q s′ → Prints (q .reply) out (p .said) n out′
     → Answers c p s out (record { used = q .used; held = 0; said = n }) s′ out′
 answers {c} {p} {s} {s′} {out} {out′} {q} {n} h w v = record {
@@ -50,7 +50,7 @@ module _ (b : ℕ) (p : State) (cs : List Command) (l : List ℕ) (e : cs ≡ co
   said-one = append-nil (prints (completes (p .held) b) (p .store)) ∙ ap (λ (x : List Command). prints x (p .store)) (sym e)
 
 -- one byte, from what is gathered
-module _ (p : Place) (s line line′ out : List ℕ) (b : ℕ) (g : Gathered) (long : length line ≡ 41) (w : Gathers line (p .held) b g line′) where
+module _ (p : Standing) (s line line′ out : List ℕ) (b : ℕ) (g : Gathered) (long : length line ≡ 41) (w : Gathers line (p .held) b g line′) where
   held-is : take (heldLength g) line′ ≡ holds 41 (take (p .held) line) b
   held-is = w .held ∙ ap (λ (k : ℕ). holds k (take (p .held) line) b) long
 
@@ -68,7 +68,7 @@ module _ (p : Place) (s line line′ out : List ℕ) (b : ℕ) (g : Gathered) (l
         most = omega arith;
       }
 
-  pub byte-whole : {c : Command} {r : Place} {s′ out′ : List ℕ} → g ≡ Whole c → Answers c p s out r s′ out′
+  pub byte-whole : {c : Command} {r : Standing} {s′ out′ : List ℕ} → g ≡ Whole c → Answers c p s out r s′ out′
       → Feeds (b ∷ []) (stand p s line) (p .said) out (stand r s′ line′) (r .said) out′
   unfolding leaves
   byte-whole {c} {r} {s′} {out′} e v =
@@ -106,7 +106,7 @@ pub feeds-all : (chunk : List ℕ) (i : ℕ) {p q : State} {m n : ℕ} {out fin 
 feeds-all chunk i h w = rw (take-all i chunk h) at w
 
 -- the input's end
-module _ (p : Place) (s line : List ℕ) (g : Gathered) (w : wholeCommands g ≡ ends (take (p .held) line)) where
+module _ (p : Standing) (s line : List ℕ) (g : Gathered) (w : wholeCommands g ≡ ends (take (p .held) line)) where
   last-is : (cs : List Command) → wholeCommands g ≡ cs → prints cs (take (p .used) s) ≡ last (stand p s line)
   last-is cs e = ap (λ (x : List Command). prints x (take (p .used) s)) (sym e ∙ w)
 
@@ -114,7 +114,7 @@ module _ (p : Place) (s line : List ℕ) (g : Gathered) (w : wholeCommands g ≡
   unfolding prints replies concat
   close-none out e = record { text = last-is [] (ap wholeCommands e); most = omega arith }
 
-  pub close-whole : {c : Command} {r : Place} {s′ out out′ : List ℕ} → g ≡ Whole c
+  pub close-whole : {c : Command} {r : Standing} {s′ out out′ : List ℕ} → g ≡ Whole c
       → Answers c (record { used = p .used; held = 0; said = 0 }) s out r s′ out′ → Closes (stand p s line) (r .said) out′
   close-whole {c} e v = record {
     text = v .said ∙ sym (prints-one c (take (p .used) s)) ∙ last-is (c ∷ []) (ap wholeCommands e);

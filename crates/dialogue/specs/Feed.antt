@@ -4,10 +4,10 @@ use mathlib.Core.Path.{_≡_}
 use Prim.Native.Nat.{ℕ, _+_, _*_, _≤_}
 use lib.ListN.{length, take}
 use Rattle.dialogue.specs.Dialogue.{State, fed, said, last}
-use Rattle.dialogue.specs.declared.Place.{Place}
+use Rattle.dialogue.specs.declared.Standing.{Standing}
 
 -- the state that a place in the buffers of the store and of the line stands for
-abbrev pub stand : Place → List ℕ → List ℕ → State
+abbrev pub stand : Standing → List ℕ → List ℕ → State
 stand p store line = record { store = take (p .used) store; held = take (p .held) line }
 
 -- `feed` takes bytes of the input from the state p to the state q. m bytes of the output stand there before; what the bytes print comes

@@ -12,17 +12,17 @@ ghost use Rattle.dialogue.specs.Code.Answer.{Answers};
 
 // Where a session stands: how many bytes of the store's buffer are the store, how many bytes are held of the line that is begun, and how
 // many bytes of the output are to be written.
-pub struct Place {
+pub struct Standing {
     pub used: usize,
     pub held: usize,
     pub said: usize,
 }
 
 // Where every session starts.
-pub fn start() -> Place
+pub fn start() -> Standing
     ensures { λ r. ⌜ ((store line : List ℕ) → stand r store line ≡ first) ⌝ }
 {
-    Place {
+    Standing {
         used: 0,
         held: 0,
         said: 0,
@@ -30,7 +30,7 @@ pub fn start() -> Place
 }
 
 // Answers a command, whose line is held no more.
-fn answer(store: &mut [u8], place: Place, command: Command, out: &mut [u8]) -> Place
+fn answer(store: &mut [u8], place: Standing, command: Command, out: &mut [u8]) -> Standing
     requires { ⌜ 63760 ≤ length (now store) ⌝ }
     requires { ⌜ place .said + 32 ≤ length (now out) ⌝ }
     ensures { λ r. ⌜ Answers command place (now (store .entry)) (now (out .entry)) r (now (store .exit)) (now (out .exit)) ⌝ }
@@ -38,7 +38,7 @@ fn answer(store: &mut [u8], place: Place, command: Command, out: &mut [u8]) -> P
     let response = respond(store, place.used, command);
     let reply = response.reply;
     let said = session::print(out, place.said, reply);
-    Place {
+    Standing {
         used: response.used,
         held: 0,
         said,
@@ -46,14 +46,20 @@ fn answer(store: &mut [u8], place: Place, command: Command, out: &mut [u8]) -> P
 }
 
 // Takes one byte of the input, which may end a line.
-fn take_byte(store: &mut [u8], line: &mut [u8], place: Place, byte: u8, out: &mut [u8]) -> Place
+fn take_byte(
+    store: &mut [u8],
+    line: &mut [u8],
+    place: Standing,
+    byte: u8,
+    out: &mut [u8],
+) -> Standing
     requires { ⌜ 63760 ≤ length (now store) ⌝ }
     requires { ⌜ length (now line) ≡ 41 ⌝ }
     requires { ⌜ place .said + 32 ≤ length (now out) ⌝ }
     ensures { λ r. ⌜ Feeds (byte ∷ []) (stand place (now (store .entry)) (now (line .entry))) (place .said) (now (out .entry)) (stand r (now (store .exit)) (now (line .exit))) (r .said) (now (out .exit)) ⌝ }
 {
     match session::gather(line, place.held, byte) {
-        Gathered::More(held) => Place {
+        Gathered::More(held) => Standing {
             used: place.used,
             held,
             said: place.said,
@@ -63,13 +69,19 @@ fn take_byte(store: &mut [u8], line: &mut [u8], place: Place, byte: u8, out: &mu
 }
 
 // Takes a chunk of the input, and puts the replies to the lines that end in it at the start of out. What stood there is taken to be written.
-pub fn feed(store: &mut [u8], line: &mut [u8], place: Place, chunk: &[u8], out: &mut [u8]) -> Place
+pub fn feed(
+    store: &mut [u8],
+    line: &mut [u8],
+    place: Standing,
+    chunk: &[u8],
+    out: &mut [u8],
+) -> Standing
     requires { ⌜ 63760 ≤ length (now store) ⌝ }
     requires { ⌜ length (now line) ≡ 41 ⌝ }
     requires { ⌜ 32 * length (now chunk) ≤ length (now out) ⌝ }
     ensures { λ r. ⌜ Feeds (now (chunk .entry)) (stand place (now (store .entry)) (now (line .entry))) 0 (now (out .entry)) (stand r (now (store .exit)) (now (line .exit))) (r .said) (now (out .exit)) ⌝ }
 {
-    let mut next = Place {
+    let mut next = Standing {
         used: place.used,
         held: place.held,
         said: 0,
@@ -83,7 +95,7 @@ pub fn feed(store: &mut [u8], line: &mut [u8], place: Place, chunk: &[u8], out: 
 }
 
 // The input's end, where the last line may lack its line end. Answers how many bytes of out are to be written.
-pub fn close(store: &mut [u8], line: &[u8], place: Place, out: &mut [u8]) -> usize
+pub fn close(store: &mut [u8], line: &[u8], place: Standing, out: &mut [u8]) -> usize
     requires { ⌜ 63760 ≤ length (now store) ⌝ }
     requires { ⌜ 32 ≤ length (now out) ⌝ }
     ensures { λ r. ⌜ Closes (stand place (now (store .entry)) (now (line .entry))) r (now (out .exit)) ⌝ }
@@ -91,7 +103,7 @@ pub fn close(store: &mut [u8], line: &[u8], place: Place, out: &mut [u8]) -> usi
     let Gathered::Whole(command) = session::finish(line, place.held) else {
         return 0;
     };
-    let here = Place {
+    let here = Standing {
         used: place.used,
         held: 0,
         said: 0,

@@ -15,7 +15,7 @@ use Rattle.store.specs.Layout.{bytesOf, cellAt, fresh, header, size, cellsFrom,
 use Rattle.store.specs.Call.{Started, freshCall}
 use Rattle.store.specs.Code.Links.{put}
 use Rattle.store.specs.Code.Heads.{HeadOf}
-use Rattle.fresh.specs.Code.Header.{Headed}
+use Rattle.fresh.specs.Code.Header.{HeaderPut}
 use Rattle.fresh.specs.Code.Cells.{chained}
 use Rattle.store.specs.declared.header.Header.{Header}
 use Rattle.lists.proofs.Tables.{getD-tabulate, tabulate-ext}
@@ -50,7 +50,7 @@ unfolding little
 zero-two = refl
 
 headed-by : (s s₁ s₂ s₃ s₄ s₅ s₆ s₇ : List ℕ) (h : Header) → 16 ≤ length s → Put s₁ s 0 2 1 → Put s₂ s₁ 2 2 (h .pages) → Put s₃ s₂ 4 2 (h .cells)
-    → Put s₄ s₃ 6 2 (h .«first_free») → Put s₅ s₄ 8 2 (h .free) → Put s₆ s₅ 10 2 0 → Put s₇ s₆ 12 4 (h .hours) → Headed s h s₇
+    → Put s₄ s₃ 6 2 (h .«first_free») → Put s₅ s₄ 8 2 (h .free) → Put s₆ s₅ 10 2 0 → Put s₇ s₆ 12 4 (h .hours) → HeaderPut s h s₇
 headed-by s s₁ s₂ s₃ s₄ s₅ s₆ s₇ h l e₁ e₂ e₃ e₄ e₅ e₆ e₇ =
     let n₁ = long e₁ in
     let n₂ = long e₂ in
@@ -80,7 +80,7 @@ headed-by s s₁ s₂ s₃ s₄ s₅ s₆ s₇ h l e₁ e₂ e₃ e₄ e₅ e₆
 
 pub headed-is : (s s₁ s₂ s₃ s₄ s₅ s₆ s₇ : List ℕ) (h : Header) → 16 ≤ length s → s₁ ≡ put s 0 2 1 → s₂ ≡ put s₁ 2 2 (h .pages)
     → s₃ ≡ put s₂ 4 2 (h .cells) → s₄ ≡ put s₃ 6 2 (h .«first_free») → s₅ ≡ put s₄ 8 2 (h .free) → s₆ ≡ put s₅ 10 2 0
-    → s₇ ≡ put s₆ 12 4 (h .hours) → Headed s h s₇
+    → s₇ ≡ put s₆ 12 4 (h .hours) → HeaderPut s h s₇
 headed-is s s₁ s₂ s₃ s₄ s₅ s₆ s₇ h l e₁ e₂ e₃ e₄ e₅ e₆ e₇ =
     headed-by s s₁ s₂ s₃ s₄ s₅ s₆ s₇ h l (record { is = e₁ }) (record { is = e₂ }) (record { is = e₃ }) (record { is = e₄ }) (record { is = e₅ })
     (record { is = e₆ }) (record { is = e₇ })
@@ -140,7 +140,7 @@ linked-up s base C (suc n) c a e h l x y =
     )
 
 module _ (P C : ℕ) (l : Limits P C) (t : List ℕ) (H : Header) (k : HeadOf (fresh P C) H)
-    (h : Headed (replicate (size P C) 0) H t) where
+    (h : HeaderPut (replicate (size P C) 0) H t) where
   Z : List ℕ
   Z = replicate (size P C) 0
 
@@ -209,10 +209,10 @@ module _ (b : List ℕ) (P C : ℕ) where
   unfolding freshCall pick
   started-9 e = record { answer = rw e refl; bytes = rw e refl }
 
-  pub started : (z t u : List ℕ) (H : Header) {base : ℕ} → fits b P C ≡ true → z ≡ replicate (length b) 0 → HeadOf (fresh P C) H → Headed z H t
+  pub started : (z t u : List ℕ) (H : Header) {base : ℕ} → fits b P C ≡ true → z ≡ replicate (length b) 0 → HeadOf (fresh P C) H → HeaderPut z H t
       → base ≡ cellsFrom P → u ≡ chained t base (C - 1) → Started b P C (answered 0) u
   unfolding freshCall pick
   started z t u H e a k h i f =
       let w = fitting b P C e in
-      let h₂ : Headed (replicate (size P C) 0) H t = rw (← w .long, ← a) h in
+      let h₂ : HeaderPut (replicate (size P C) 0) H t = rw (← w .long, ← a) h in
       record { answer = rw e refl; bytes = rw e (f ∙ ap (λ (z : ℕ). chained t z (C - 1)) i ∙ fresh-bytes P C (w .limits) t H k h₂) }

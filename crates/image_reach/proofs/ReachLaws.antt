@@ -11,7 +11,7 @@ use Rattle.lists.specs.Lists.{pick, reached, sum, window}
 use Rattle.lists.proofs.Pages.{reached-within}
 use Rattle.lists.proofs.Reach.{reached-le, reached-zero}
 use Rattle.bits.specs.Bits.{bits}
-use Rattle.tree.specs.Read.{Place, nowhere, place, seek}
+use Rattle.tree.specs.Read.{Sought, nowhere, place, seek}
 use Rattle.tree.proofs.SearchLaws.{seek-tree}
 use Rattle.image.specs.Check.{accepted, headed}
 use Rattle.image.specs.Image.{Limits, image, page, pages, root}
@@ -77,7 +77,7 @@ loose s q p h m a = go (pageFine s p) (seek (eOf s) (sumOf s p) (bits s) (treeAt
     inner i true e = any-index h m a i (leb-true i (nOf s) e)
     inner i false e = damage h m a
 
-    go : (b : Bool) (d : Place) → Reach s q (pick b (placed (2 ^ eOf s * p) (nOf s) d) (refused 6))
+    go : (b : Bool) (d : Sought) → Reach s q (pick b (placed (2 ^ eOf s * p) (nOf s) d) (refused 6))
     go false d = damage h m a
     go true nowhere = damage h m a
     go true (place i) = inner (2 ^ eOf s * p + i) (leb (2 ^ eOf s * p + i) (nOf s)) refl

@@ -14,7 +14,7 @@ use Rattle.lists.specs.Lists.{pick}
 use Rattle.lists.proofs.Tests.{each}
 use Rattle.bits.specs.Bits.{bits}
 use Rattle.tree_walk.specs.Code.Answers.{spotted}
-use Rattle.tree.specs.Read.{Place, nowhere, place, seek}
+use Rattle.tree.specs.Read.{Sought, nowhere, place, seek}
 use Rattle.image.specs.Check.{accepted, headed}
 use Rattle.image.specs.Image.{IsImage, pages}
 use Rattle.image.specs.Code.Head.{Opened}
@@ -144,7 +144,7 @@ before-small e p m l k em =
     omega (arith, em, mul-le-mul-right {m = m} {n = 256} p (omega (arith, em)))
 
 -- the index that a search tells
-spot : (f n i : ℕ) (d : Place) → n < 2 ^ 63 → i ≡ spotted f d → (i ≤ n → placed f n d ≡ given i) × (n < i → placed f n d ≡ refused 6)
+spot : (f n i : ℕ) (d : Sought) → n < 2 ^ 63 → i ≡ spotted f d → (i ≤ n → placed f n d ≡ given i) × (n < i → placed f n d ≡ refused 6)
 unfolding spotted placed pick
 spot f n i nowhere l e = ((λ (k : i ≤ n). absurd (omega (arith, e))), (λ _. refl))
 spot f n i (place j) l e = (
@@ -221,7 +221,7 @@ module _ {s : List ℕ} {h : Head} {q : ℕ} {at : Span} {r : Page} (g : AtPage 
 
     module _ {i m : ℕ} (em : m ≡ 2 ^ (h .e)) (ei : i ≡ spotted (m * p) (seek (h .e) (r .sum) (bits s) (r .at) (q - r .before)))
         (k : q ≤ r .before + r .sum) where
-      abbrev P : Place
+      abbrev P : Sought
       P = seek (eOf s) (sumOf s p) (bits s) (treeAt s p) (q - beforeOf s p)
 
       found-is : i ≡ spotted (2 ^ eOf s * p) P

@@ -10,7 +10,7 @@ use native.Mathlib.Omega.{arith}
 use lib.Count.{leadingZeros, leading-length}
 use lib.Pow.{pow-mono, pow-pos, shl-exact}
 use Rattle.reserve.specs.Reserve.{digits, ceil, dense, sparse, reserve}
-use Rattle.reserve.specs.Formula.{oneFormula, Bounded}
+use Rattle.reserve.specs.Code.Formula.{oneFormula, Bounded}
 use Rattle.reserve.proofs.Line.{lt-two-pow}
 use Rattle.reserve.proofs.Exact.{digits-ge, digits-le, digits-unique, reserve-dense, reserve-sparse, round-le, suc-sub-one}
 

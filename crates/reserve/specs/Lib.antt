@@ -1,3 +1,3 @@
 -- Definitions of the crate.
 pub mod Reserve
-pub mod Formula
+pub mod Code

@@ -2,7 +2,7 @@
 ghost use mathlib.Core.Path.{_≡_};
 ghost use Prim.Native.Nat.{_+_, _%_, _^_, _≤_, _<_, min};
 ghost use Rattle.reserve.specs.Reserve.{digits, reserve};
-ghost use Rattle.reserve.specs.Formula.{Bounded, oneFormula};
+ghost use Rattle.reserve.specs.Code.Formula.{Bounded, oneFormula};
 
 // How many binary digits s has: none for 0.
 pub fn digits_of(s: u64) -> u32

@@ -44,17 +44,17 @@ walk (suc h) s b a j =
     pick (leb l s) down damaged
 
 -- what a search by prefix sum finds: damage, or an index
-pub data Place : Type 0 where
-  nowhere : Place
-  place : ℕ → Place
+pub data Sought : Type 0 where
+  nowhere : Sought
+  place : ℕ → Sought
 
 -- the same with n more counts before it
-unfoldable pub shifted : ℕ → Place → Place
+unfoldable pub shifted : ℕ → Sought → Sought
 shifted n nowhere = nowhere
 shifted n (place i) = place (n + i)
 
 -- the search for the least index whose prefix sum is q or more, 1 ≤ q ≤ s: left where the left sum is q or more
-unfoldable pub seek : ℕ → ℕ → List ℕ → ℕ → ℕ → Place
+unfoldable pub seek : ℕ → ℕ → List ℕ → ℕ → ℕ → Sought
 seek zero s b a q = place 1
 seek (suc h) s b a q =
     let l = leftOf s b a in

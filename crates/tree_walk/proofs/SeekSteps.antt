@@ -9,7 +9,7 @@ use lib.Dec.{leb, ltb}
 use borrow.Author.Tests.{ltb-true, ltb-false}
 use Rattle.lists.specs.Lists.{pick}
 use Rattle.bits.specs.Bits.{bits}
-use Rattle.tree.specs.Read.{leftOf, Place, nowhere, place, shifted, seek}
+use Rattle.tree.specs.Read.{leftOf, Sought, nowhere, place, shifted, seek}
 use Rattle.tree.specs.Code.Node.{Lies, Rooted}
 use Rattle.tree_walk.specs.Code.Answers.{spotted}
 use Rattle.tree.specs.declared.node.Split.{Split}
@@ -17,7 +17,7 @@ use Rattle.tree.proofs.SearchLaws.{seek-left, seek-right}
 use Rattle.tree.proofs.Rooting.{Inner, left-lies, right-lies}
 
 -- counts before can be counted in n or in the place
-spotted-shifted : (n m : ℕ) (p : Place) → spotted (n + m) p ≡ spotted n (shifted m p)
+spotted-shifted : (n m : ℕ) (p : Sought) → spotted (n + m) p ≡ spotted n (shifted m p)
 unfolding spotted shifted
 spotted-shifted n m nowhere = refl
 spotted-shifted n m (place i) = omega arith
