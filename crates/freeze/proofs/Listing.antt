@@ -1,4 +1,5 @@
 -- Pages of a store put into a list, one after another. Assumes nothing.
+use mathlib.Core.Bool.{true}
 use mathlib.Core.Path.{_≡_, sym, ap, _∙_}
 use mathlib.Core.List.{List, _++_}
 use Prim.Native.Nat.{ℕ, suc, _+_, _-_, _*_, _/_, _%_, _≤_, _<_, min}
@@ -13,18 +14,16 @@ use Rattle.lists.proofs.Parts.{length-splice, sets-next, sets-splice, splice-ni
 use Rattle.lists.proofs.Tables.{concat-each, concat-suc, getD-tabulate, length-tabulate, tabulate-ext}
 use Rattle.lists.proofs.Zeros.{splice-zeros, zeros-at}
 use Rattle.store.specs.Plain.{page}
+use Rattle.bits.specs.Bits.{bits}
+use Rattle.tree.specs.Exact.{exact}
+use Rattle.tree.specs.Read.{counts}
+use Rattle.tree.proofs.Shape.{counts-tree}
+use Rattle.pages.specs.Gathered.{Gathered}
+use Rattle.pages.proofs.Coding.{code-exact, tree-at}
+use Rattle.pages.proofs.SoundPage.{sum-same}
+use Rattle.store.specs.Code.Hours.{OfPage}
+use Rattle.store.specs.Reading.{read}
 use Rattle.store.proofs.Holds.{page-length}
-
--- one more store
-pub next : (s v : List ℕ) (a i : ℕ) → i < length v → set (sets s a (part v 0 i)) (a + i) (getD v i 0) ≡ sets s a (part v 0 (i + 1))
-next s v a i l =
-    let e : 0 + i ≡ i = omega arith in
-    ap (λ (z : ℕ). set (sets s a (part v 0 i)) (a + i) (getD v z 0)) (sym e) ∙ sets-next s v a 0 i (omega arith)
-
--- 64 stores are a splice
-pub all-stored : (s v : List ℕ) (a i : ℕ) → length v ≡ 64 → i ≡ 64 → a + 64 ≤ length s → sets s a (part v 0 i) ≡ splice s a v
-all-stored s v a i n e l =
-    ap (sets s a) (take-all i v (omega arith)) ∙ sets-splice v s a (omega arith)
 
 -- nothing is put yet
 pub none-put : (l : List ℕ) (f : ℕ → List ℕ) → l ≡ splice l 0 (concat (tabulate 0 f))
@@ -87,6 +86,16 @@ block-is xs l r P first k h ek el er =
     er ∙ ap (λ (y : List ℕ). splice y 0 F) el ∙ splice-zeros 256 F
     ∙ ext-getD 0 (F ++ Z) (tabulate 256 g) (long ∙ sym (length-tabulate 256 g)) (λ i q.
     block-at xs P first k (256 - length F) h ek i (omega arith) ∙ sym (getD-tabulate 256 g i 0 (omega arith)))
+
+-- a page as it is decoded
+pub page-decoded : {s : List ℕ} {P p t k : ℕ} {code : List ℕ} → OfPage s P p t k → Gathered s p code
+    → (exact 6 t (bits code) 0 ≡ true) × (counts 6 t (bits code) 0 ≡ page (read s .plain .counts) p)
+page-decoded {s} {P} {p} {t} {k} {code} o g =
+    let ys : List ℕ = page (read s .plain .counts) p in
+    let n : length ys ≡ 64 = page-length (read s .plain .counts) p in (
+      code-exact code ys _ t n (sum-same o) (g .code-is),
+      ap (λ (z : ℕ). counts 6 z (bits code) 0) (sum-same o) ∙ counts-tree 6 ys (bits code) 0 n (tree-at code ys _ (g .code-is)),
+    )
 
 -- a window of a window
 pub window-in : (xs : List ℕ) (a n f k : ℕ) → f + k ≤ n → window (window xs a n) f k ≡ window xs (a + f) k

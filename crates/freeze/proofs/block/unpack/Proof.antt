@@ -5,9 +5,11 @@ use mathlib.Core.List.{List}
 use Prim.Native.Nat.{_<_}
 use lib.ListN.{length-replicate}
 use Rattle.bits.specs.Numbers.{numberAt}
+use Rattle.pages.proofs.Coding.{lies}
+use Rattle.pages.proofs.SoundPage.{as-said, sum-small}
 use Rattle.store.proofs.Holds.{page-length}
 use Rattle.store.proofs.SoundFacts.{facts}
-use Rattle.freeze.proofs.Listing.{block-is, none-put, one-put, put-length}
+use Rattle.freeze.proofs.Listing.{block-is, none-put, one-put, page-decoded, put-length}
 use mathlib.Core.Path.{_≡_}
 use Prim.Native.Nat.{ℕ, _+_, _-_, _*_, _≤_}
 use native.Mathlib.Omega.{arith}
@@ -51,39 +53,46 @@ module _ (c : tie.In-loop Inv-loop μ-loop) where
   short : c .before .loop .j < 4
   short = omega (arith, c .loop-test .taken, c .before .before .smaller .ensures)
 
-add-page-counts : tie.Need-add-page-counts Inv-loop μ-loop
-add-page-counts c = omega (arith, inside c, few c)
+add-p : tie.Need-add-p Inv-loop μ-loop
+add-p c = omega (arith, inside c, few c)
 
-page-counts-requires : tie.Need-page-counts-requires Inv-loop μ-loop
-page-counts-requires c κs = (call c .pre .0, inside c)
+entry-of-requires : tie.Need-entry-of-requires Inv-loop μ-loop
+entry-of-requires c κs = (call c .pre .0, inside c)
 
-mul-put-counts : tie.Need-mul-put-counts Inv-loop μ-loop
-mul-put-counts c = omega (arith, short (c .before .before))
+gather-at-requires : tie.Need-gather-at-requires Inv-loop μ-loop
+gather-at-requires c κs = as-said (c .entry-of .ensures)
 
-slice-aggregate-put-counts : tie.Need-slice-aggregate-put-counts Inv-loop μ-loop
-slice-aggregate-put-counts c = search needs
+slice-aggregate-decode : tie.Need-slice-aggregate-decode Inv-loop μ-loop
+slice-aggregate-decode c = search needs
 
-put-counts-requires : tie.Need-put-counts-requires Inv-loop μ-loop
-put-counts-requires c κs =
-    let n = c .before .before .before in
-    (omega (arith, short n, long n, n .before .loop .inv .1), ap length (c .before .before .page-counts .ensures) ∙ page-length _ _)
+mul-decode : tie.Need-mul-decode Inv-loop μ-loop
+mul-decode c = omega (arith, short (c .before .before .before .before))
+
+decode-requires : tie.Need-decode-requires Inv-loop μ-loop
+decode-requires c κs =
+    let n = c .before .before .before .before in
+    let o = c .before .before .before .entry-of .ensures in (
+      lies (c .before .before .gather-at .result) _ (omega arith) (sum-small o),
+      page-decoded o (c .before .before .gather-at .ensures) .0,
+      sum-small o,
+      omega (arith, short n, long n, n .before .loop .inv .1),
+    )
 
 add-j : tie.Need-add-j Inv-loop μ-loop
-add-j c = omega (arith, short (c .before .before .before .before .before .before))
+add-j c = omega (arith, short (c .before .before .before .before .before .before .before))
 
 loop-less : tie.Need-loop-less Inv-loop μ-loop
-loop-less c = omega (arith, c .before .before .before .before .before .before .loop-test .taken)
+loop-less c = omega (arith, c .before .before .before .before .before .before .before .loop-test .taken)
 
 loop-again : tie.Need-loop-again Inv-loop μ-loop
 loop-again c =
-    let n = c .before .before .before .before .before .before in
+    let n = c .before .before .before .before .before .before .before in
     let l = n .before .loop in
     let a = call n .args in
     let f : ℕ → List ℕ = λ i. page (read (a .s .now) .plain .counts) (a .first + i) in
     let long-f : (i : ℕ) → length (f i) ≡ 64 = λ i. page-length (read (a .s .now) .plain .counts) (a .first + i) in
-    let counts = c .before .before .before .before .before .page-counts .ensures in
     let e = one-put (a .list .now) (l .list) _ f (l .j) long-f (omega (arith, short n, long n)) (l .inv .2)
-    (c .before .before .put-counts .ensures ∙ ap (λ z. splice (l .list) (64 * l .j) z) counts) in
+    (c .before .before .decode .ensures ∙ ap (λ z. splice (l .list) (64 * l .j) z) (page-decoded (c .before .before .before .before .before .before .entry-of .ensures) (c .before .before .before .before .before .gather-at .ensures) .1)) in
     (omega (arith, n .loop-test .taken), put-length (a .list .now) _ f (l .j + 1) long-f (omega (arith, short n, long n)) e, e)
 
 same-length : tie.Need-same-length Inv-loop μ-loop
@@ -107,11 +116,12 @@ unpack-spec =
     sub-smaller
     smaller-requires
     loop-holds
-    add-page-counts
-    page-counts-requires
-    mul-put-counts
-    slice-aggregate-put-counts
-    put-counts-requires
+    add-p
+    entry-of-requires
+    gather-at-requires
+    slice-aggregate-decode
+    mul-decode
+    decode-requires
     add-j
     loop-less
     loop-again
