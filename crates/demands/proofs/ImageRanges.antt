@@ -13,7 +13,7 @@ use Rattle.tree.specs.Read.{counts}
 use Rattle.tree.proofs.RangeLaws.{apart, holds-code, inside, parts-of}
 use Rattle.tree.proofs.Shape.{length-tree}
 use Rattle.store.specs.Plain.{page as plainPage}
-use Rattle.store.specs.Reading.{read}
+use Rattle.store.specs.Reading.{listIn}
 use Rattle.store.proofs.PageCodeLaws.{cells-hold}
 use Rattle.pages.specs.Gathered.{Gathered}
 use Rattle.pages.proofs.Coding.{tree-at}
@@ -102,9 +102,9 @@ in-image e xs m =
     }
 
 -- ---- in a live page's cells
-pub in-cells : (s : List ℕ) (p : ℕ) (r : List ℕ) → Gathered s p r → InCells (plainPage (read s .plain .counts) p) r
+pub in-cells : (s : List ℕ) (p : ℕ) (r : List ℕ) → Gathered s p r → InCells (plainPage (listIn s) p) r
 in-cells s p r g =
-    let xs : List ℕ = plainPage (read s .plain .counts) p in
+    let xs : List ℕ = plainPage (listIn s) p in
     record {
       in-cells = λ ds. omega (arith, inside ds 6 xs 0 .1, cells-hold (sum xs));
       coded = λ ds. holds-code ds 6 xs (bits r) 0 (tree-at r xs _ (g .code-is));

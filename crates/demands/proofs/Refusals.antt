@@ -12,7 +12,7 @@ use Rattle.store.specs.Plain.{Append, Call, Count, Day, Free, Outcome, Plain, R
 use Rattle.answers.specs.Store.{Answer, answered, refused as turned}
 use Rattle.store.specs.Plain.{change, refuse, step}
 use Rattle.store.specs.Layout.{bytesOf, fresh}
-use Rattle.store.specs.Reading.{read}
+use Rattle.store.specs.Reading.{listIn, read}
 use Rattle.store.specs.Sound.{sound}
 use Rattle.store.specs.Limits.{fits}
 use Rattle.store.specs.Call.{Result, call, freshCall}
@@ -132,7 +132,7 @@ unfolding freezeCall writeCall pick unwritten row occurrences one ofImage
 freeze-allowed s e out = go (sound s) refl
   where
     xs : List ℕ
-    xs = read s .plain .counts
+    xs = listIn s
 
     go : (b : Bool) → sound s ≡ b → Allowed (row (Freeze s e out)) (ofImage (pick b (writeCall e xs out) (unwritten out 10) .reply))
     go true q =

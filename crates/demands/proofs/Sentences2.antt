@@ -28,7 +28,7 @@ use Rattle.image.specs.Read.{eOf, listOf, sOf}
 use Rattle.image.proofs.PageLaws.{length-page}
 use Rattle.store.specs.PageCode.{cells}
 use Rattle.store.specs.Plain.{page as plainPage}
-use Rattle.store.specs.Reading.{read}
+use Rattle.store.specs.Reading.{listIn, read}
 use Rattle.store.specs.Sound.{sound}
 use Rattle.pages.specs.Gathered.{Gathered}
 use Rattle.freeze.specs.Freeze.{freezeCall}
@@ -110,7 +110,7 @@ module _ (e : ℕ) (xs : List ℕ) (m : Limits e xs) where
 -- ---- a live page, whose code is gathered from its cells
 module _ (s : List ℕ) (p : ℕ) (r : List ℕ) (g : Gathered s p r) where
   abbrev X : List ℕ
-  X = plainPage (read s .plain .counts) p
+  X = plainPage (listIn s) p
 
   -- 'A page of sum s has ceil(R(64, s) / 240) cells', of 240 bits each
   pub in-its-cells : (ds : List Side) (x : ℕ) → In x (node ds 6 X 0) → x < 240 * cells (sum X)
@@ -163,11 +163,11 @@ unfolding size bytesFor
 length-returns e xs n q = let z : given n ≡ given (size e (length xs) (length (code e xs))) = sym q ∙ demand-2 .lengths e xs (demand-2 .no-others e xs n q) in cc
 
 -- 'freeze, which writes the image of a store's list'
-pub frozen-accepted : (s : List ℕ) (e : ℕ) (out : List ℕ) → sound s ≡ true → Limits e (read s .plain .counts)
-    → length (image e (read s .plain .counts)) ≤ length out
-    → let F = take (length (image e (read s .plain .counts))) (freezeCall e s out .bytes) in (accepted F ≡ true) × (listOf F ≡ read s .plain .counts)
+pub frozen-accepted : (s : List ℕ) (e : ℕ) (out : List ℕ) → sound s ≡ true → Limits e (listIn s)
+    → length (image e (listIn s)) ≤ length out
+    → let F = take (length (image e (listIn s))) (freezeCall e s out .bytes) in (accepted F ≡ true) × (listOf F ≡ listIn s)
 frozen-accepted s e out h m l =
-    is-accepted (take (length (image e (read s .plain .counts))) (freezeCall e s out .bytes)) e (read s .plain .counts) m
+    is-accepted (take (length (image e (listIn s))) (freezeCall e s out .bytes)) e (listIn s) m
     (demand-2 .freezes s e out h m l .image-first)
 
 -- ---- 'count, reading and reach equal plain sums'

@@ -13,7 +13,7 @@ use Rattle.lists.specs.Lists.{pick}
 use Rattle.image.specs.Calls.{Wrote, lengthCall, put, putAfter, unwritten, writeCall}
 use Rattle.image.specs.Image.{Limits, code, image, size}
 use Rattle.answers.specs.Image.{Reply, given, refused}
-use Rattle.store.specs.Reading.{read}
+use Rattle.store.specs.Reading.{listIn}
 use Rattle.store.specs.Sound.{sound}
 use Rattle.freeze.specs.Freeze.{freezeCall}
 use Rattle.freeze.proofs.Freezing.{freeze-sound}
@@ -39,10 +39,10 @@ written w i out l e =
 pub write-is : (e : ℕ) (xs out : List ℕ) → Limits e xs → length (image e xs) ≤ length out → Written (writeCall e xs out) (image e xs) out
 write-is e xs out m l = written (writeCall e xs out) (image e xs) out l (write-put e xs out m l)
 
-pub freeze-is : (s : List ℕ) (e : ℕ) (out : List ℕ) → sound s ≡ true → Limits e (read s .plain .counts)
-    → length (image e (read s .plain .counts)) ≤ length out → Written (freezeCall e s out) (image e (read s .plain .counts)) out
+pub freeze-is : (s : List ℕ) (e : ℕ) (out : List ℕ) → sound s ≡ true → Limits e (listIn s)
+    → length (image e (listIn s)) ≤ length out → Written (freezeCall e s out) (image e (listIn s)) out
 freeze-is s e out h m l =
-    let xs : List ℕ = read s .plain .counts in
+    let xs : List ℕ = listIn s in
     written (freezeCall e s out) (image e xs) out l (sym (freeze-sound e s out h) ∙ write-put e xs out m l)
 
 -- and into no other, nor of another list

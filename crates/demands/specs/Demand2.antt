@@ -22,7 +22,7 @@ use Rattle.image.specs.Reach.{Reach}
 use Rattle.image.specs.Read.{eOf, listOf, sOf}
 use Rattle.store.specs.PageCode.{cells}
 use Rattle.store.specs.Plain.{page as plainPage}
-use Rattle.store.specs.Reading.{read}
+use Rattle.store.specs.Reading.{listIn, read}
 use Rattle.store.specs.Sound.{sound}
 use Rattle.pages.specs.Gathered.{Gathered}
 use Rattle.freeze.specs.Freeze.{freezeCall}
@@ -99,7 +99,7 @@ pub record Demand2 : Type 0 where
   -- 'Each subtree's bits stay in its reserved range, sibling ranges are disjoint': of every tree, in images and in a store's cells
   pub trees : (h : ℕ) (xs : List ℕ) (a : ℕ) → Ranges h xs a
   pub images : (e : ℕ) (xs : List ℕ) → Limits e xs → InImage e xs
-  pub stores : (s : List ℕ) (p : ℕ) (r : List ℕ) → Gathered s p r → InCells (plainPage (read s .plain .counts) p) r
+  pub stores : (s : List ℕ) (p : ℕ) (r : List ℕ) → Gathered s p r → InCells (plainPage (listIn s) p) r
   -- 'An image is accepted exactly when it is what the writer makes of some list, and that list reads back'
   pub accepted-when : (s : List ℕ) → (accepted s ≡ true → (e : ℕ) × (xs : List ℕ) × IsImage s e xs) ×
       ((e : ℕ) × (xs : List ℕ) × IsImage s e xs → accepted s ≡ true)
@@ -119,5 +119,5 @@ pub record Demand2 : Type 0 where
   pub writes : (e : ℕ) (xs out : List ℕ) → Limits e xs → length (image e xs) ≤ length out → Written (writeCall e xs out) (image e xs) out
   pub only-these : (e : ℕ) (xs out : List ℕ) (n : ℕ) → writeCall e xs out .reply ≡ given n → HasRoom e xs out n
   -- 'freeze, which writes the image of a store's list'
-  pub freezes : (s : List ℕ) (e : ℕ) (out : List ℕ) → sound s ≡ true → Limits e (read s .plain .counts)
-      → length (image e (read s .plain .counts)) ≤ length out → Written (freezeCall e s out) (image e (read s .plain .counts)) out
+  pub freezes : (s : List ℕ) (e : ℕ) (out : List ℕ) → sound s ≡ true → Limits e (listIn s)
+      → length (image e (listIn s)) ≤ length out → Written (freezeCall e s out) (image e (listIn s)) out

@@ -8,10 +8,9 @@ use native.Mathlib.Omega.{arith}
 use lib.ListN.{length}
 use lib.Pow.{pow-add, pow-mono, pow-pos}
 use Rattle.lists.specs.Lists.{window}
-use Rattle.bits.specs.Numbers.{numberAt}
 use Rattle.image.specs.Image.{page, pages}
 use Rattle.image.proofs.PageLaws.{pages-few, pages-tight}
-use Rattle.store.specs.Reading.{read}
+use Rattle.store.specs.Reading.{listIn, pagesOf}
 use Rattle.store.specs.Sound.{sound}
 use Rattle.store.proofs.SoundFacts.{facts}
 use Rattle.freeze.proofs.Listing.{window-in}
@@ -59,11 +58,11 @@ counts-in e m b q xs cs em i ec =
     ∙ ap (λ (z : ℕ). window xs (z * q) (2 ^ e)) em
 
 -- the block's first page of the store is one
-pub first-in : (s : List ℕ) (e m w P b q n : ℕ) → sound s ≡ true → Sizes m w → m ≡ 2 ^ e → P ≡ numberAt s 2 2 → q ≡ w * b
-    → n ≡ pages e (length (read s .plain .counts)) → q < n → (4 * b < P) × (P ≤ 1024)
+pub first-in : (s : List ℕ) (e m w P b q n : ℕ) → sound s ≡ true → Sizes m w → m ≡ 2 ^ e → P ≡ pagesOf s → q ≡ w * b
+    → n ≡ pages e (length (listIn s)) → q < n → (4 * b < P) × (P ≤ 1024)
 first-in s e m w P b q n h z em ep eq en l =
     let f = facts s h in
-    let t : m * q < length (read s .plain .counts) = rw em (pages-tight e (length (read s .plain .counts)) q (omega arith)) in
+    let t : m * q < length (listIn s) = rw em (pages-tight e (length (listIn s)) q (omega arith)) in
     let x : m * q ≡ 256 * b = ap (λ (y : ℕ). m * y) eq ∙ omega (arith, ap (λ (y : ℕ). y * b) (z .whole)) in
     (omega (arith, f .hours-are, f .hours-fit), omega (arith, f .pages-high))
 

@@ -9,7 +9,7 @@ use lib.Dec.{leb}
 use borrow.Author.Tests.{le-leb}
 use Rattle.lists.specs.Lists.{pick, sum}
 use Rattle.bits.specs.Numbers.{numberAt}
-use Rattle.store.specs.Reading.{read}
+use Rattle.store.specs.Reading.{listIn}
 use Rattle.store.specs.Sound.{sound}
 use Rattle.store.proofs.SoundFacts.{facts}
 use Rattle.image.specs.Calls.{Wrote, lengthCall, unwritten, writeCall}
@@ -21,7 +21,7 @@ use Rattle.freeze.specs.Freeze.{freezeCall}
 pub long-enough : (s : List ℕ) → sound s ≡ true → 16 ≤ length s
 long-enough s e = omega (arith, facts s e .long)
 
-pub hours-are : (s : List ℕ) → sound s ≡ true → (n : ℕ) → n ≡ numberAt s 12 4 → length (read s .plain .counts) ≡ n
+pub hours-are : (s : List ℕ) → sound s ≡ true → (n : ℕ) → n ≡ numberAt s 12 4 → length (listIn s) ≡ n
 hours-are s e n q = sym (q ∙ facts s e .hours-are)
 
 -- ---- the call
@@ -29,19 +29,19 @@ pub freeze-10 : (e : ℕ) (s out : List ℕ) → sound s ≡ false → record { 
 unfolding freezeCall pick unwritten
 freeze-10 e s out h = rw h
 
-pub freeze-sound : (e : ℕ) (s out : List ℕ) → sound s ≡ true → writeCall e (read s .plain .counts) out ≡ freezeCall e s out
+pub freeze-sound : (e : ℕ) (s out : List ℕ) → sound s ≡ true → writeCall e (listIn s) out ≡ freezeCall e s out
 unfolding freezeCall pick
 freeze-sound e s out h = rw h
 
 -- 2 and 3 never come: past 10 only the page size is refused before the buffer
 pub only-page-size : (e : ℕ) (s : List ℕ) → sound s ≡ true
-    → lengthCall e (read s .plain .counts) ≡ pick (leb 2 e && leb e 8) (given (length (image e (read s .plain .counts)))) (refused 1)
+    → lengthCall e (listIn s) ≡ pick (leb 2 e && leb e 8) (given (length (image e (listIn s)))) (refused 1)
 unfolding lengthCall pick
 only-page-size e s h =
     let f = facts s h in
     rw (
-      le-leb (length (read s .plain .counts)) 65536 (omega (arith, f .hours-are, f .hours-fit, f .pages-high)),
-      le-leb (sum (read s .plain .counts)) 4294967295 (f .total-fits),
+      le-leb (length (listIn s)) 65536 (omega (arith, f .hours-are, f .hours-fit, f .pages-high)),
+      le-leb (sum (listIn s)) 4294967295 (f .total-fits),
     )
 
 -- 'A refusal is its number alone; no byte changes.'
@@ -50,8 +50,8 @@ unfolding freezeCall pick unwritten
 freeze-refused e s out k = go (sound s)
   where
     W : Wrote
-    W = writeCall e (read s .plain .counts) out
+    W = writeCall e (listIn s) out
 
     go : (b : Bool) → pick b W (unwritten out 10) .reply ≡ refused k → pick b W (unwritten out 10) .bytes ≡ out
-    go true q = write-refused e (read s .plain .counts) out k q
+    go true q = write-refused e (listIn s) out k q
     go false q = refl

@@ -22,7 +22,7 @@ use Rattle.pages.specs.Gathered.{Gathered}
 use Rattle.pages.proofs.Coding.{code-exact, tree-at}
 use Rattle.pages.proofs.SoundPage.{sum-same}
 use Rattle.store.specs.Code.Hours.{OfPage}
-use Rattle.store.specs.Reading.{read}
+use Rattle.store.specs.Reading.{listIn}
 use Rattle.store.proofs.Holds.{page-length}
 
 -- nothing is put yet
@@ -89,10 +89,10 @@ block-is xs l r P first k h ek el er =
 
 -- a page as it is decoded
 pub page-decoded : {s : List ℕ} {P p t k : ℕ} {code : List ℕ} → OfPage s P p t k → Gathered s p code
-    → (exact 6 t (bits code) 0 ≡ true) × (counts 6 t (bits code) 0 ≡ page (read s .plain .counts) p)
+    → (exact 6 t (bits code) 0 ≡ true) × (counts 6 t (bits code) 0 ≡ page (listIn s) p)
 page-decoded {s} {P} {p} {t} {k} {code} o g =
-    let ys : List ℕ = page (read s .plain .counts) p in
-    let n : length ys ≡ 64 = page-length (read s .plain .counts) p in (
+    let ys : List ℕ = page (listIn s) p in
+    let n : length ys ≡ 64 = page-length (listIn s) p in (
       code-exact code ys _ t n (sum-same o) (g .code-is),
       ap (λ (z : ℕ). counts 6 z (bits code) 0) (sum-same o) ∙ counts-tree 6 ys (bits code) 0 n (tree-at code ys _ (g .code-is)),
     )

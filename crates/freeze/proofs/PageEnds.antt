@@ -14,7 +14,6 @@ use Rattle.lists.specs.Lists.{reading, sum}
 use Rattle.lists.proofs.Pages.{reading-within}
 use Rattle.lists.proofs.Sums.{sum-snoc, sum-take-le}
 use Rattle.bits.specs.Bits.{bits}
-use Rattle.bits.specs.Numbers.{numberAt}
 use Rattle.tree_walk.specs.Code.Answers.{walkAnswer}
 use Rattle.tree.specs.Read.{Found, walk}
 use Rattle.tree.proofs.WalkLaws.{walk-tree}
@@ -28,7 +27,7 @@ use Rattle.pages.proofs.Prefix.{reading-next}
 use Rattle.pages.proofs.SoundPage.{sum-same}
 use Rattle.store.specs.Code.Hours.{OfPage}
 use Rattle.store.specs.Plain.{page as storePage}
-use Rattle.store.specs.Reading.{read}
+use Rattle.store.specs.Reading.{listIn, pagesOf}
 use Rattle.store.specs.Sound.{sound}
 use Rattle.store.proofs.Holds.{page-length}
 use Rattle.store.proofs.SoundFacts.{facts}
@@ -56,11 +55,11 @@ unfolding walkAnswer
 told all x c f q = rw q (omega arith)
 
 pub walked-to : {s : List ℕ} {P p t k : ℕ} {code : List ℕ} → OfPage s P p t k → Gathered s p code → (all i w : ℕ)
-    → all ≡ reading (read s .plain .counts) (64 * p) → i < 64 → w ≡ walkAnswer all 1 (walk 6 t (bits code) 0 i)
-    → w ≡ reading (read s .plain .counts) (64 * p + (i + 1))
+    → all ≡ reading (listIn s) (64 * p) → i < 64 → w ≡ walkAnswer all 1 (walk 6 t (bits code) 0 i)
+    → w ≡ reading (listIn s) (64 * p + (i + 1))
 unfolding storePage
 walked-to {s} {P} {p} {t} {k} {code} o g all i w ea l q =
-    let xs : List ℕ = read s .plain .counts in
+    let xs : List ℕ = listIn s in
     let ys : List ℕ = storePage xs p in
     let n : length ys ≡ 64 = page-length xs p in
     let f : walk 6 t (bits code) 0 i ≡ Found.found (sum (take i ys)) (getD ys i 0) =
@@ -105,14 +104,14 @@ ahead e m p end n d em q l k =
 pub power-low : (e m : ℕ) → m ≡ 2 ^ e → e ≤ 8 → (0 < m) × (m ≤ 256)
 power-low e m q l = rw q (pow-pos e, pow-mono {i = e} {j = 8} l)
 
-pub all-next : {s : List ℕ} {P p t k : ℕ} (all : ℕ) → OfPage s P p t k → all ≡ reading (read s .plain .counts) (64 * p)
-    → all + t ≡ reading (read s .plain .counts) (64 * (p + 1))
-all-next {s} {P} {p} {t} all o q = ap₂ _+_ q (sum-same o) ∙ sym (reading-next (read s .plain .counts) p)
+pub all-next : {s : List ℕ} {P p t k : ℕ} (all : ℕ) → OfPage s P p t k → all ≡ reading (listIn s) (64 * p)
+    → all + t ≡ reading (listIn s) (64 * (p + 1))
+all-next {s} {P} {p} {t} all o q = ap₂ _+_ q (sum-same o) ∙ sym (reading-next (listIn s) p)
 
 -- ---- behind the last page of the store
 module _ (s : List ℕ) (e : sound s ≡ true) where
   abbrev xs : List ℕ
-  xs = read s .plain .counts
+  xs = listIn s
 
   pub total-fits : sum xs ≤ 4294967295
   total-fits = facts s e .total-fits
@@ -120,14 +119,14 @@ module _ (s : List ℕ) (e : sound s ≡ true) where
   pub reading-fits : (i : ℕ) → reading xs i ≤ 4294967295
   reading-fits i = omega (arith, sum-take-le i xs, total-fits)
 
-  hours-in : length xs ≤ 64 * numberAt s 2 2
+  hours-in : length xs ≤ 64 * pagesOf s
   hours-in = omega (arith, facts s e .hours-are, facts s e .hours-fit)
 
-  pub behind : (p n i all : ℕ) → n ≡ numberAt s 2 2 → n ≤ p → all ≡ reading xs (64 * p) → 64 * p < i → all ≡ reading xs i
+  pub behind : (p n i all : ℕ) → n ≡ pagesOf s → n ≤ p → all ≡ reading xs (64 * p) → 64 * p < i → all ≡ reading xs i
   behind p n i all q l a k =
       a ∙ ap sum (take-all (64 * p) xs (omega (arith, hours-in)) ∙ sym (take-all i xs (omega (arith, hours-in))))
 
-  pub last-page : (h p n d k : ℕ) → n ≡ numberAt s 2 2 → n ≤ p → k ≡ pages h (length xs) → 64 * p < 2 ^ h * (d + 1) → k ≤ d + 1
+  pub last-page : (h p n d k : ℕ) → n ≡ pagesOf s → n ≤ p → k ≡ pages h (length xs) → 64 * p < 2 ^ h * (d + 1) → k ≤ d + 1
   last-page h p n d k q l ek a = go (decLe k (d + 1))
     where
       go : Dec (k ≤ d + 1) → k ≤ d + 1

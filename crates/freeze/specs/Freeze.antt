@@ -2,10 +2,10 @@
 use mathlib.Core.List.{List}
 use Prim.Native.Nat.{ℕ}
 use Rattle.lists.specs.Lists.{pick}
-use Rattle.store.specs.Reading.{read}
+use Rattle.store.specs.Reading.{listIn}
 use Rattle.store.specs.Sound.{sound}
 use Rattle.image.specs.Calls.{Wrote, unwritten, writeCall}
 
 -- 10, 'not sound'; then what write answers and leaves for the store's list: 1 and 4, for 2 and 3 never come (`only-page-size`)
 unfoldable pub freezeCall : ℕ → List ℕ → List ℕ → Wrote
-freezeCall e s out = pick (sound s) (writeCall e (read s .plain .counts) out) (unwritten out 10)
+freezeCall e s out = pick (sound s) (writeCall e (listIn s) out) (unwritten out 10)

@@ -7,14 +7,13 @@ ghost use mathlib.Core.Path.{_≡_};
 ghost use Prim.Native.Nat.{_*_, _<_};
 ghost use lib.ListN.{replicate};
 ghost use Rattle.lists.specs.Lists.{window};
-ghost use Rattle.bits.specs.Numbers.{numberAt};
-ghost use Rattle.store.specs.Reading.{read};
+ghost use Rattle.store.specs.Reading.{listIn, pagesOf};
 ghost use Rattle.store.specs.Sound.{sound};
 
 // Puts the counts of the 256 hours from page first of the store on into a list of zeros. Behind the last page of the store they stay zeros.
 pub(crate) fn unpack(s: &[u8], pages: usize, first: usize, list: &mut [u32])
-    requires { ⌜ (sound (now s) ≡ true) × (pages ≡ numberAt (now s) 2 2) × (first < pages) × (now list ≡ replicate 256 0) ⌝ }
-    ensures { λ _. ⌜ now (list .exit) ≡ window (read (now (s .entry)) .plain .counts) (64 * first) 256 ⌝ }
+    requires { ⌜ (sound (now s) ≡ true) × (pages ≡ pagesOf (now s)) × (first < pages) × (now list ≡ replicate 256 0) ⌝ }
+    ensures { λ _. ⌜ now (list .exit) ≡ window (listIn (now (s .entry))) (64 * first) 256 ⌝ }
 {
     let some = lists::smaller(pages - first, 4);
     let mut j = 0;

@@ -12,7 +12,7 @@ use image_steps::plan::Planned;
 use image_steps::plan::size;
 ghost use mathlib.Core.Bool.{true};
 ghost use mathlib.Core.Path.{_≡_};
-ghost use Rattle.store.specs.Reading.{read};
+ghost use Rattle.store.specs.Reading.{listIn};
 ghost use Rattle.store.specs.Sound.{sound};
 ghost use Rattle.image.specs.Calls.{writeCall};
 ghost use Rattle.image_steps.specs.Wrote.{wrote};
@@ -21,7 +21,7 @@ ghost use Rattle.freeze.specs.Freeze.{freezeCall};
 // Writes the image of a sound store's list.
 fn freeze_list(s: &[u8], e: u32, out: &mut [u8]) -> Answer
     requires { ⌜ sound (now s) ≡ true ⌝ }
-    ensures { λ r. ⌜ wrote r (now (out .exit)) ≡ writeCall e (read (now (s .entry)) .plain .counts) (now (out .entry)) ⌝ }
+    ensures { λ r. ⌜ wrote r (now (out .exit)) ≡ writeCall e (listIn (now (s .entry))) (now (out .entry)) ⌝ }
 {
     match layout_of(s, e) {
         Planned::Refused(k) => Answer::Refused(k),

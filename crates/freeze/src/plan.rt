@@ -12,8 +12,7 @@ use store::header::Header;
 ghost use mathlib.Core.Bool.{true};
 ghost use mathlib.Core.Path.{_≡_};
 ghost use Prim.Native.Nat.{_≤_};
-ghost use Rattle.bits.specs.Numbers.{numberAt};
-ghost use Rattle.store.specs.Reading.{read};
+ghost use Rattle.store.specs.Reading.{listIn, pagesOf};
 ghost use Rattle.store.specs.Sound.{sound};
 ghost use Rattle.image_steps.specs.Code.Planning.{Drafted, Planned as PlannedOf};
 ghost use Rattle.freeze.specs.Code.Steps.{Within};
@@ -21,7 +20,7 @@ ghost use Rattle.freeze.specs.Code.Steps.{Within};
 // Adds the pages up to page number end of the image, which end in page p of the store; all is the reading at the start of page p.
 fn add_within(s: &[u8], e: u32, p: usize, all: u64, end: usize, plan: Plan) -> Plan
     requires { ⌜ Within (now s) e p all end plan ⌝ }
-    ensures { λ r. ⌜ Drafted e (read (now (s .entry)) .plain .counts) r × (end ≤ r .done) ⌝ }
+    ensures { λ r. ⌜ Drafted e (listIn (now (s .entry))) r × (end ≤ r .done) ⌝ }
 {
     let m = reserve::power(e) as usize;
     let own = entry_of(s, p);
@@ -37,8 +36,8 @@ fn add_within(s: &[u8], e: u32, p: usize, all: u64, end: usize, plan: Plan) -> P
 
 // Adds all pages to a plan that has none. An image's page may end behind the last page of the store.
 fn add_pages(s: &[u8], e: u32, pages: usize, plan: Plan) -> Plan
-    requires { ⌜ (sound (now s) ≡ true) × (pages ≡ numberAt (now s) 2 2) × Drafted e (read (now s) .plain .counts) plan ⌝ }
-    ensures { λ r. ⌜ Drafted e (read (now (s .entry)) .plain .counts) r × (r .pages ≤ r .done) ⌝ }
+    requires { ⌜ (sound (now s) ≡ true) × (pages ≡ pagesOf (now s)) × Drafted e (listIn (now s)) plan ⌝ }
+    ensures { λ r. ⌜ Drafted e (listIn (now (s .entry))) r × (r .pages ≤ r .done) ⌝ }
 {
     let m = reserve::power(e) as usize;
     let mut next = plan;
@@ -60,7 +59,7 @@ fn add_pages(s: &[u8], e: u32, pages: usize, plan: Plan) -> Plan
 // The layout of the image of a sound store's list, or why it has none.
 pub(crate) fn layout_of(s: &[u8], e: u32) -> Planned
     requires { ⌜ sound (now s) ≡ true ⌝ }
-    ensures { λ r. ⌜ PlannedOf e (read (now (s .entry)) .plain .counts) r ⌝ }
+    ensures { λ r. ⌜ PlannedOf e (listIn (now (s .entry))) r ⌝ }
 {
     let h = Header::of(s);
     match start(e, h.hours as u64) {

@@ -11,7 +11,7 @@ ghost use mathlib.Core.Path.{_≡_};
 ghost use Prim.Native.Nat.{_+_, _-_, _*_, _^_, min};
 ghost use Rattle.lists.specs.Lists.{splice};
 ghost use Rattle.image.specs.Image.{image};
-ghost use Rattle.store.specs.Reading.{read};
+ghost use Rattle.store.specs.Reading.{listIn};
 ghost use Rattle.store.specs.Sound.{sound};
 ghost use Rattle.image_steps.specs.Code.Writing.{Laid, Room};
 ghost use Rattle.freeze.specs.Code.Steps.{Blocked};
@@ -21,7 +21,7 @@ fn put_block(out: &mut [u8], s: &[u8], r: Layout, pages: usize, b: usize, at: Pl
     requires { ⌜ Blocked (now out) (now s) r pages b at ⌝ }
     ensures { λ next. ⌜ (next .page ≡ min (2 ^ (8 - r .e) * (b + 1)) (r .pages))
         × ((a : Blocked (now (out .entry)) (now (s .entry)) r pages b at)
-        → Laid (read (now (s .entry)) .plain .counts) (a .first) (now (out .exit)) r next) ⌝ }
+        → Laid (listIn (now (s .entry))) (a .first) (now (out .exit)) r next) ⌝ }
 {
     let m = reserve::power(r.e) as usize;
     let many = reserve::power(8 - r.e) as usize;
@@ -37,8 +37,8 @@ fn put_block(out: &mut [u8], s: &[u8], r: Layout, pages: usize, b: usize, at: Pl
 
 // Writes the image, block by block.
 pub(crate) fn put_image(out: &mut [u8], s: &[u8], r: Layout)
-    requires { ⌜ (sound (now s) ≡ true) × Room (read (now s) .plain .counts) r (now out) ⌝ }
-    ensures { λ _. ⌜ now (out .exit) ≡ splice (now (out .entry)) 0 (image (r .e) (read (now (s .entry)) .plain .counts)) ⌝ }
+    requires { ⌜ (sound (now s) ≡ true) × Room (listIn (now s)) r (now out) ⌝ }
+    ensures { λ _. ⌜ now (out .exit) ≡ splice (now (out .entry)) 0 (image (r .e) (listIn (now (s .entry)))) ⌝ }
 {
     let h = Header::of(s);
     let mut at = begin(out, r);

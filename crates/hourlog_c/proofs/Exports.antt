@@ -9,7 +9,7 @@ use Rattle.lists.specs.Lists.{pick}
 use Rattle.store.specs.Plain.{Call}
 use Rattle.answers.specs.Store.{Answer, answered, changed, refused as turned}
 use Rattle.store.specs.Call.{Called, Started, call, freshCall}
-use Rattle.store.specs.Reading.{read}
+use Rattle.store.specs.Reading.{listIn}
 use Rattle.store.specs.Sound.{sound}
 use Rattle.store.proofs.Sizes.{Small as SmallAnswer, call-small, fresh-small}
 use Rattle.image.specs.Calls.{Wrote, lengthCall, unwritten, writeCall}
@@ -52,8 +52,8 @@ freeze-small : (e : ℕ) (s out : List ℕ) → SmallReply (freezeCall e s out .
 unfolding freezeCall pick unwritten
 freeze-small e s out = go (sound s)
   where
-    go : (b : Bool) → SmallReply (pick b (writeCall e (read s .plain .counts) out) (unwritten out 10) .reply)
-    go true = write-small e (read s .plain .counts) out
+    go : (b : Bool) → SmallReply (pick b (writeCall e (listIn s) out) (unwritten out 10) .reply)
+    go true = write-small e (listIn s) out
     go false = omega arith
 
 -- ---- the store

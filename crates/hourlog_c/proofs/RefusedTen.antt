@@ -12,7 +12,7 @@ use Rattle.store.specs.Plain.{Call}
 use Rattle.answers.specs.Store.{Answer, answered, changed, refused as turned}
 use Rattle.store.specs.Call.{call}
 use Rattle.store.specs.Items.{Items}
-use Rattle.store.specs.Reading.{read}
+use Rattle.store.specs.Reading.{listIn}
 use Rattle.store.specs.Sound.{sound}
 use Rattle.store.proofs.ItemLaws.{items-sound, sound-items}
 use Rattle.store.proofs.Refusals.{ten-exactly}
@@ -64,7 +64,7 @@ unfolding writeCall putAfter unwritten pick
 freeze-exactly e s out = (only (sound s) refl, λ q. sym (ap (λ (z : Wrote). z .reply) (freeze-10 e s out q)))
   where
     xs : List ℕ
-    xs = read s .plain .counts
+    xs = listIn s
 
     sized : (b : Bool) → putAfter (pick b (given (length (image e xs))) (refused 1)) out (image e xs) .reply ≡ refused 10 → ⊥
     sized true q = put-not-ten out (image e xs) q

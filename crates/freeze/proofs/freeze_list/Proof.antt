@@ -1,7 +1,7 @@
 -- `freeze::freeze_list` meets its contract. Assumes nothing.
 use mathlib.Core.List.{List}
 use Prim.Native.Nat.{ℕ}
-use Rattle.store.specs.Reading.{read}
+use Rattle.store.specs.Reading.{listIn}
 use Rattle.image_steps.proofs.Answering.{Sized, laying, room, sized, write-no, write-short, write-yes}
 use borrow.Author.Needs.{needs}
 use Rattle.freeze.proofs.freeze_list.Statement.{statement}
@@ -13,7 +13,7 @@ module _ (c : tie.After-size) where
   call = c .before .before .before .before .before .before .before
 
   abbrev xs : List ℕ
-  xs = read (call .args .s .now) .plain .counts
+  xs = listIn (call .args .s .now)
 
   size-is : Sized (call .args .e) xs (c .before .before .r .given .0 .0) (c .size .result)
   size-is =
@@ -34,7 +34,7 @@ size-requires : tie.Need-size-requires
 size-requires c κs =
     let n = c .before .before .before in
     let a = n .before .before .before .args in
-    laying (a .e) (read (a .s .now) .plain .counts) (n .layout-of .result) (c .before .r .given .0 .0) (n .layout-of .ensures) (c .before .r .given .1)
+    laying (a .e) (listIn (a .s .now)) (n .layout-of .result) (c .before .r .given .0 .0) (n .layout-of .ensures) (c .before .r .given .1)
 
 returns : tie.Need-returns
 returns c =
@@ -52,7 +52,7 @@ returns-2 : tie.Need-returns-2
 returns-2 c =
     let n = c .before .before .before in
     let a = n .before .before .before .args in
-    write-no (a .e) (read (a .s .now) .plain .counts) (a .out .now) (n .layout-of .result) (c .before .k .given .0 .0) (n .layout-of .ensures) (c .before .k .given .1)
+    write-no (a .e) (listIn (a .s .now)) (a .out .now) (n .layout-of .result) (c .before .k .given .0 .0) (n .layout-of .ensures) (c .before .k .given .1)
 
 same-length : tie.Need-same-length
 same-length c = search needs

@@ -4,8 +4,7 @@ use mathlib.Core.List.{List}
 use mathlib.Core.Path.{_≡_}
 use Prim.Native.Nat.{ℕ, _+_, _-_, _*_, _^_, _≤_, _<_}
 use Rattle.lists.specs.Lists.{reading}
-use Rattle.bits.specs.Numbers.{numberAt}
-use Rattle.store.specs.Reading.{read}
+use Rattle.store.specs.Reading.{listIn, pagesOf}
 use Rattle.store.specs.Sound.{sound}
 use Rattle.image_steps.specs.Code.Planning.{Drafted}
 use Rattle.image_steps.specs.Code.Writing.{Laid}
@@ -16,9 +15,9 @@ use Rattle.image_steps.specs.declared.put.Place.{Place}
 -- the next page of the image of a sound store's list ends in page p of the store or behind it, and page number end - 1 in p or before it
 pub record Within (s : List ℕ) (e p all end : ℕ) (r : Plan) : Type 0 where
   pub is-sound : sound s ≡ true
-  pub inside : p < numberAt s 2 2
-  pub all-is : all ≡ reading (read s .plain .counts) (64 * p)
-  pub drafted : Drafted e (read s .plain .counts) r
+  pub inside : p < pagesOf s
+  pub all-is : all ≡ reading (listIn s) (64 * p)
+  pub drafted : Drafted e (listIn s) r
   pub ahead : r .done < r .pages → 64 * p < 2 ^ e * (r .done + 1)
   pub end-one : end ≤ r .pages
   pub end-in : 2 ^ e * end ≤ 64 * p + 64
@@ -27,7 +26,7 @@ pub record Within (s : List ℕ) (e p all end : ℕ) (r : Plan) : Type 0 where
 pub record Blocked (out s : List ℕ) (r : Layout) (pages b : ℕ) (at : Place) : Type 0 where
   pub first : List ℕ
   pub is-sound : sound s ≡ true
-  pub pages-are : pages ≡ numberAt s 2 2
-  pub so-far : Laid (read s .plain .counts) first out r at
+  pub pages-are : pages ≡ pagesOf s
+  pub so-far : Laid (listIn s) first out r at
   pub more : at .page < r .pages
   pub at-is : at .page ≡ 2 ^ (8 - r .e) * b

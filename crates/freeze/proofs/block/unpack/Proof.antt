@@ -4,7 +4,6 @@ use mathlib.Core.Path.{refl, ap, _∙_}
 use mathlib.Core.List.{List}
 use Prim.Native.Nat.{_<_}
 use lib.ListN.{length-replicate}
-use Rattle.bits.specs.Numbers.{numberAt}
 use Rattle.pages.proofs.Coding.{lies}
 use Rattle.pages.proofs.SoundPage.{as-said, sum-small}
 use Rattle.store.proofs.Holds.{page-length}
@@ -16,13 +15,13 @@ use native.Mathlib.Omega.{arith}
 use lib.ListN.{length}
 use Rattle.lists.specs.Lists.{concat, splice, tabulate}
 use Rattle.store.specs.Plain.{page}
-use Rattle.store.specs.Reading.{read}
+use Rattle.store.specs.Reading.{listIn, pagesOf}
 use Rattle.freeze.proofs.block.unpack.Statement.{statement}
 use Rattle.freeze.proofs.block.unpack.Tie as tie
 
 abbrev Inv-loop : tie.InvT-loop
 Inv-loop s pages first list₀ some j₀ list j =
-    (j ≤ some) × (length list ≡ length list₀) × (list ≡ splice list₀ 0 (concat (tabulate j (λ (i : ℕ). page (read s .plain .counts) (first + i)))))
+    (j ≤ some) × (length list ≡ length list₀) × (list ≡ splice list₀ 0 (concat (tabulate j (λ (i : ℕ). page (listIn s) (first + i)))))
 
 abbrev μ-loop : tie.MeasureT-loop
 μ-loop s pages first list₀ some j₀ list j = some - j
@@ -41,10 +40,10 @@ module _ (c : tie.In-loop Inv-loop μ-loop) where
   abbrev call : tie.Start Inv-loop μ-loop
   call = c .before .before .before .before .before
 
-  inside : call .args .first + c .before .loop .j < numberAt (call .args .s .now) 2 2
+  inside : call .args .first + c .before .loop .j < pagesOf (call .args .s .now)
   inside = omega (arith, c .loop-test .taken, c .before .before .smaller .ensures, call .pre .1, call .pre .2)
 
-  few : numberAt (call .args .s .now) 2 2 ≤ 1024
+  few : pagesOf (call .args .s .now) ≤ 1024
   few = facts (call .args .s .now) (call .pre .0) .pages-high
 
   long : length (call .args .list .now) ≡ 256
@@ -89,8 +88,8 @@ loop-again c =
     let n = c .before .before .before .before .before .before .before in
     let l = n .before .loop in
     let a = call n .args in
-    let f : ℕ → List ℕ = λ i. page (read (a .s .now) .plain .counts) (a .first + i) in
-    let long-f : (i : ℕ) → length (f i) ≡ 64 = λ i. page-length (read (a .s .now) .plain .counts) (a .first + i) in
+    let f : ℕ → List ℕ = λ i. page (listIn (a .s .now)) (a .first + i) in
+    let long-f : (i : ℕ) → length (f i) ≡ 64 = λ i. page-length (listIn (a .s .now)) (a .first + i) in
     let e = one-put (a .list .now) (l .list) _ f (l .j) long-f (omega (arith, short n, long n)) (l .inv .2)
     (c .before .before .decode .ensures ∙ ap (λ z. splice (l .list) (64 * l .j) z) (page-decoded (c .before .before .before .before .before .before .entry-of .ensures) (c .before .before .before .before .before .gather-at .ensures) .1)) in
     (omega (arith, n .loop-test .taken), put-length (a .list .now) _ f (l .j + 1) long-f (omega (arith, short n, long n)) e, e)
@@ -104,7 +103,7 @@ returns c =
     let a = c .before .before .before .before .before in
     let k : l .j ≡ c .before .before .smaller .result = omega (arith, l .inv .0, c .loop-test .left) in
     let f = facts (a .args .s .now) (a .pre .0) in
-    block-is (read (a .args .s .now) .plain .counts) (a .args .list .now) (l .list) (a .args .pages) (a .args .first) (l .j)
+    block-is (listIn (a .args .s .now)) (a .args .list .now) (l .list) (a .args .pages) (a .args .first) (l .j)
     (omega (arith, f .hours-are, f .hours-fit, a .pre .1)) (k ∙ c .before .before .smaller .ensures) (a .pre .3) (l .inv .2)
 
 pub unpack-spec : {M : Type 1} → statement M

@@ -2,7 +2,6 @@
 use Prim.Native.Nat.{ℕ}
 use native.Mathlib.Nat.{mul-le-mul-left}
 use lib.Pow.{pow-pos}
-use Rattle.bits.specs.Numbers.{numberAt}
 use Rattle.pages.proofs.Prefix.{reading-none}
 use Rattle.pages.proofs.SoundPage.{sum-small}
 use Rattle.store.proofs.SoundFacts.{facts}
@@ -14,14 +13,14 @@ use mathlib.Core.Path.{_≡_}
 use Prim.Native.Nat.{_+_, _-_, _*_, _^_, _≤_, _<_}
 use native.Mathlib.Omega.{arith}
 use Rattle.lists.specs.Lists.{reading}
-use Rattle.store.specs.Reading.{read}
+use Rattle.store.specs.Reading.{listIn, pagesOf}
 use Rattle.image_steps.specs.Code.Planning.{Drafted}
 use Rattle.freeze.proofs.plan.add_pages.Statement.{statement}
 use Rattle.freeze.proofs.plan.add_pages.Tie as tie
 
 abbrev Inv-loop : tie.InvT-loop
 Inv-loop s e pages m next₀ all₀ p₀ next all p =
-    (p ≤ pages) × (all ≡ reading (read s .plain .counts) (64 * p)) × Drafted e (read s .plain .counts) next × (next .done < next .pages → 64 * p < 2 ^ e * (next .done + 1))
+    (p ≤ pages) × (all ≡ reading (listIn s) (64 * p)) × Drafted e (listIn s) next × (next .done < next .pages → 64 * p < 2 ^ e * (next .done + 1))
 
 abbrev μ-loop : tie.MeasureT-loop
 μ-loop s e pages m next₀ all₀ p₀ next all p = pages - p
@@ -36,7 +35,7 @@ loop-holds : tie.Need-loop-holds Inv-loop μ-loop
 loop-holds c =
     let a = c .before .before in (
       omega arith,
-      reading-none (read (a .args .s .now) .plain .counts),
+      reading-none (listIn (a .args .s .now)),
       a .pre .2,
       λ (l : a .args .plan .done < a .args .plan .pages).
           omega (arith, mul-le-mul-left (2 ^ a .args .e) (one-le (a .args .plan .done)), pow-pos (a .args .e)),
@@ -53,7 +52,7 @@ module _ (c : tie.In-loop Inv-loop μ-loop) where
   abbrev p : ℕ
   p = c .before .loop .p
 
-  inside : p < numberAt (call .args .s .now) 2 2
+  inside : p < pagesOf (call .args .s .now)
   inside = omega (arith, c .loop-test .taken, call .pre .1)
 
   few : p < 1024
@@ -124,7 +123,7 @@ module _ (c : tie.After-struct-known3 Inv-loop μ-loop) where
   behind-all : 64 * c .before .before .before .before .loop .p < 2 ^ start .args .e * (plan .done + 1)
   behind-all = c .before .before .before .before .loop .inv .3 (c .before .if1 .taken)
 
-  next-to : To (start .args .e) (read (start .args .s .now) .plain .counts) plan (c .before .before .before .before .loop .all)
+  next-to : To (start .args .e) (listIn (start .args .s .now)) plan (c .before .before .before .before .loop .all)
   next-to =
       to (c .before .before .before .before .loop .all) (c .before .before .before .before .loop .inv .2) (total-fits (start .args .s .now) (start .pre .0))
       (behind (start .args .s .now) (start .pre .0) (c .before .before .before .before .loop .p) (start .args .pages) (2 ^ start .args .e * (plan .done + 1)) (c .before .before .before .before .loop .all)
@@ -133,7 +132,7 @@ module _ (c : tie.After-struct-known3 Inv-loop μ-loop) where
   abbrev awaits : Awaits plan (c .before .before .before .before .loop .all - plan .total)
   awaits = record {
     e = start .args .e;
-    xs = read (start .args .s .now) .plain .counts;
+    xs = listIn (start .args .s .now);
     drafted = c .before .before .before .before .loop .inv .2;
     more = c .before .if1 .taken;
     sum-is = next-to .sum-is;

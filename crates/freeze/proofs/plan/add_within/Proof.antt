@@ -13,14 +13,14 @@ use Rattle.image_steps.proofs.PlanLaws as P
 use Rattle.freeze.proofs.PageEnds.{To, Turn, ends-at, reading-fits, to, total-fits, turn, walked-to}
 use Prim.Native.Nat.{_+_, _-_, _*_, _^_, _≤_, _<_}
 use native.Mathlib.Omega.{arith}
-use Rattle.store.specs.Reading.{read}
+use Rattle.store.specs.Reading.{listIn}
 use Rattle.image_steps.specs.Code.Planning.{Drafted}
 use Rattle.freeze.proofs.plan.add_within.Statement.{statement}
 use Rattle.freeze.proofs.plan.add_within.Tie as tie
 
 abbrev Inv-loop : tie.InvT-loop
 Inv-loop s e p all end m own code next₀ next =
-    Drafted e (read s .plain .counts) next × (next .done < end → 64 * p < 2 ^ e * (next .done + 1))
+    Drafted e (listIn s) next × (next .done < end → 64 * p < 2 ^ e * (next .done + 1))
 
 abbrev μ-loop : tie.MeasureT-loop
 μ-loop s e p all end m own code next₀ next = end - next .done
@@ -83,21 +83,21 @@ module _ (c : tie.After-struct-known3 Inv-loop μ-loop) where
   abbrev top : tie.After-struct-known2 Inv-loop μ-loop
   top = c .before .before .before
 
-  r-is : c .before .walk .result ≡ reading (read (call top .args .s .now) .plain .counts) (2 ^ call top .args .e * (next top .done + 1))
+  r-is : c .before .walk .result ≡ reading (listIn (call top .args .s .now)) (2 ^ call top .args .e * (next top .done + 1))
   r-is =
       let t = at top in
       walked-to (top .before .before .before .before .before .entry-of .ensures) (top .before .before .before .before .gather-at .ensures) (call top .args .all)
       (top .before .before .before .before .before .before .power .result * (next top .done + 1) - 64 * call top .args .p - 1) (c .before .walk .result) (call top .pre .all-is)
       (omega (arith, t .below, t .above)) (c .before .walk .ensures)
-      ∙ ends-at (call top .args .e) _ (call top .args .p) (next top .done) (read (call top .args .s .now) .plain .counts) (top .before .before .before .before .before .before .power .ensures) t
+      ∙ ends-at (call top .args .e) _ (call top .args .p) (next top .done) (listIn (call top .args .s .now)) (top .before .before .before .before .before .before .power .ensures) t
 
-  next-to : To (call top .args .e) (read (call top .args .s .now) .plain .counts) (next top) (c .before .walk .result)
+  next-to : To (call top .args .e) (listIn (call top .args .s .now)) (next top) (c .before .walk .result)
   next-to = to (c .before .walk .result) (top .before .before .before .loop .inv .0) (total-fits (call top .args .s .now) (call top .pre .is-sound)) r-is
 
   abbrev awaits : Awaits (next top) (c .before .walk .result - next top .total)
   awaits = record {
     e = call top .args .e;
-    xs = read (call top .args .s .now) .plain .counts;
+    xs = listIn (call top .args .s .now);
     drafted = top .before .before .before .loop .inv .0;
     more = omega (arith, top .before .if1 .taken, call top .pre .end-one, call top .pre .drafted .pages-are, top .before .before .before .loop .inv .0 .pages-are);
     sum-is = next-to .sum-is;

@@ -1,5 +1,5 @@
 -- `freeze::plan::layout_of` meets its contract. Assumes nothing.
-use Rattle.store.specs.Reading.{read}
+use Rattle.store.specs.Reading.{listIn}
 use Rattle.image_steps.specs.Code.Planning.{Whole}
 use Rattle.image_steps.proofs.PlanLaws.{opened, unopened}
 use Rattle.freeze.proofs.Freezing.{hours-are, long-enough}
@@ -24,7 +24,7 @@ add-pages-requires c κs =
     let s = c .before .before .before in
     let h = s .before .of .ensures in
     let a = c .before .before .before .before .before .before in
-    let xs = read (a .args .s .now) .plain .counts in (
+    let xs = listIn (a .args .s .now) in (
       a .pre,
       h .pages-is,
       opened (a .args .e) (s .before .of .result .hours) xs (s .start .result) (c .before .plan .given .0 .0) (s .start .ensures) (c .before .plan .given .1)
@@ -35,7 +35,7 @@ add-pages-requires c κs =
 abbrev whole : (c : tie.After-add-pages) → Whole (c .add-pages .result)
 whole c =
     let a = c .before .before .before .before .before .before .before .args in
-    record { e = a .e; xs = read (a .s .now) .plain .counts; drafted = c .add-pages .ensures .0; all = c .add-pages .ensures .1 }
+    record { e = a .e; xs = listIn (a .s .now); drafted = c .add-pages .ensures .0; all = c .add-pages .ensures .1 }
 
 finish-requires : tie.Need-finish-requires
 finish-requires c κs = whole c
@@ -45,7 +45,7 @@ returns c =
     let s = c .before .before .before in
     let h = s .before .of .ensures in
     let a = c .before .before .before .before .before .before in
-    let xs = read (a .args .s .now) .plain .counts in
+    let xs = listIn (a .args .s .now) in
     unopened (a .args .e) (s .before .of .result .hours) xs (s .start .result) (c .before .k .given .0 .0) (s .start .ensures) (c .before .k .given .1)
     (hours-are (a .args .s .now) (a .pre) (s .before .of .result .hours) (h .hours-is))
 

@@ -12,7 +12,7 @@ use mathlib.Core.Path.{_≡_}
 use Prim.Native.Nat.{ℕ, _+_, _-_, _*_, _^_, _≤_, _<_}
 use native.Mathlib.Omega.{arith}
 use lib.ListN.{length}
-use Rattle.store.specs.Reading.{read}
+use Rattle.store.specs.Reading.{listIn}
 use Rattle.image_steps.specs.Code.Writing.{Laid}
 use Rattle.freeze.proofs.put.put_block.Statement.{statement}
 use Rattle.freeze.proofs.put.put_block.Tie as tie
@@ -20,7 +20,7 @@ use Rattle.freeze.proofs.put.put_block.Tie as tie
 abbrev Inv-loop : tie.InvT-loop
 Inv-loop out₀ s r pages b m many last counts next₀ out next =
     (many * b ≤ next .page) × (next .page ≤ last) × (length out ≡ length out₀)
-    × ((first : List ℕ) → Laid (read s .plain .counts) first out₀ r next₀ → Laid (read s .plain .counts) first out r next)
+    × ((first : List ℕ) → Laid (listIn s) first out₀ r next₀ → Laid (listIn s) first out r next)
 
 abbrev μ-loop : tie.MeasureT-loop
 μ-loop out₀ s r pages b m many last counts next₀ out next = last - next .page
@@ -48,7 +48,7 @@ module _ (c : tie.After-power2 Inv-loop μ-loop) where
   pages-few : call .args .r .pages ≤ 16384
   pages-few =
       let m = call .pre .so-far .room in
-      omega (arith, m .layout .pages-are, L.pages-few (call .args .r .e) (length (read (call .args .s .now) .plain .counts)) (m .limits .e-low) (m .limits .hours))
+      omega (arith, m .layout .pages-are, L.pages-few (call .args .r .e) (length (listIn (call .args .s .now))) (m .limits .e-low) (m .limits .hours))
 
   few : call .args .b < 16384
   few = blocks-few (c .power2 .result) (call .args .b) (call .args .at .page) (call .args .r .pages) (sized .w-low) at-is (call .pre .more) pages-few
@@ -106,15 +106,15 @@ module _ (c : tie.After-struct-known3 Inv-loop μ-loop) where
       inside (call top .args .b) (place .page) (sized top) (c .before .before .before .before .before .loop .inv .0)
       (omega (arith, c .before .before .before .if1 .taken, c .before .before .before .before .before .before .before .before .before .smaller .ensures))
 
-  abbrev handed : (first : List ℕ) → Laid (read (call top .args .s .now) .plain .counts) first (c .before .before .before .before .before .loop .out) (call top .args .r) place
+  abbrev handed : (first : List ℕ) → Laid (listIn (call top .args .s .now)) first (c .before .before .before .before .before .loop .out) (call top .args .r) place
       → Handed (call top .args .r) place (c .before .before .before .before .before .before .before .unpack .last .1 .1 .1 .0) (top .before .before .power .result * place .page - 256 * call top .args .b) (c .before .before .before .before .before .loop .out)
   handed first a = record {
-    xs = read (call top .args .s .now) .plain .counts;
+    xs = listIn (call top .args .s .now);
     first = first;
     so-far = a;
     more = omega (arith, c .before .before .before .if1 .taken, c .before .before .before .before .before .before .before .before .before .smaller .ensures);
     counts-are =
-        counts-in (call top .args .r .e) (top .before .before .power .result) (call top .args .b) (place .page) (read (call top .args .s .now) .plain .counts) _
+        counts-in (call top .args .r .e) (top .before .before .power .result) (call top .args .b) (place .page) (listIn (call top .args .s .now)) _
         (top .before .before .power .ensures) within (c .before .before .before .before .before .before .before .unpack .ensures);
     near = omega (arith, within .high);
   }

@@ -11,7 +11,7 @@ use mathlib.Core.Path.{_≡_}
 use Prim.Native.Nat.{ℕ, _+_, _-_, _*_, _^_, _≤_, _<_}
 use native.Mathlib.Omega.{arith}
 use lib.ListN.{length}
-use Rattle.store.specs.Reading.{read}
+use Rattle.store.specs.Reading.{listIn}
 use Rattle.image_steps.specs.Code.Writing.{Laid}
 use Rattle.freeze.proofs.put.put_image.Statement.{statement}
 use Rattle.freeze.proofs.put.put_image.Tie as tie
@@ -19,7 +19,7 @@ use Rattle.freeze.proofs.put.put_image.Tie as tie
 abbrev Inv-loop : tie.InvT-loop
 Inv-loop out₀ s r h at₀ b₀ out at b =
     (at .page < r .pages → at .page ≡ 2 ^ (8 - r .e) * b)
-    × ((first : List ℕ) → Laid (read s .plain .counts) first out₀ r at₀ → Laid (read s .plain .counts) first out r at)
+    × ((first : List ℕ) → Laid (listIn s) first out₀ r at₀ → Laid (listIn s) first out r at)
 
 abbrev μ-loop : tie.MeasureT-loop
 μ-loop out₀ s r h at₀ b₀ out at b = r .pages - at .page
@@ -28,7 +28,7 @@ of-requires : tie.Need-of-requires Inv-loop μ-loop
 of-requires c κs = long-enough _ (c .before .before .pre .0)
 
 begin-requires : tie.Need-begin-requires Inv-loop μ-loop
-begin-requires c κs = record { xs = read (c .before .before .before .before .args .s .now) .plain .counts; room = c .before .before .before .before .pre .1 }
+begin-requires c κs = record { xs = listIn (c .before .before .before .before .args .s .now); room = c .before .before .before .before .pre .1 }
 
 loop-holds : tie.Need-loop-holds Inv-loop μ-loop
 loop-holds c = (λ l. omega (arith, c .before .before .begin .ensures .0), λ first a. a)
@@ -38,12 +38,12 @@ module _ (c : tie.After-put-block-arg Inv-loop μ-loop) where
   abbrev call : tie.Start Inv-loop μ-loop
   call = c .before .before .before .before .before .before .before .before .before .before .before .before
 
-  so-far : Laid (read (call .args .s .now) .plain .counts) (call .args .out .now) (c .before .before .before .before .loop .out) (call .args .r) (c .before .before .before .before .loop .at)
+  so-far : Laid (listIn (call .args .s .now)) (call .args .out .now) (c .before .before .before .before .loop .out) (call .args .r) (c .before .before .before .before .loop .at)
   so-far =
       c .before .before .before .before .loop .inv .1 (call .args .out .now)
-      (c .before .before .before .before .before .before .before .begin .ensures .1 (record { xs = read (call .args .s .now) .plain .counts; room = call .pre .1 }))
+      (c .before .before .before .before .before .before .before .begin .ensures .1 (record { xs = listIn (call .args .s .now); room = call .pre .1 }))
 
-  abbrev blocked : (first : List ℕ) → Laid (read (call .args .s .now) .plain .counts) first (c .before .before .before .before .loop .out) (call .args .r) (c .before .before .before .before .loop .at)
+  abbrev blocked : (first : List ℕ) → Laid (listIn (call .args .s .now)) first (c .before .before .before .before .loop .out) (call .args .r) (c .before .before .before .before .loop .at)
       → Blocked (c .before .before .before .before .loop .out) (call .args .s .now) (call .args .r) (c .before .before .before .before .before .before .before .before .before .of .result .pages) (c .before .before .before .before .loop .b) (c .before .before .before .before .loop .at)
   blocked first a = record {
     first = first;
@@ -59,7 +59,7 @@ module _ (c : tie.After-put-block-arg Inv-loop μ-loop) where
       let m = call .pre .1 in
       blocks-few (2 ^ (8 - call .args .r .e)) (c .before .before .before .before .loop .b) (c .before .before .before .before .loop .at .page) (call .args .r .pages) (pow-pos (8 - call .args .r .e))
       (c .before .before .before .before .loop .inv .0 (c .before .if1 .taken)) (c .before .if1 .taken)
-      (omega (arith, m .layout .pages-are, L.pages-few (call .args .r .e) (length (read (call .args .s .now) .plain .counts)) (m .limits .e-low) (m .limits .hours)))
+      (omega (arith, m .layout .pages-are, L.pages-few (call .args .r .e) (length (listIn (call .args .s .now))) (m .limits .e-low) (m .limits .hours)))
 
 put-block-requires : tie.Need-put-block-requires Inv-loop μ-loop
 put-block-requires c κs = blocked c (call c .args .out .now) (so-far c)
@@ -83,14 +83,14 @@ module _ (c : tie.After-end-arg Inv-loop μ-loop) where
   abbrev start : tie.Start Inv-loop μ-loop
   start = c .before .before .before .before .before .before .before .before .before .before .before .before
 
-  whole : Laid (read (start .args .s .now) .plain .counts) (start .args .out .now) (c .before .before .before .before .loop .out) (start .args .r) (c .before .before .before .before .loop .at)
+  whole : Laid (listIn (start .args .s .now)) (start .args .out .now) (c .before .before .before .before .loop .out) (start .args .r) (c .before .before .before .before .loop .at)
   whole =
       c .before .before .before .before .loop .inv .1 (start .args .out .now)
-      (c .before .before .before .before .before .before .before .begin .ensures .1 (record { xs = read (start .args .s .now) .plain .counts; room = start .pre .1 }))
+      (c .before .before .before .before .before .before .before .begin .ensures .1 (record { xs = listIn (start .args .s .now); room = start .pre .1 }))
 
   abbrev filled : Filled (start .args .r) (c .before .before .before .before .loop .out)
   filled = record {
-    xs = read (start .args .s .now) .plain .counts;
+    xs = listIn (start .args .s .now);
     first = start .args .out .now;
     at = c .before .before .before .before .loop .at;
     so-far = whole;
