@@ -12,6 +12,7 @@ ghost use mathlib.Core.Bool.{false};
 ghost use mathlib.Core.Path.{_≡_};
 ghost use Prim.Native.Nat.{_+_, _-_, _*_, _≤_, _<_};
 ghost use Rattle.bits.specs.Bits.{bits};
+ghost use Rattle.reserve_table.specs.Code.Tabled.{Tabled};
 ghost use Rattle.tree.specs.Exact.{clear};
 ghost use Rattle.image.specs.Image.{bytesFor};
 ghost use Rattle.image.specs.Read.{nOf, sOf, lOf, pagesOf, codeAt};
@@ -39,8 +40,8 @@ fn failed() -> Tested
 }
 
 // Tests page p, which is to start at bit start of the code, the root before it being before.
-fn page_test(s: &[u8], h: Head, p: u64, start: u64, before: u64) -> Tested
-    requires { ⌜ Opened (now s) h × (p < pagesOf (now s)) × (start ≤ h .bits) ⌝ }
+fn page_test(s: &[u8], table: &[u8; 512], h: Head, p: u64, start: u64, before: u64) -> Tested
+    requires { ⌜ Opened (now s) h × (p < pagesOf (now s)) × (start ≤ h .bits) × Tabled (now table) ⌝ }
     ensures { λ r. ⌜ Tests (now (s .entry)) p start before r ⌝ }
 {
     let own = root_of(s, h, p);
@@ -59,7 +60,7 @@ fn page_test(s: &[u8], h: Head, p: u64, start: u64, before: u64) -> Tested
     if h.bits < end {
         return failed();
     }
-    if !nodes(s, h.code + (own.end as usize), h.e, sum, size) {
+    if !nodes(s, table, h.code + (own.end as usize), h.e, sum, size) {
         return failed();
     }
     Tested {
@@ -70,8 +71,8 @@ fn page_test(s: &[u8], h: Head, p: u64, start: u64, before: u64) -> Tested
 }
 
 // Whether each page passes, all L bits are used, and the last root is S.
-fn pages_pass(s: &[u8], h: Head) -> bool
-    requires { ⌜ Opened (now s) h ⌝ }
+fn pages_pass(s: &[u8], table: &[u8; 512], h: Head) -> bool
+    requires { ⌜ Opened (now s) h × Tabled (now table) ⌝ }
     ensures { λ r. ⌜ r ≡ pagesFrom (now (s .entry)) (pagesOf (now (s .entry))) 0 0 0 ⌝ }
 {
     let n = h.pages;
@@ -79,7 +80,7 @@ fn pages_pass(s: &[u8], h: Head) -> bool
     let mut end = 0;
     let mut root = 0;
     while p < n {
-        let t = page_test(s, h, p, end, root);
+        let t = page_test(s, table, h, p, end, root);
         if !t.ok {
             return false;
         }
@@ -122,7 +123,8 @@ pub fn check(s: &[u8]) -> Verdict
     let Opening::Image(h) = open_image(s) else {
         return Verdict::Refused(refusal::HEADER);
     };
-    if !pages_pass(s, h) {
+    let table = reserve_table::table();
+    if !pages_pass(s, &table, h) {
         return Verdict::Refused(refusal::BODY);
     }
     if !rest_zero(s, h) {

@@ -1,2 +1,3 @@
 -- Laws.
 pub mod EveryEntry
+pub mod Dense

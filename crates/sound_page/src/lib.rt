@@ -6,6 +6,7 @@ ghost use Prim.Native.Nat.{_*_};
 ghost use lib.ListN.{take};
 ghost use Rattle.lists.specs.Lists.{same};
 ghost use Rattle.bits.specs.Bits.{bits};
+ghost use Rattle.reserve_table.specs.Code.Tabled.{Tabled};
 ghost use Rattle.tree.specs.Read.{counts};
 ghost use Rattle.tree.specs.Exact.{exact};
 ghost use Rattle.store.specs.PageCode.{cells};
@@ -27,15 +28,15 @@ fn hours_fit(code: &[u8], s: u64, p: usize, hours: usize) -> bool
     tree_walk::walk(code, 0, 6, s, (hours - first - 1) as u64, 0, 1) == s
 }
 
-// Whether the bytes of k cells at the front of code are those of page p of sum s.
-pub fn page_fits(code: &[u8], k: usize, s: u64, p: usize, hours: usize) -> bool
-    requires { ⌜ Handed (now code) s p hours × (k ≡ cells s) ⌝ }
+// Whether the bytes of k cells at the front of code are those of page p of sum s, by the table of small reserves that is lent.
+pub fn page_fits(code: &[u8], table: &[u8; 512], k: usize, s: u64, p: usize, hours: usize) -> bool
+    requires { ⌜ Handed (now code) s p hours × (k ≡ cells s) × Tabled (now table) ⌝ }
     ensures { λ r. ⌜ r ≡ pageFits (take (30 * k) (now (code .entry))) s p hours ⌝ }
 {
     if s == 0 {
         return true;
     }
-    if !tree_check::check(code, 0, 6, s) {
+    if !tree_check::check(code, table, 0, 6, s) {
         return false;
     }
     let used = reserve::reserve_of(6, s);

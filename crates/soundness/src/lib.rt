@@ -11,5 +11,6 @@ pub fn check(s: &[u8]) -> bool
     if !sound_head::head_fits(s) {
         return false;
     }
-    walk::chains_fit(s)
+    let table = reserve_table::table();
+    walk::chains_fit(s, &table)
 }

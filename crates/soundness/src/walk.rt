@@ -13,13 +13,14 @@ use store::link::link;
 ghost use mathlib.Core.Bool.{true};
 ghost use mathlib.Core.Path.{_≡_};
 ghost use Rattle.lists.specs.Lists.{every};
+ghost use Rattle.reserve_table.specs.Code.Tabled.{Tabled};
 ghost use Rattle.store.specs.Code.Checked.{headTests};
 ghost use Rattle.soundness.specs.Code.Chains.{chainsFit};
 
 // Walks each page's chain, and marks each cell once; ends at the first broken chain. Of the code only the bytes of the page's cells are
 // looked at, so those of an earlier page may stand behind them.
-pub(crate) fn chains_fit(s: &[u8]) -> bool
-    requires { ⌜ every (headTests (now s)) ≡ true ⌝ }
+pub(crate) fn chains_fit(s: &[u8], table: &[u8; 512]) -> bool
+    requires { ⌜ (every (headTests (now s)) ≡ true) × Tabled (now table) ⌝ }
     ensures { λ r. ⌜ r ≡ chainsFit (now (s .entry)) ⌝ }
 {
     let h = Header::of(s);
@@ -48,7 +49,7 @@ pub(crate) fn chains_fit(s: &[u8]) -> bool
             put_block(&mut code, Header::CODE * j, s, at + 2);
             j = j + 1;
         }
-        if link(s, at) != 0 || !page_fits(&code, k, sum, p, hours) {
+        if link(s, at) != 0 || !page_fits(&code, table, k, sum, p, hours) {
             ok = false;
             break 'pages;
         }

@@ -1,17 +1,17 @@
 -- One step of the check of a tree, as the code takes it. Assumes nothing.
-use mathlib.Core.Path.{_≡_, sym, ap, ap₂, _∙_}
+use mathlib.Core.Path.{_≡_, refl, sym, ap, ap₂, _∙_}
 use mathlib.Core.Bool.{Bool, true, false, _&&_, and-false, and-true}
 use mathlib.Core.List.{List}
 use Prim.Native.Nat.{ℕ, suc, _+_, _-_, _≤_, _<_}
 use native.Mathlib.Decide.{decLe}
 use native.Mathlib.Omega.{arith}
-use borrow.Author.Tests.{le-leb}
+use borrow.Author.Tests.{le-leb, lt-leb}
 use Rattle.lists.specs.Lists.{every}
-use Rattle.reserve.specs.Reserve.{reserve}
+use Rattle.reserve.specs.Reserve.{digits, reserve}
 use Rattle.reserve.proofs.Exact.{digits-le}
 use Rattle.tree.specs.Read.{leftOf, leftAt, rightAt}
 use Rattle.tree.specs.Exact.{clear, spareAt, spareLen, exact}
-use Rattle.tree.specs.Code.Node.{Lies, Rooted}
+use Rattle.tree.specs.Code.Node.{Lies}
 use Rattle.tree.specs.declared.node.Split.{Split}
 use Rattle.tree.proofs.Exacts.{exact-zero}
 use Rattle.tree.proofs.TwoCounts.{reserve-pair}
@@ -48,9 +48,25 @@ module _ (h s : ℕ) (b : List ℕ) (a : ℕ) where
   pub exact-none : s ≡ 0 → true ≡ exact h s b a
   exact-none e = sym (ap (λ (z : ℕ). exact h z b a) e ∙ exact-zero h b a)
 
-  pub exact-bad : (h ≡ 0 → ⊥) → {r : Split} → Rooted b a (h - 1) s r → r .ok ≡ false → false ≡ exact h s b a
+  -- a left sum above the node's
+  pub exact-bad : (h ≡ 0 → ⊥) → {l : ℕ} → l ≡ leftOf s b a → s < l → false ≡ exact h s b a
   unfolding exact every
-  exact-bad p n e = sym (rw (sym (n .ok-is) ∙ e)) ∙ ap (λ (k : ℕ). exact k s b a) (up h p)
+  exact-bad p e k = sym (rw (lt-leb (leftOf s b a) s (omega (arith, e)))) ∙ ap (λ (k : ℕ). exact k s b a) (up h p)
+
+  -- a node whose left sum l is not: its sum has t digits, and its left subtree owns v bits
+  pub split-at : 2 ≤ h → (t l v : ℕ) → t ≡ digits s → l ≡ leftOf s b a → l ≤ s → v ≡ reserve (h - 1) l
+      → Inner b a h s (record { ok = true; left = l; first = a + t; second = a + t + v })
+  split-at high t l v et el le ev = record {
+    high = not-zero high;
+    root = record {
+      ok-is = sym (le-leb (leftOf s b a) s (omega (arith, el)));
+      left-is = λ _. el;
+      left-le = λ _. le;
+      first-is = λ _. omega (arith, et);
+      second-is = λ _. omega (arith, et, ev);
+    };
+    sound = refl;
+  }
 
 module _ {h s : ℕ} {b : List ℕ} {a : ℕ} {r : Split} (i : Inner b a h s r) where
   -- the three tests below the node

@@ -1,14 +1,17 @@
 // The check of a tree: whether bits are the code of some list.
+use bits::front;
 use bits::word::low_bits;
 use reserve::digits_of;
 use reserve::reserve_of;
-use tree::node::root_by_shifts;
+use reserve_table::reserve_by;
 ghost use mathlib.Core.Bool.{true, false};
 ghost use mathlib.Core.Path.{_≡_};
 ghost use Prim.Native.Nat.{_+_, _*_, _≤_, _<_, _^_};
 ghost use lib.ListN.{length};
 ghost use Rattle.bits.specs.Bits.{bits, field};
-ghost use Rattle.reserve.specs.Reserve.{reserve as reserved};
+ghost use Rattle.reserve.specs.Reserve.{digits, reserve as reserved};
+ghost use Rattle.reserve_table.specs.Code.Tabled.{Tabled};
+ghost use Rattle.tree.specs.Read.{leftOf};
 ghost use Rattle.tree.specs.Exact.{clear, exact};
 ghost use Rattle.tree.specs.Code.Node.{Lies};
 
@@ -73,11 +76,19 @@ fn low_levels(b: &[u8], at: usize, h: u32, s: u64, r: usize) -> bool
     quad(v, r as u32, s)
 }
 
+// The left sum of a node at bit at, whose sum s has t digits.
+fn left_sum(b: &[u8], at: usize, h: u32, s: u64, t: u32) -> u64
+    requires { ⌜ Lies (now b) at (h + 1) s × (t ≡ digits s) ⌝ }
+    ensures { λ r. ⌜ r ≡ leftOf s (bits (now (b .entry))) at ⌝ }
+{
+    front::part(front::load(b, at), 0, t)
+}
+
 // Whether the node of height h at bit at, which has sum s and owns r bits, and all below it are some list's code. Each node's reserve is
-// worked out once, by the node above it. Two counts always come out of one load, so the recursion ends above h = 0. The right half comes
-// last, so that the compiler makes its call a jump.
-fn check_node(b: &&[u8], at: usize, h: u32, s: u64, r: usize) -> bool
-    requires { ⌜ Lies (now (now b)) at h s × (r ≡ reserved h s) × (1 ≤ h) ⌝ }
+// worked out once, by the node above it, from the table of small reserves that is lent. Two counts always come out of one load, so the
+// recursion ends above h = 0. The right half comes last, so that the compiler makes its call a jump.
+fn check_node(b: &&[u8], table: &[u8; 512], at: usize, h: u32, s: u64, r: usize) -> bool
+    requires { ⌜ Lies (now (now b)) at h s × Tabled (now table) × (r ≡ reserved h s) × (1 ≤ h) ⌝ }
     ensures { λ q. ⌜ q ≡ exact h s (bits (now (now (b .entry)))) at ⌝ }
 {
     if s == 0 {
@@ -87,37 +98,41 @@ fn check_node(b: &&[u8], at: usize, h: u32, s: u64, r: usize) -> bool
         return low_levels(*b, at, h, s, r);
     }
     let down = h - 1;
-    let n = root_by_shifts(*b, at, down, s);
-    if !n.ok {
+    let t = digits_of(s);
+    let left = left_sum(*b, at, down, s, t);
+    if s < left {
         return false;
     }
-    let right = s - n.left;
-    let rest = reserve_of(down, right);
-    let spare = n.second + rest;
+    let right = s - left;
+    let own = reserve_by(table, down, left);
+    let rest = reserve_by(table, down, right);
+    let first = at + (t as usize);
+    let second = first + own;
+    let spare = second + rest;
     if !zero_bits(*b, spare, at + r - spare) {
         return false;
     }
-    if !check_node(b, n.first, down, n.left, n.second - n.first) {
+    if !check_node(b, table, first, down, left, own) {
         return false;
     }
-    check_node(b, n.second, down, right, rest)
+    check_node(b, table, second, down, right, rest)
 }
 
 // Whether the tree of 2^h counts with sum s at bit at, which owns r bits, is the code of some list.
-pub fn nodes(b: &[u8], at: usize, h: u32, s: u64, r: usize) -> bool
-    requires { ⌜ Lies (now b) at h s × (r ≡ reserved h s) ⌝ }
+pub fn nodes(b: &[u8], table: &[u8; 512], at: usize, h: u32, s: u64, r: usize) -> bool
+    requires { ⌜ Lies (now b) at h s × Tabled (now table) × (r ≡ reserved h s) ⌝ }
     ensures { λ q. ⌜ q ≡ exact h s (bits (now (b .entry))) at ⌝ }
 {
     if h == 0 {
         return true;
     }
-    check_node(&b, at, h, s, r)
+    check_node(&b, table, at, h, s, r)
 }
 
 // The same of a tree whose reserve is not at hand: it has no left sum above its node, and zeros in the bits left over.
-pub fn check(b: &[u8], at: usize, h: u32, s: u64) -> bool
-    requires { ⌜ Lies (now b) at h s ⌝ }
+pub fn check(b: &[u8], table: &[u8; 512], at: usize, h: u32, s: u64) -> bool
+    requires { ⌜ Lies (now b) at h s × Tabled (now table) ⌝ }
     ensures { λ r. ⌜ r ≡ exact h s (bits (now (b .entry))) at ⌝ }
 {
-    nodes(b, at, h, s, reserve_of(h, s))
+    nodes(b, table, at, h, s, reserve_of(h, s))
 }

@@ -14,8 +14,12 @@ use Rattle.image_check.proofs.check.Statement.{statement}
 use Rattle.image_check.proofs.check.Tie as tie
 
 -- past refusal 5
-past : (c : tie.After-known-told) → Opened (c .before .before .before .before .before .args .s .now) (c .before .h .given .0 .0)
-past c = subst (Opens (c .before .before .before .before .before .args .s .now)) (c .before .h .given .1) (c .before .before .before .open-image .ensures)
+abbrev told : tie.After-table2 → tie.After-known-told
+told c = c .before .before
+
+past : (c : tie.After-table2) → Opened (told c .before .before .before .before .before .args .s .now) (told c .before .h .given .0 .0)
+past c =
+    subst (Opens (told c .before .before .before .before .before .args .s .now)) (told c .before .h .given .1) (told c .before .before .before .open-image .ensures)
 
 -- at refusal 5
 wrong : (c : tie.After-enum-told) → headed (c .before .before .before .before .args .s .now) ≡ false
@@ -30,15 +34,18 @@ enum-known-h c = search needs
 enum-told : tie.Need-enum-told
 enum-told c = search needs
 
-bytes : (c : tie.After-known-told) (i : ℕ) → getD (c .before .before .before .before .before .args .s .now) i 0 < 256
-bytes c i = omega (arith, c .before .before .before .before .shared-slice-known .given i)
+bytes : (c : tie.After-table2) (i : ℕ) → getD (told c .before .before .before .before .before .args .s .now) i 0 < 256
+bytes c i = omega (arith, told c .before .before .before .before .shared-slice-known .given i)
 
 returns : tie.Need-returns
 unfolding ruled
 returns c = check-five _ (wrong c)
 
+table-requires : tie.Need-table-requires
+table-requires c κs = search needs
+
 pages-pass-requires : tie.Need-pages-pass-requires
-pages-pass-requires c κs = past c
+pages-pass-requires c κs = (past c, c .before .table .ensures)
 
 returns-2 : tie.Need-returns-2
 unfolding ruled
@@ -86,6 +93,7 @@ check-spec =
     enum-known-h
     enum-told
     returns
+    table-requires
     pages-pass-requires
     returns-2
     rest-zero-requires

@@ -102,7 +102,7 @@ add-nodes c =
 nodes-requires : tie.Need-nodes-requires
 nodes-requires c κs =
     let m = measured c in
-    (tree-lies (standing m) (c .before .if4 .left), m .reserve-of .ensures)
+    (tree-lies (standing m) (c .before .if4 .left), entry (first m) .pre .3, m .reserve-of .ensures)
 
 failed-requires-5 : tie.Need-failed-requires-5
 failed-requires-5 c κs = search needs

@@ -21,8 +21,8 @@ returns c =
     let a = c .before .before .before in
     c .wide .ensures ∙ a .pre .0 .entry _ _ (a .pre .1) (c .before .before .if1 .taken)
 
-reserve-of-requires : tie.Need-reserve-of-requires
-reserve-of-requires c κs = search needs
+dense-of-requires : tie.Need-dense-of-requires
+dense-of-requires c κs = search needs
 
 returns-2 : tie.Need-returns-2
 returns-2 c = search needs
@@ -36,5 +36,5 @@ reserve-by-spec =
     element-copy-out-wide
     wide-requires
     returns
-    reserve-of-requires
+    dense-of-requires
     returns-2)

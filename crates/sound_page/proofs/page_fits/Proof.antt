@@ -17,7 +17,7 @@ returns c =
     fits-none (pre .0) (pre .1) (λ i. omega (arith, known .shared-slice-known .given i)) (c .if1 .taken)
 
 check-requires : tie.Need-check-requires
-check-requires c κs = page-lies (c .before .before .pre .0)
+check-requires c κs = (page-lies (c .before .before .pre .0), c .before .before .pre .2)
 
 returns-2 : tie.Need-returns-2
 returns-2 c =

@@ -1,6 +1,7 @@
 -- `tree_check::check_node` meets its contract, h falling at each call. Assumes nothing.
 use mathlib.Core.Path.{_≡_, sym, _∙_}
-use Prim.Native.Nat.{_+_, _-_, _≤_}
+use mathlib.Core.Bool.{true}
+use Prim.Native.Nat.{ℕ, _+_, _-_, _≤_, _<_}
 use native.Mathlib.Omega.{arith}
 use borrow.Author.Tests.{not-true, not-false}
 use borrow.Author.Needs.{needs}
@@ -8,31 +9,31 @@ use Rattle.bits.specs.Bits.{bits}
 use Rattle.reserve.specs.Reserve.{reserve}
 use Rattle.tree.specs.declared.node.Split.{Split}
 use Rattle.tree.proofs.Rooting.{Inner, top, left-lies, right-lies, spare-le}
-use Rattle.tree_check.proofs.CheckSteps.{above-pair, not-zero, exact-none, exact-bad, exact-left-not, exact-spare-not, exact-last}
-use Prim.Native.Nat.{ℕ, _<_}
+use Rattle.tree_check.proofs.CheckSteps.{above-pair, not-zero, split-at, exact-none, exact-bad, exact-left-not, exact-spare-not, exact-last}
 use borrow.Fn.Kinds.{In}
 use borrow.Fn.PlainCycle.{Measures, is, falls, and}
 use Rattle.tree_check.proofs.check_node.Reads as check-node
 use Rattle.tree_check.proofs.check_node.Kinds as check-node-kinds
 use Rattle.tree_check.proofs.+check_node.Lts-check_node as check-node-lts
-use Rattle.reserve.proofs.reserve_of.Reads as reserve-of-reads
+use Rattle.reserve.proofs.digits_of.Reads as digits-of-reads
+use Rattle.reserve_table.proofs.reserve_by.Reads as reserve-by-reads
+use Rattle.tree_check.proofs.left_sum.Reads as left-sum-reads
 use Rattle.tree_check.proofs.low_levels.Reads as low-levels-reads
 use Rattle.tree_check.proofs.one_load.Reads as one-load-reads
 use Rattle.tree_check.proofs.zero_bits.Reads as zero-bits-reads
-use Rattle.tree.proofs.node.root_by_shifts.Reads as root-by-shifts-reads
 use Rattle.tree_check.proofs.+check_node.{statement}
 use Rattle.tree_check.proofs.+check_node.Tie.{close}
 
-abbrev μ-check-node : Measures 2 check-node-kinds.ps ℕ
-μ-check-node κs a = a .1 .1 .0
+abbrev μ-check-node : Measures 3 check-node-kinds.ps ℕ
+μ-check-node κs a = a .1 .1 .1 .0
 
-abbrev check-node-at : ℕ → In 2 check-node-kinds.ps
+abbrev check-node-at : ℕ → In 3 check-node-kinds.ps
 check-node-at t =
-    and 2 check-node-kinds.ps (is 2 check-node-kinds.ps μ-check-node t) check-node.Pre
+    and 3 check-node-kinds.ps (is 3 check-node-kinds.ps μ-check-node t) check-node.Pre
 
-abbrev check-node-below : ℕ → In 2 check-node-kinds.ps
+abbrev check-node-below : ℕ → In 3 check-node-kinds.ps
 check-node-below t =
-    and 2 check-node-kinds.ps (falls 2 check-node-kinds.ps _<_ μ-check-node t) check-node.Pre
+    and 3 check-node-kinds.ps (falls 3 check-node-kinds.ps _<_ μ-check-node t) check-node.Pre
 
 abbrev callees : ℕ → check-node-lts.Claims
 callees t = (
@@ -40,10 +41,12 @@ callees t = (
   one-load-reads.Learnt,
   low-levels-reads.Asked,
   low-levels-reads.Learnt,
-  root-by-shifts-reads.Asked,
-  root-by-shifts-reads.Learnt,
-  reserve-of-reads.Asked,
-  reserve-of-reads.Learnt,
+  digits-of-reads.Asked,
+  digits-of-reads.Learnt,
+  left-sum-reads.Asked,
+  left-sum-reads.Learnt,
+  reserve-by-reads.Asked,
+  reserve-by-reads.Learnt,
   zero-bits-reads.Asked,
   zero-bits-reads.Learnt,
   check-node-below t,
@@ -54,32 +57,38 @@ callees t = (
 high : (t : ℕ) (c : check-node-lts.Else2 (callees t) (check-node-at t) check-node.Post) → 2 ≤ c .before .before .before .args .h
 high t c =
     let a = c .before .before .before in
-    above-pair (a .pre .1 .0) (a .pre .1 .1) (a .pre .1 .2) (c .before .one-load .ensures .1 (c .if2 .left))
+    above-pair (a .pre .1 .0) (a .pre .1 .2) (a .pre .1 .3) (c .before .one-load .ensures .1 (c .if2 .left))
 
--- where the root was read and is no damage
-module _ (t : ℕ) (c : check-node-lts.Else3 (callees t) (check-node-at t) check-node.Post) where
+-- where the left sum was read, and both halves' reserves are known
+module _ (t : ℕ) (c : check-node-lts.After-reserve-by2 (callees t) (check-node-at t) check-node.Post) where
   abbrev call : check-node-lts.Start (callees t) (check-node-at t) check-node.Post
-  call = c .before .before .before .before .before .before .before
+  call = c .before .before .before .before .before .before .before .before .before
 
+  abbrev left : ℕ
+  left = c .before .before .before .left-sum .result
+
+  -- the node, as it is split
   abbrev n : Split
-  n = c .before .before .root-by-shifts .result
+  n =
+      let width = c .before .before .before .before .before .digits-of .result in
+      record { ok = true; left = left; first = call .args .at + width; second = call .args .at + width + c .before .reserve-by .result }
 
   tall : 2 ≤ call .args .h
-  tall = high t (c .before .before .before .before)
+  tall = high t (c .before .before .before .before .before .before)
 
   inner : Inner (bits (call .args .b .now .now)) (call .args .at) (call .args .h) (call .args .s) n
-  inner = record { high = not-zero tall; root = c .before .before .root-by-shifts .ensures; sound = not-false (n .ok) (c .if3 .left) }
+  inner =
+      split-at (call .args .h) (call .args .s) (bits (call .args .b .now .now)) (call .args .at) tall _ _ _
+      (c .before .before .before .before .before .digits-of .ensures) (c .before .before .before .left-sum .ensures) (c .before .before .if3 .left)
+      (c .before .reserve-by .ensures)
 
-  left-le : n .left ≤ call .args .s
-  left-le = inner .root .left-le (inner .sound)
+  -- the left-over bits start no later than the tree ends
+  spare-in : n .second + c .reserve-by2 .result ≤ call .args .at + reserve (call .args .h) (call .args .s)
+  spare-in = omega (arith, c .reserve-by2 .ensures, spare-le (call .pre .1 .0) inner)
 
-  left-owns : (n .first ≤ n .second) × (n .second - n .first ≡ reserve (call .args .h - 1) (n .left))
-  left-owns = omega (arith, inner .root .first-is (inner .sound), inner .root .second-is (inner .sound))
-
-  -- the left-over bits start no later than the tree ends, u being the right subtree's reserve
-  spare-in : (u : ℕ) → u ≡ reserve (call .args .h - 1) (call .args .s - n .left)
-      → n .second + u ≤ call .args .at + reserve (call .args .h) (call .args .s)
-  spare-in u e = omega (arith, spare-le (call .pre .1 .0) inner)
+  -- and all is far below the end of the numbers
+  small : call .args .at + reserve (call .args .h) (call .args .s) < 9223372036854775808
+  small = call .pre .1 .0 .small
 
 check-node-returns : (t : ℕ) → check-node-lts.Need-returns (callees t) (check-node-at t) check-node.Post
 check-node-returns t c = exact-none _ _ _ _ (c .if1 .taken)
@@ -91,69 +100,85 @@ check-node-low-levels-requires : (t : ℕ) → check-node-lts.Need-low-levels-re
 check-node-low-levels-requires t c κs =
     let a = c .before .before .before .before in
     let w = c .before .before .one-load .ensures .0 (c .before .if2 .taken) in
-    (a .pre .1 .0, a .pre .1 .1, w .1, a .pre .1 .2, w .0)
+    (a .pre .1 .0, a .pre .1 .2, w .1, a .pre .1 .3, w .0)
 
 check-node-returns-2 : (t : ℕ) → check-node-lts.Need-returns-2 (callees t) (check-node-at t) check-node.Post
 check-node-returns-2 t c = c .low-levels .ensures
 
 check-node-sub-down : (t : ℕ) → check-node-lts.Need-sub-down (callees t) (check-node-at t) check-node.Post
-check-node-sub-down t c = c .before .before .before .pre .1 .2
+check-node-sub-down t c = c .before .before .before .pre .1 .3
 
-check-node-root-by-shifts-requires : (t : ℕ) → check-node-lts.Need-root-by-shifts-requires (callees t) (check-node-at t) check-node.Post
-check-node-root-by-shifts-requires t c κs = top (not-zero (high t (c .before))) (c .before .before .before .before .pre .1 .0)
+check-node-digits-of-requires : (t : ℕ) → check-node-lts.Need-digits-of-requires (callees t) (check-node-at t) check-node.Post
+check-node-digits-of-requires t c κs = search needs
+
+check-node-left-sum-requires : (t : ℕ) → check-node-lts.Need-left-sum-requires (callees t) (check-node-at t) check-node.Post
+check-node-left-sum-requires t c κs =
+    (top (not-zero (high t (c .before .before))) (c .before .before .before .before .before .pre .1 .0), c .before .digits-of .ensures)
 
 check-node-returns-3 : (t : ℕ) → check-node-lts.Need-returns-3 (callees t) (check-node-at t) check-node.Post
-check-node-returns-3 t c = exact-bad _ _ _ _ (not-zero (high t (c .before .before .before .before))) (c .before .before .root-by-shifts .ensures) (not-true _ (c .if3 .taken))
+check-node-returns-3 t c = exact-bad _ _ _ _ (not-zero (high t (c .before .before .before .before))) (c .before .left-sum .ensures) (c .if3 .taken)
 
-check-node-sub-right : (t : ℕ) → check-node-lts.Need-sub-right (callees t) (check-node-at t) check-node.Post
-check-node-sub-right t c = left-le t (c .before)
+check-node-reserve-by-requires : (t : ℕ) → check-node-lts.Need-reserve-by-requires (callees t) (check-node-at t) check-node.Post
+check-node-reserve-by-requires t c κs =
+    let p = c .before .before .before .before .before .before .before .pre .1 in
+    let y = p .0 in
+    (p .1, omega (arith, y .height), omega (arith, c .if3 .left, y .total))
 
-check-node-reserve-of-requires : (t : ℕ) → check-node-lts.Need-reserve-of-requires (callees t) (check-node-at t) check-node.Post
-check-node-reserve-of-requires t c κs = omega (arith, call t (c .before) .pre .1 .0)
+check-node-reserve-by-requires-2 : (t : ℕ) → check-node-lts.Need-reserve-by-requires-2 (callees t) (check-node-at t) check-node.Post
+check-node-reserve-by-requires-2 t c κs =
+    let p = c .before .before .before .before .before .before .before .before .pre .1 in
+    let y = p .0 in
+    (p .1, omega (arith, y .height), omega (arith, y .total))
+
+check-node-cast-first : (t : ℕ) → check-node-lts.Need-cast-first (callees t) (check-node-at t) check-node.Post
+check-node-cast-first t c = search needs
+
+check-node-add-first : (t : ℕ) → check-node-lts.Need-add-first (callees t) (check-node-at t) check-node.Post
+check-node-add-first t c = omega (arith, spare-in t c, small t c)
+
+check-node-add-second : (t : ℕ) → check-node-lts.Need-add-second (callees t) (check-node-at t) check-node.Post
+check-node-add-second t c = omega (arith, spare-in t c, small t c)
 
 check-node-add-spare : (t : ℕ) → check-node-lts.Need-add-spare (callees t) (check-node-at t) check-node.Post
-check-node-add-spare t c = omega (arith, spare-in t (c .before .before .before) _ (c .before .reserve-of .ensures), call t (c .before .before .before) .pre .1)
+check-node-add-spare t c = omega (arith, spare-in t c, small t c)
 
 check-node-add-zero-bits : (t : ℕ) → check-node-lts.Need-add-zero-bits (callees t) (check-node-at t) check-node.Post
-check-node-add-zero-bits t c = omega (arith, spare-in t (c .before .before .before .before) _ (c .before .before .reserve-of .ensures), call t (c .before .before .before .before) .pre .1)
+check-node-add-zero-bits t c = omega (arith, small t (c .before), call t (c .before) .pre .1 .2)
 
 check-node-sub-zero-bits : (t : ℕ) → check-node-lts.Need-sub-zero-bits (callees t) (check-node-at t) check-node.Post
-check-node-sub-zero-bits t c = omega (arith, spare-in t (c .before .before .before .before) _ (c .before .before .reserve-of .ensures), call t (c .before .before .before .before) .pre .1)
+check-node-sub-zero-bits t c = omega (arith, spare-in t (c .before), call t (c .before) .pre .1 .2)
 
 check-node-zero-bits-requires : (t : ℕ) → check-node-lts.Need-zero-bits-requires (callees t) (check-node-at t) check-node.Post
-check-node-zero-bits-requires t c κs = omega (arith, spare-in t (c .before .before .before .before) _ (c .before .before .reserve-of .ensures), call t (c .before .before .before .before) .pre .1)
+check-node-zero-bits-requires t c κs = omega (arith, spare-in t (c .before), call t (c .before) .pre .1)
 
 check-node-returns-4 : (t : ℕ) → check-node-lts.Need-returns-4 (callees t) (check-node-at t) check-node.Post
 check-node-returns-4 t c =
-    let d = c .before .before .before .before .before .before in
-    exact-spare-not (inner t d) (c .before .before .before .before .reserve-of .ensures) (call t d .pre .1 .1) (sym (c .before .zero-bits .ensures) ∙ not-true _ (c .if4 .taken))
-
-check-node-sub-check-node : (t : ℕ) → check-node-lts.Need-sub-check-node (callees t) (check-node-at t) check-node.Post
-check-node-sub-check-node t c = left-owns t (c .before .before .before .before .before .before .before) .0
+    let d = c .before .before .before in
+    exact-spare-not (inner t d) (d .reserve-by2 .ensures) (call t d .pre .1 .2) (sym (c .before .zero-bits .ensures) ∙ not-true _ (c .if4 .taken))
 
 check-node-check-node-requires : (t : ℕ) → check-node-lts.Need-check-node-requires (callees t) (check-node-at t) check-node.Post
 check-node-check-node-requires t c κs =
-    let d = c .before .before .before .before .before .before .before in
+    let d = c .before .before .before in
     let pre = call t d .pre in
-    (omega (arith, pre .0, tall t d), (left-lies (pre .1 .0) (inner t d), left-owns t d .1, omega (arith, tall t d)))
+    (omega (arith, pre .0, tall t d), (left-lies (pre .1 .0) (inner t d), pre .1 .1, d .before .reserve-by .ensures, omega (arith, tall t d)))
 
 check-node-returns-5 : (t : ℕ) → check-node-lts.Need-returns-5 (callees t) (check-node-at t) check-node.Post
-check-node-returns-5 t c = exact-left-not (inner t (c .before .before .before .before .before .before .before .before .before)) (sym (c .before .check-node .ensures) ∙ not-true _ (c .if5 .taken))
+check-node-returns-5 t c = exact-left-not (inner t (c .before .before .before .before .before)) (sym (c .before .check-node .ensures) ∙ not-true _ (c .if5 .taken))
 
 check-node-check-node-requires-2 : (t : ℕ) → check-node-lts.Need-check-node-requires-2 (callees t) (check-node-at t) check-node.Post
 check-node-check-node-requires-2 t c κs =
-    let d = c .before .before .before .before .before .before .before .before .before in
+    let d = c .before .before .before .before .before in
     let pre = call t d .pre in
-    (omega (arith, pre .0, tall t d), (right-lies (pre .1 .0) (inner t d), c .before .before .before .before .before .before .before .reserve-of .ensures, omega (arith, tall t d)))
+    (omega (arith, pre .0, tall t d), (right-lies (pre .1 .0) (inner t d), pre .1 .1, d .reserve-by2 .ensures, omega (arith, tall t d)))
 
 check-node-returns-6 : (t : ℕ) → check-node-lts.Need-returns-6 (callees t) (check-node-at t) check-node.Post
 check-node-returns-6 t c =
-    let d = c .before .before .before .before .before .before .before .before .before .before in
-    let spare = c .before .before .before .before in
-    let left = c .before in
+    let d = c .before .before .before .before .before .before in
+    let spare = c .before .before .before in
+    let half = c .before in
     c .check-node2 .ensures
-    ∙ exact-last (inner t d) (c .before .before .before .before .before .before .before .before .reserve-of .ensures) (call t d .pre .1 .1)
-    (sym (spare .before .zero-bits .ensures) ∙ not-false _ (spare .if4 .left)) (sym (left .before .check-node .ensures) ∙ not-false _ (left .if5 .left))
+    ∙ exact-last (inner t d) (d .reserve-by2 .ensures) (call t d .pre .1 .2)
+    (sym (spare .before .zero-bits .ensures) ∙ not-false _ (spare .if4 .left)) (sym (half .before .check-node .ensures) ∙ not-false _ (half .if5 .left))
 
 pub +check-node-spec : {M : Type 1} → statement M
 +check-node-spec = close μ-check-node λ t. check-node-lts.spec (callees t)
@@ -164,16 +189,19 @@ pub +check-node-spec : {M : Type 1} → statement M
     (check-node-low-levels-requires t)
     (check-node-returns-2 t)
     (check-node-sub-down t)
-    (check-node-root-by-shifts-requires t)
+    (check-node-digits-of-requires t)
+    (check-node-left-sum-requires t)
     (check-node-returns-3 t)
-    (check-node-sub-right t)
-    (check-node-reserve-of-requires t)
+    (check-node-reserve-by-requires t)
+    (check-node-reserve-by-requires-2 t)
+    (check-node-cast-first t)
+    (check-node-add-first t)
+    (check-node-add-second t)
     (check-node-add-spare t)
     (check-node-add-zero-bits t)
     (check-node-sub-zero-bits t)
     (check-node-zero-bits-requires t)
     (check-node-returns-4 t)
-    (check-node-sub-check-node t)
     (check-node-check-node-requires t)
     (check-node-returns-5 t)
     (check-node-check-node-requires-2 t)

@@ -27,23 +27,23 @@ clash : (b : Bool) → b ≡ false → b ≡ true → ⊥
 clash b p q = let z : _≡_ {A = ℕ} 0 1 = cc in omega arith
 
 abbrev Inv-loop : tie.InvT-loop
-Inv-loop s pages cells hours base marks₀ code₀ ok₀ p entry sum k at₀ j₀ marks code ok at j =
+Inv-loop s table pages cells hours base marks₀ code₀ ok₀ p entry sum k at₀ j₀ marks code ok at j =
     (j ≤ k) × (length marks ≡ 1801) × (length code ≡ 240) × (ok ≡ true) × (at + 2 ≤ length s)
     × (chainsFit s ≡ cellsOn s pages cells hours p (k - j) marks at) × SoFar s pages p j (k - j) code (numberAt s at 2)
 
 abbrev μ-loop : tie.MeasureT-loop
-μ-loop s pages cells hours base marks₀ code₀ ok₀ p entry sum k at₀ j₀ marks code ok at j = k - j
+μ-loop s table pages cells hours base marks₀ code₀ ok₀ p entry sum k at₀ j₀ marks code ok at j = k - j
 
 abbrev Inv-pages : tie.InvT-pages
-Inv-pages s pages cells hours base marks₀ code₀ ok₀ p₀ marks code ok p =
+Inv-pages s table pages cells hours base marks₀ code₀ ok₀ p₀ marks code ok p =
     (p ≤ pages) × (length marks ≡ 1801) × (length code ≡ 240) × (ok ≡ true) × (chainsFit s ≡ pagesOn s pages cells hours p marks)
 
 abbrev μ-pages : tie.MeasureT-pages
-μ-pages s pages cells hours base marks₀ code₀ ok₀ p₀ marks code ok p = pages - p
+μ-pages s table pages cells hours base marks₀ code₀ ok₀ p₀ marks code ok p = pages - p
 
 -- what the header holds to
 held : (o : tie.After-cells-from Inv-loop μ-loop Inv-pages μ-pages) → Bounds (o .before .before .before .args .s .now) (o .before .of .result)
-held o = bounds (o .before .before .before .args .s .now) (o .before .of .result) (o .before .before .before .pre) (o .before .of .ensures)
+held o = bounds (o .before .before .before .args .s .now) (o .before .of .result) (o .before .before .before .pre .0) (o .before .of .ensures)
 
 -- past the test of a cell: the header's place, and what is known of the cell
 abbrev header-of : tie.Else1 Inv-loop μ-loop Inv-pages μ-pages → tie.After-cells-from Inv-loop μ-loop Inv-pages μ-pages
@@ -59,7 +59,7 @@ known fine =
     (held (header-of fine), w .0, w .1, header-of fine .cells-from .ensures)
 
 of-requires : tie.Need-of-requires Inv-loop μ-loop Inv-pages μ-pages
-of-requires c κs = omega (arith, headed (c .before .args .s .now) (c .before .pre) .long)
+of-requires c κs = omega (arith, headed (c .before .args .s .now) (c .before .pre .0) .long)
 
 cells-from-requires : tie.Need-cells-from-requires Inv-loop μ-loop Inv-pages μ-pages
 cells-from-requires c κs = omega (arith, c .of .ensures .pages-small)
@@ -194,6 +194,7 @@ page-fits-requires c κs =
     let h = held o in (
       record { long = l .inv .2; small = omega (arith, g .ensures .small); page = omega arith; hours = o .before .of .ensures .hours-small },
       at-loop .before .cells-of .ensures .0,
+      o .before .before .before .pre .1,
     )
 
 add-p : tie.Need-add-p Inv-loop μ-loop Inv-pages μ-pages
