@@ -21,7 +21,7 @@ pub(crate) fn unpack(s: &[u8], pages: usize, first: usize, list: &mut [u32])
         let p = first + j;
         let own = entry_of(s, p);
         let code = gather_at(s, own.base, p, own.cells);
-        tree::decode::decode(&code, 0, 6, own.sum, list, Header::HOURS * j);
+        tree_decode::decode(&code, 0, 6, own.sum, list, Header::HOURS * j);
         j = j + 1;
     }
 }

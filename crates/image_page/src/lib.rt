@@ -3,7 +3,7 @@
 use bits::numbers::get4;
 use image::head::Head;
 use image::head::pages_of;
-use tree::decode::decode;
+use tree_decode::decode;
 ghost use mathlib.Core.Bool.{true};
 ghost use mathlib.Core.Path.{_≡_};
 ghost use Prim.Native.Nat.{_≤_, _<_};

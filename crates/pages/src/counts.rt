@@ -16,7 +16,7 @@ pub fn counts_at(s: &[u8], base: usize, p: usize, sum: u64, k: usize) -> [u32; 6
 {
     let code = gather_at(s, base, p, k);
     let mut counts = [0u32; 64];
-    tree::decode::decode(&code, 0, 6, sum, &mut counts, 0);
+    tree_decode::decode(&code, 0, 6, sum, &mut counts, 0);
     counts
 }
 

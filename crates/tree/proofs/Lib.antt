@@ -1,7 +1,6 @@
 -- Laws of the definitions, and of the code's steps.
 pub mod Shape
 pub mod Windows
-pub mod Decoding
 pub mod WalkLaws
 pub mod SearchLaws
 pub mod Exacts
@@ -10,3 +9,4 @@ pub mod Rooting
 pub mod Clearing
 pub mod Local
 pub mod TwoCounts
+pub mod OneWord

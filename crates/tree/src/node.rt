@@ -2,6 +2,7 @@
 use bits::front;
 use reserve::digits_of;
 use reserve::reserve_of;
+ghost use mathlib.Core.Bool.{true};
 ghost use mathlib.Core.Path.{_≡_};
 ghost use Prim.Native.Nat.{_+_, _≤_, _<_, _^_};
 ghost use Rattle.bits.specs.Bits.{bits};
@@ -56,4 +57,14 @@ pub fn root_by_shifts(b: &[u8], at: usize, h: u32, s: u64) -> Split
 {
     let t = digits_of(s);
     node(at, h, s, t, front::part(front::load(b, at), 0, t))
+}
+
+// Whether a tree of 2^h counts with sum s is one of four counts whose three fields, each of no more digits than s, have 57 bits at most.
+pub fn one_word(h: u32, s: u64) -> bool
+    ensures { λ r. ⌜ (r ≡ true → (h ≡ 2) × (digits s ≤ 19)) ⌝ }
+{
+    if h != 2 {
+        return false;
+    }
+    digits_of(s) <= 19
 }

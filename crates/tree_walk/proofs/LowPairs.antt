@@ -7,21 +7,17 @@ use native.Mathlib.Nat.{add-zero}
 use native.Mathlib.Omega.{arith}
 use lib.Dec.{leb, ltb, eqb, eqb·suc-zero}
 use borrow.Author.Tests.{leb-true, leb-false, ltb-true, ltb-false, le-leb, lt-leb}
-use Rattle.lists.specs.Lists.{pick, part}
-use Rattle.bits.specs.Bits.{bits, value}
-use Rattle.bits.specs.Code.Front.{Front}
-use Rattle.bits.proofs.Laws.{length-bits}
-use Rattle.reserve.specs.Reserve.{digits, reserve}
-use Rattle.reserve.proofs.Exact.{digits-is, digits-le}
-use Rattle.reserve.proofs.Fit.{fit-all}
+use Rattle.lists.specs.Lists.{pick}
+use Rattle.bits.specs.Bits.{bits}
+use Rattle.reserve.specs.Reserve.{digits}
 use Rattle.tree.specs.Read.{leftOf, leftAt, rightAt, later, walk, shifted, seek}
 use Rattle.tree.specs.Code.Node.{Lies}
 use Rattle.tree_walk.specs.Code.Pairs.{Entered}
 use Rattle.tree_walk.specs.Code.Answers.{walkAnswer, spotted}
 use Rattle.tree.specs.declared.node.Split.{Split}
 use Rattle.tree_walk.specs.declared.pairs.Pair.{Pair}
-use Rattle.tree.proofs.TwoCounts.{reserve-pair}
-use Rattle.tree.proofs.Rooting.{Inner, front-sum}
+use Rattle.tree.proofs.Rooting.{Inner}
+use Rattle.tree.proofs.OneWord.{Low, fewer-digits, left-pair, right-pair}
 use Rattle.tree.proofs.WalkLaws.{walk-left, walk-right}
 use Rattle.tree.proofs.SearchLaws.{seek-left, seek-right}
 use Rattle.tree_walk.proofs.WalkSteps.{walk-damaged, walk-low, walk-high}
@@ -49,10 +45,7 @@ module _ {s l sum passed : ℕ} (le : l ≤ s) where
   in-sum false es ep = omega (arith, es, ep)
 
   pub narrow : digits s ≤ 19 → (c : Bool) → sum ≡ pick c (s - l) l → passed ≡ pick c l 0 → (digits passed ≤ 19) × (digits sum ≤ 19)
-  narrow few c es ep = (less passed (omega (arith, in-sum c es ep)), less sum (omega (arith, in-sum c es ep)))
-    where
-      less : (x : ℕ) → x ≤ s → digits x ≤ 19
-      less x k = omega (arith, few, digits-le x (digits s) (omega (arith, digits-is s)))
+  narrow few c es ep = (fewer-digits few passed (omega (arith, in-sum c es ep)), fewer-digits few sum (omega (arith, in-sum c es ep)))
 
 -- the pair's left count, by widths that were computed
 pub count-of : (w s passed sum x t f g : ℕ) → t ≡ digits s → f ≡ digits passed → g ≡ digits sum → x ≡ w / 2 ^ (64 - (t + f + g)) % 2 ^ g
@@ -96,19 +89,7 @@ pub seek-two-high : {h : ℕ} (n s : ℕ) (b : List ℕ) (a q : ℕ) → h ≡ 2
 seek-two-high n s b a q e = ap (λ (z : ℕ). spotted n (seek z s b a q)) (sym e)
 
 -- ---- four counts with sum s at bit a, whose bits stand at the high end of w
-pub record Low (b : List ℕ) (a s w : ℕ) : Type 0 where
-  pub lies : Lies b a 2 s
-  pub few : digits s ≤ 19
-  pub front : Front (bits b) a w
-
 module _ {b : List ℕ} {a s w : ℕ} (o : Low b a s w) where
-  -- n bits behind the first k, where the tree has them
-  piece : (k n : ℕ) → k + n ≤ 57 → k + n ≤ reserve 2 s → w / 2 ^ (64 - (k + n)) % 2 ^ n ≡ value (part (bits b) (a + k) n)
-  piece k n l i = sym (o .front k n l (omega (arith, o .lies .inside, length-bits b)))
-
-  pub left-piece : (t l : ℕ) → t ≡ digits s → l ≡ w / 2 ^ (64 - (0 + t)) % 2 ^ t → leftOf s (bits b) a ≡ l
-  left-piece t l et el = sym (front-sum b a 1 s w t l (o .lies) (o .front) et el)
-
   module _ (l : ℕ) (el : leftOf s (bits b) a ≡ l) where
     above : s < l → leb (leftOf s (bits b) a) s ≡ false
     above k = ap (λ (z : ℕ). leb z s) el ∙ lt-leb l s k
@@ -145,24 +126,17 @@ module _ {b : List ℕ} {a s w : ℕ} (o : Low b a s w) where
       abbrev start : Bool → ℕ
       start c = pick c (rightAt 1 s l a) (leftAt s a)
 
-      placed : (c : Bool) (passed : ℕ) → passed ≡ pick c l 0 → a + (digits s + digits passed) ≡ start c
-      unfolding pick digits
-      placed true passed e = ap (λ (z : ℕ). a + (digits s + digits z)) e ∙ omega (arith, reserve-pair l)
-      placed false passed e = ap (λ (z : ℕ). a + (digits s + digits z)) e ∙ omega arith
-
-      owned : (c : Bool) (passed sum : ℕ) → passed ≡ pick c l 0 → sum ≡ pick c (s - l) l → digits s + digits passed + digits sum ≤ reserve 2 s
-      unfolding pick digits
-      owned true passed sum ep es =
-          omega (arith, fit-all 1 s l (s - l) (omega arith), reserve-pair l, reserve-pair (s - l), ap digits ep, ap digits es)
-      owned false passed sum ep es = omega (arith, fit-all 1 s l (s - l) (omega arith), reserve-pair l, ap digits ep, ap digits es)
-
       -- its left count, as it is read there
+      count-at : (c : Bool) (passed sum x : ℕ) → passed ≡ pick c l 0 → sum ≡ pick c (s - l) l
+          → x ≡ w / 2 ^ (64 - (digits s + digits passed + digits sum)) % 2 ^ digits sum → leftOf sum (bits b) (start c) ≡ x
+      unfolding pick digits
+      count-at true passed sum x ep es ex = ap (λ (z : ℕ). leftOf z (bits b) (rightAt 1 s l a)) es ∙ right-pair o l le ∙ sym (ex ∙ rw (ep, es))
+      count-at false passed sum x ep es ex =
+          let e : digits s + digits 0 + digits l ≡ digits s + digits l = omega arith in
+          ap (λ (z : ℕ). leftOf z (bits b) (leftAt s a)) es ∙ left-pair o l le ∙ sym (ex ∙ rw (ep, es) (ap (λ (k : ℕ). w / 2 ^ (64 - k) % 2 ^ digits l) e))
+
       count-is : (c : Bool) {p : Pair} → Entered w s l c p → leftOf (p .sum) (bits b) (start c) ≡ p .count
-      unfolding leftOf
-      count-is c {p} e =
-          let n = narrow le (o .few) c (e .sum-is) (e .passed-is) in
-          sym (e .count-is ∙ piece (digits s + digits (p .passed)) (digits (p .sum)) (omega (arith, n, o .few)) (owned c _ _ (e .passed-is) (e .sum-is))
-          ∙ ap (λ (k : ℕ). value (part (bits b) k (digits (p .sum)))) (placed c (p .passed) (e .passed-is)))
+      count-is c {p} e = count-at c (p .passed) (p .sum) (p .count) (e .passed-is) (e .sum-is) (e .count-is)
 
       module _ (acc k j : ℕ) where
         chosen : (c : Bool) → leb 2 j ≡ c → (passed sum : ℕ) → passed ≡ pick c l 0 → sum ≡ pick c (s - l) l

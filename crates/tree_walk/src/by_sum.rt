@@ -1,10 +1,10 @@
 // The search for an index by a prefix sum.
 use crate::damage::DAMAGED;
 use crate::pairs::one_pair;
-use crate::pairs::one_word;
 use bits::front;
 use lists::either;
 use reserve::digits_of;
+use tree::node::one_word;
 use tree::node::root;
 ghost use mathlib.Core.Path.{_≡_};
 ghost use Prim.Native.Nat.{_+_, _≤_, _<_, _^_};

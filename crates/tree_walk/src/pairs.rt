@@ -2,21 +2,9 @@
 use bits::front;
 use lists::either;
 use reserve::digits_of;
-ghost use mathlib.Core.Bool.{true};
-ghost use mathlib.Core.Path.{_≡_};
 ghost use Prim.Native.Nat.{_≤_};
 ghost use Rattle.reserve.specs.Reserve.{digits};
 ghost use Rattle.tree_walk.specs.Code.Pairs.{Entered};
-
-// Whether a tree of 2^h counts with sum s is one of four counts whose three fields, each of no more digits than s, have 57 bits at most.
-pub(crate) fn one_word(h: u32, s: u64) -> bool
-    ensures { λ r. ⌜ (r ≡ true → (h ≡ 2) × (digits s ≤ 19)) ⌝ }
-{
-    if h != 2 {
-        return false;
-    }
-    digits_of(s) <= 19
-}
 
 // One of the two pairs of four counts: its sum and its left count, and the sum of the pair that is passed on the way to it.
 pub struct Pair {

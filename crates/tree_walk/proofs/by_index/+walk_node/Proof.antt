@@ -17,7 +17,7 @@ use Rattle.tree_walk.proofs.by_index.walk_node.Kinds as walk-node-kinds
 use Rattle.tree_walk.proofs.by_index.+walk_node.Lts-walk_node as walk-node-lts
 use Rattle.reserve.proofs.power.Reads as power-reads
 use Rattle.tree.proofs.node.root_by_shifts.Reads as root-by-shifts-reads
-use Rattle.tree_walk.proofs.pairs.one_word.Reads as one-word-reads
+use Rattle.tree.proofs.node.one_word.Reads as one-word-reads
 use Rattle.tree_walk.proofs.by_index.walk_four.Reads as walk-four-reads
 use Rattle.tree_walk.proofs.by_index.+walk_node.{statement}
 use Rattle.tree_walk.proofs.by_index.+walk_node.Tie.{close}

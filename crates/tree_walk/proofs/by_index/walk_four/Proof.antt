@@ -6,7 +6,8 @@ use Rattle.bits.specs.Bits.{bits}
 use Rattle.tree.specs.Read.{leftOf}
 use Rattle.tree_walk.specs.declared.pairs.Pair.{Pair}
 use Rattle.tree_walk.proofs.WalkSteps.{kept}
-use Rattle.tree_walk.proofs.LowPairs.{Low, left-piece, pick-le, skipped, in-sum, walk-four-bad, walk-two-bad, walk-two}
+use Rattle.tree.proofs.OneWord.{Low, left-piece}
+use Rattle.tree_walk.proofs.LowPairs.{pick-le, skipped, in-sum, walk-four-bad, walk-two-bad, walk-two}
 use borrow.Author.Needs.{needs}
 use Rattle.tree_walk.proofs.by_index.walk_four.Statement.{statement}
 use Rattle.tree_walk.proofs.by_index.walk_four.Tie as tie

@@ -20,7 +20,7 @@ use Rattle.tree_walk.proofs.by_sum.+search_node.Lts-search_node as sear
 use Rattle.lists.proofs.either.Reads as either-reads
 use Rattle.reserve.proofs.power.Reads as power-reads
 use Rattle.tree.proofs.node.root.Reads as root-reads
-use Rattle.tree_walk.proofs.pairs.one_word.Reads as one-word-reads
+use Rattle.tree.proofs.node.one_word.Reads as one-word-reads
 use Rattle.tree_walk.proofs.by_sum.search_four.Reads as search-four-reads
 use Rattle.tree_walk.proofs.by_sum.+search_node.{statement}
 use Rattle.tree_walk.proofs.by_sum.+search_node.Tie.{close}

@@ -4,7 +4,8 @@ use Prim.Native.Nat.{_≤_}
 use native.Mathlib.Omega.{arith}
 use Rattle.bits.specs.Bits.{bits}
 use Rattle.tree.specs.Read.{leftOf}
-use Rattle.tree_walk.proofs.LowPairs.{Low, left-piece, pick-le, seek-four-bad, passed-le, seek-two-bad, seek-two}
+use Rattle.tree.proofs.OneWord.{Low, left-piece}
+use Rattle.tree_walk.proofs.LowPairs.{pick-le, seek-four-bad, passed-le, seek-two-bad, seek-two}
 use borrow.Author.Needs.{needs}
 use Rattle.tree_walk.proofs.by_sum.search_four.Statement.{statement}
 use Rattle.tree_walk.proofs.by_sum.search_four.Tie as tie

@@ -10,22 +10,22 @@ use lib.ListN.{length, set}
 use lib.Seq.{set-split}
 use Rattle.lists.specs.Lists.{splice}
 use Rattle.lists.proofs.Tests.{each}
 use Rattle.tree.specs.Read.{leftOf, leftAt, rightAt, counts}
 use Rattle.tree.specs.Exact.{clear, spareAt, spareLen, exact}
 use Rattle.tree.specs.Code.Node.{Rooted}
 use Rattle.tree.specs.declared.node.Split.{Split}
 use Rattle.tree.proofs.Shape.{length-counts}
 use Rattle.lists.proofs.Parts.{splice-then}
 use Rattle.tree.proofs.Rooting.{Inner, halved}
 
 -- ---- the halves of a code are codes
 
-record BothExact (h s : ℕ) (b : List ℕ) (a l : ℕ) : Type 0 where
+pub record BothExact (h s : ℕ) (b : List ℕ) (a l : ℕ) : Type 0 where
   pub le : leb l s ≡ true
   pub left : exact h l b (leftAt s a) ≡ true
   pub right : exact h (s - l) b (rightAt h s l a) ≡ true
 
-both-exact : (h s : ℕ) (b : List ℕ) (a : ℕ) → exact (suc h) s b a ≡ true → BothExact h s b a (leftOf s b a)
+pub both-exact : (h s : ℕ) (b : List ℕ) (a : ℕ) → exact (suc h) s b a ≡ true → BothExact h s b a (leftOf s b a)
 unfolding exact
 both-exact h s b a e =
     let l : ℕ = leftOf s b a in

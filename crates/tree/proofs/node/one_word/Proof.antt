@@ -1,11 +1,11 @@
--- `tree_walk::pairs::one_word` meets its contract. Assumes nothing.
+-- `tree::node::one_word` meets its contract. Assumes nothing.
 use mathlib.Core.Path.{_≡_}
 use Prim.Native.Nat.{ℕ}
 use native.Mathlib.Omega.{arith}
 use borrow.Author.Tests.{leb-true}
 use borrow.Author.Needs.{needs}
-use Rattle.tree_walk.proofs.pairs.one_word.Statement.{statement}
-use Rattle.tree_walk.proofs.pairs.one_word.Tie as tie
+use Rattle.tree.proofs.node.one_word.Statement.{statement}
+use Rattle.tree.proofs.node.one_word.Tie as tie
 
 returns : tie.Need-returns
 returns c = λ e. let z : _≡_ {A = ℕ} 0 1 = cc in absurd (omega arith)
