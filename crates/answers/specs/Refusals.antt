@@ -1,4 +1,4 @@
--- Document 01, 'Where a call is turned down': the refusals by their numbers. Assumes nothing.
+-- Document 01, 'Where a call is turned down', and from 13 on document 02: the refusals by their numbers. Assumes nothing.
 use Prim.Native.Nat.{ℕ}
 
 -- 'e outside 2 to 8'
@@ -48,3 +48,23 @@ logFull = 11
 -- 'cells, need above C'
 abbrev pub cellsShort : ℕ
 cellsShort = 12
+
+-- note 1: 'k is 0 or above N'
+abbrev pub stretchWrong : ℕ
+stretchWrong = 13
+
+-- note 3: 'a book of odd length or with a digit above 9'
+abbrev pub bookWrong : ℕ
+bookWrong = 14
+
+-- note 3: 'an image with a count above 9999'
+abbrev pub countTooWide : ℕ
+countTooWide = 15
+
+-- note 4: 'a list with an odd number of entries, or whose day numbers don't rise strictly or whose hours are neither 23 nor 25'
+abbrev pub changesWrong : ℕ
+changesWrong = 16
+
+-- note 7: 'a q of 0'
+abbrev pub bagEmpty : ℕ
+bagEmpty = 17

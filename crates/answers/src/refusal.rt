@@ -1,4 +1,4 @@
-// The refusals of document 01, 'Where a call is turned down'.
+// The refusals of document 01, 'Where a call is turned down', and from 13 on those of document 02's notes.
 // e outside 2 to 8
 pub const PAGE_SIZE: u32 = 1;
 
@@ -34,3 +34,18 @@ pub const FULL: u32 = 11;
 
 // cells, need above C
 pub const CELLS: u32 = 12;
+
+// note 1: k is 0 or above N
+pub const STRETCH: u32 = 13;
+
+// note 3: a book of odd length or with a digit above 9
+pub const BOOK: u32 = 14;
+
+// note 3: an image with a count above 9999
+pub const FOUR_DIGITS: u32 = 15;
+
+// note 4: a list of changed days that is none
+pub const CHANGES: u32 = 16;
+
+// note 7: a q of 0
+pub const BAG: u32 = 17;
