@@ -3,7 +3,6 @@ pub mod Slices
 pub mod Refusals
 pub mod Demand1
 pub mod Sentences1
-pub mod ListBack
 pub mod Theorems
 pub mod Written
 pub mod ImageRanges
