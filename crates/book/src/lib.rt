@@ -48,7 +48,9 @@ pub fn hour_at(book: &[u8], i: usize) -> u32
     if book.len() <= at + 1 {
         return 0;
     }
-    100 * unpacked(book[at]) + unpacked(book[at + 1])
+    let high = unpacked(book[at]);
+    let low = unpacked(book[at + 1]);
+    100 * high + low
 }
 
 // Puts the counts of n hours from hour from on at the front of counts, zeros behind the last hour.

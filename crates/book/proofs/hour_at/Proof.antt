@@ -57,9 +57,9 @@ hour-at-spec =
     returns
     shared-slice-read-unpacked
     unpacked-requires
-    mul-result
     add-unpacked
     shared-slice-read-unpacked-2
     unpacked-requires-2
+    mul-result
     add-result
     returns-2)
