@@ -111,3 +111,64 @@ book-gives xs out f l = rw f (put-gives out (bookOf xs) l)
 pub to-gives : (s out : List ℕ) → accepted s ≡ true → fourDigits (listOf s) ≡ true → length (bookOf (listOf s)) ≤ length out
     → Gave (toCall s out) (bookOf (listOf s))
 to-gives s out a f l = subst (λ (w : Wrote). Gave w (bookOf (listOf s))) (to-past s out a) (book-gives (listOf s) out f l)
+
+-- ---- the number that a call answers, and its buffer afterwards
+gave-first : (w : Wrote) (i o : List ℕ) (n : ℕ) → Gave w i → w .reply ≡ given n → o ≡ w .bytes → Gave w (take n o)
+gave-first w i o n g q r =
+    let m : n ≡ length i = same-number n (length i) (sym q ∙ g .answer) in
+    let z : take n o ≡ i = ap (take n) r ∙ ap (λ (k : ℕ). take k (w .bytes)) m ∙ g .bytes in
+    subst (Gave w) (sym z) g
+
+put-does : (out i : List ℕ) (n : ℕ) → put out i .reply ≡ given n → Gave (put out i) i
+unfolding put pick unwritten
+put-does out i n = go (leb (length i) (length out))
+  where
+    done : Wrote
+    done = record { reply = given (length i); bytes = i ++ drop (length i) out }
+
+    go : (t : Bool) → pick t done (unwritten out 4) .reply ≡ given n → Gave (pick t done (unwritten out 4)) i
+    go true q = record { answer = refl; bytes = take-at i (drop (length i) out) (length i) refl }
+    go false q = absurd (never 4 n q)
+
+write-does : (e : ℕ) (xs out : List ℕ) (n : ℕ) → writeCall e xs out .reply ≡ given n → Gave (writeCall e xs out) (image e xs)
+unfolding writeCall putAfter unwritten
+write-does e xs out n = go (lengthCall e xs)
+  where
+    go : (r : Reply) → putAfter r out (image e xs) .reply ≡ given n → Gave (putAfter r out (image e xs)) (image e xs)
+    go (given m) q = put-does out (image e xs) n q
+    go (refused k) q = absurd (never k n q)
+
+from-does : (e : ℕ) (b out : List ℕ) (n : ℕ) → fromCall e b out .reply ≡ given n → Gave (fromCall e b out) (image e (listOfBook b))
+unfolding fromCall pick unwritten
+from-does e b out n = go (leb 2 e && leb e 8) (decimal b)
+  where
+    W : Wrote
+    W = writeCall e (listOfBook b) out
+
+    go : (t u : Bool) → pick t (pick u W (unwritten out 14)) (unwritten out 1) .reply ≡ given n
+        → Gave (pick t (pick u W (unwritten out 14)) (unwritten out 1)) (image e (listOfBook b))
+    go true true q = write-does e (listOfBook b) out n q
+    go true false q = absurd (never 14 n q)
+    go false u q = absurd (never 1 n q)
+
+pub from-long : (e : ℕ) (b out o : List ℕ) (n : ℕ) → fromCall e b out .reply ≡ given n → o ≡ fromCall e b out .bytes → Gave (fromCall e b out) (take n o)
+from-long e b out o n q r = gave-first (fromCall e b out) (image e (listOfBook b)) o n (from-does e b out n q) q r
+
+book-does : (xs out : List ℕ) (n : ℕ) → putBook xs out .reply ≡ given n → Gave (putBook xs out) (bookOf xs)
+unfolding putBook pick unwritten
+book-does xs out n = go (fourDigits xs)
+  where
+    go : (t : Bool) → pick t (put out (bookOf xs)) (unwritten out 15) .reply ≡ given n → Gave (pick t (put out (bookOf xs)) (unwritten out 15)) (bookOf xs)
+    go true q = put-does out (bookOf xs) n q
+    go false q = absurd (never 15 n q)
+
+to-does : (s out : List ℕ) (n : ℕ) → toCall s out .reply ≡ given n → Gave (toCall s out) (bookOf (listOf s))
+unfolding toCall past unwritten
+to-does s out n = go (check s)
+  where
+    go : (v : Verdict) → past v (putBook (listOf s) out) out .reply ≡ given n → Gave (past v (putBook (listOf s) out) out) (bookOf (listOf s))
+    go (holds m t) q = book-does (listOf s) out n q
+    go (fails k) q = absurd (never k n q)
+
+pub to-long : (s out o : List ℕ) (n : ℕ) → toCall s out .reply ≡ given n → o ≡ toCall s out .bytes → Gave (toCall s out) (take n o)
+to-long s out o n q r = gave-first (toCall s out) (bookOf (listOf s)) o n (to-does s out n q) q r
