@@ -20,11 +20,11 @@ use Rattle.store.proofs.SoundFacts.{facts}
 use Rattle.store.proofs.StepLaws.{after-good, after-plain}
 use Rattle.store.proofs.Whole.{call-good}
 use Rattle.session.specs.Line.{command}
-use Rattle.session.specs.Lines.{lines}
-use Rattle.session.specs.Printed.{printed}
+use Rattle.session_input.specs.Lines.{lines}
+use Rattle.session_print.specs.Printed.{printed}
 use Rattle.session.specs.declared.line.Command.{Command}
 use Rattle.session.specs.declared.line.Command.the-variants.{Fresh, Append, Set, Count, Reading, Reach, Day, Free, Unknown}
-use Rattle.session.specs.declared.output.Reply.{Reply}
+use Rattle.session_print.specs.declared.Reply.{Reply}
 use Rattle.replies.specs.Session.{replyTo, Turn, changes, asks, starts, renews, turn, replies, output}
 use Rattle.replies.specs.PlainSession.{Board, empty, holds, PlainTurn, plainChange, plainAsk, plainStart, plainTurn, plainReplies, plainOutput}
 

@@ -5,12 +5,12 @@ use lib.Dec.{leb}
 use Rattle.lists.specs.Lists.{concat, every, pick}
 use Rattle.store.specs.Plain.{Call, Plain, next, plainFresh, step}
 use Rattle.session.specs.Line.{command}
-use Rattle.session.specs.Lines.{lines}
-use Rattle.session.specs.Printed.{printed}
+use Rattle.session_input.specs.Lines.{lines}
+use Rattle.session_print.specs.Printed.{printed}
 use Rattle.session.specs.declared.line.Command.{Command}
 use Rattle.session.specs.declared.line.Command.the-variants.{Fresh, Append, Set, Count, Reading, Reach, Day, Free, Unknown}
-use Rattle.session.specs.declared.output.Reply.{Reply}
-use Rattle.session.specs.declared.output.Reply.the-variants.{Done, Refused}
+use Rattle.session_print.specs.declared.Reply.{Reply}
+use Rattle.session_print.specs.declared.Reply.the-variants.{Done, Refused}
 use Rattle.replies.specs.Session.{replyTo}
 
 -- no list before n

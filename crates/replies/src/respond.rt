@@ -2,7 +2,7 @@
 use answers::store::Answer;
 use fresh::fresh;
 use session::Command;
-use session::Reply;
+use session_print::Reply;
 use store::header::Header;
 ghost use mathlib.Core.Bool.{_&&_};
 ghost use mathlib.Core.Path.{_≡_};

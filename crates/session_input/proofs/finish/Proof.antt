@@ -1,11 +1,11 @@
--- `session::input::finish` meets its contract. Assumes nothing.
+-- `session_input::finish` meets its contract. Assumes nothing.
 use mathlib.Core.Path.{sym}
 use native.Mathlib.Omega.{arith}
 use lib.Seq.{length-take-le}
-use Rattle.session.proofs.GatherLaws.{ends-none, ends-line}
+use Rattle.session_input.proofs.GatherLaws.{ends-none, ends-line}
 use borrow.Author.Needs.{needs}
-use Rattle.session.proofs.input.finish.Statement.{statement}
-use Rattle.session.proofs.input.finish.Tie as tie
+use Rattle.session_input.proofs.finish.Statement.{statement}
+use Rattle.session_input.proofs.finish.Tie as tie
 
 smaller-requires : tie.Need-smaller-requires
 smaller-requires c κs = search needs

@@ -11,12 +11,12 @@ use lib.Seq.{take-nil, take-suc-set, take-all, take-take, take-append-le}
 use borrow.Author.Tests.{eq-eqb, ne-eqb}
 use Rattle.lists.specs.Lists.{pick}
 use Rattle.lists.proofs.Parts.{take-smaller}
 use Rattle.session.specs.Line.{splitOn, onFirst, command}
-use Rattle.session.specs.Lines.{closed, lines, holds, completes, ends, gathered, Gathers}
+use Rattle.session_input.specs.Lines.{closed, lines, holds, completes, ends, gathered, Gathers}
 use Rattle.session.specs.declared.line.Command.{Command}
-use Rattle.session.specs.declared.input.Gathered.the-variants.{More, Whole}
+use Rattle.session_input.specs.declared.Gathered.the-variants.{More, Whole}
 use Rattle.session.proofs.SplitLaws.{split-cut, split-more, Parts, parts}
 use Rattle.session.proofs.LineLaws.{command-long}
 
 -- a cut line asks what the whole line asks
 command-cut : (room : ℕ) (l : List ℕ) → 40 < room → command (take room l) ≡ command l

@@ -1,13 +1,13 @@
--- `session::output::put_number` meets its contract. Assumes nothing.
+-- `session_print::put_number` meets its contract. Assumes nothing.
 use mathlib.Core.Path.{_≡_, ap, _∙_}
 use native.Mathlib.Omega.{arith}
 use lib.ListN.{length, take}
-use Rattle.session.specs.Printed.{decimal}
-use Rattle.session.proofs.DecimalLaws.{same-digits, decimal-length}
-use Rattle.session.proofs.PrintLaws.{number-put}
+use Rattle.session_print.specs.Printed.{decimal}
+use Rattle.session_print.proofs.DecimalLaws.{same-digits, decimal-length}
+use Rattle.session_print.proofs.PrintLaws.{number-put}
 use borrow.Author.Needs.{needs}
-use Rattle.session.proofs.output.put_number.Statement.{statement}
-use Rattle.session.proofs.output.put_number.Tie as tie
+use Rattle.session_print.proofs.put_number.Statement.{statement}
+use Rattle.session_print.proofs.put_number.Tie as tie
 
 decimal-requires : tie.Need-decimal-requires
 decimal-requires c κs = search needs

@@ -2,9 +2,9 @@
 // still over 40 bytes.
 ghost use mathlib.Core.Path.{_≡_};
 ghost use lib.ListN.{take};
-ghost use Rattle.session.specs.Lines.{Gathers, ends, wholeCommands};
-use crate::line::Command;
-use crate::line::parse;
+ghost use Rattle.session_input.specs.Lines.{Gathers, ends, wholeCommands};
+use session::Command;
+use session::parse;
 
 // What is gathered: so many bytes of a line, or a whole line.
 pub enum Gathered {

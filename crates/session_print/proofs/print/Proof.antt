@@ -1,10 +1,10 @@
--- `session::output::print` meets its contract. Assumes nothing.
+-- `session_print::print` meets its contract. Assumes nothing.
 use mathlib.Core.Path.{ap}
-use Rattle.session.specs.Printed.{printed}
-use Rattle.session.proofs.PrintLaws.{prints, refused-put}
+use Rattle.session_print.specs.Printed.{printed}
+use Rattle.session_print.proofs.PrintLaws.{prints, refused-put}
 use borrow.Author.Needs.{needs}
-use Rattle.session.proofs.output.print.Statement.{statement}
-use Rattle.session.proofs.output.print.Tie as tie
+use Rattle.session_print.proofs.print.Statement.{statement}
+use Rattle.session_print.proofs.print.Tie as tie
 
 enum-known-reply : tie.Need-enum-known-reply
 enum-known-reply c = search needs

@@ -1,11 +1,11 @@
--- `session::input::gather` meets its contract. Assumes nothing.
+-- `session_input::gather` meets its contract. Assumes nothing.
 use mathlib.Core.Path.{sym}
 use native.Mathlib.Omega.{arith}
 use lib.Seq.{length-take-le}
-use Rattle.session.proofs.GatherLaws.{gathers-end, gathers-more, gathers-full}
+use Rattle.session_input.proofs.GatherLaws.{gathers-end, gathers-more, gathers-full}
 use borrow.Author.Needs.{needs}
-use Rattle.session.proofs.input.gather.Statement.{statement}
-use Rattle.session.proofs.input.gather.Tie as tie
+use Rattle.session_input.proofs.gather.Statement.{statement}
+use Rattle.session_input.proofs.gather.Tie as tie
 
 smaller-requires : tie.Need-smaller-requires
 smaller-requires c κs = search needs

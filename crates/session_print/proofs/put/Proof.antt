@@ -1,13 +1,13 @@
--- `session::output::put` meets its contract. Assumes nothing.
+-- `session_print::put` meets its contract. Assumes nothing.
 use mathlib.Core.Path.{_≡_}
 use Prim.Native.Nat.{_-_, _≤_}
 use native.Mathlib.Omega.{arith}
 use lib.ListN.{length}
 use lib.Seq.{paste, paste-zero}
-use Rattle.session.proofs.PrintLaws.{put-room, put-turn, put-all}
+use Rattle.session_print.proofs.PrintLaws.{put-room, put-turn, put-all}
 use borrow.Author.Needs.{needs}
-use Rattle.session.proofs.output.put.Statement.{statement}
-use Rattle.session.proofs.output.put.Tie as tie
+use Rattle.session_print.proofs.put.Statement.{statement}
+use Rattle.session_print.proofs.put.Tie as tie
 
 abbrev Inv-loop : tie.InvT-loop
 Inv-loop out₀ at text i₀ out i = (i ≤ length text) × (out ≡ paste out₀ at text i)

@@ -7,11 +7,11 @@ use native.Mathlib.Numerals.{add-one}
 use lib.ListN.{length, getD, take, drop, set, length-append}
 use lib.Seq.{paste, paste-suc, length-paste, take-all, take-at, length-take-le}
 use Rattle.lists.specs.Lists.{splice}
 use Rattle.session.specs.Ascii.{bytes}
-use Rattle.session.specs.Printed.{decimal, printed, Prints}
-use Rattle.session.specs.declared.output.Reply.{Reply}
-use Rattle.session.specs.declared.output.Reply.the-variants.{Number, Done, Refused, Unknown}
-use Rattle.session.proofs.DecimalLaws.{decimal-length}
+use Rattle.session_print.specs.Printed.{decimal, printed, Prints}
+use Rattle.session_print.specs.declared.Reply.{Reply}
+use Rattle.session_print.specs.declared.Reply.the-variants.{Number, Done, Refused, Unknown}
+use Rattle.session_print.proofs.DecimalLaws.{decimal-length}
 use Rattle.lists.proofs.Parts.{splice-then}
 
 -- a turn of the copying loop

@@ -6,11 +6,11 @@ use Prim.Native.Nat.{ℕ, _≤_}
 use lib.ListN.{length, take}
 use lib.Dec.{eqb}
 use Rattle.lists.specs.Lists.{pick}
 use Rattle.session.specs.Ascii.{byte}
 use Rattle.session.specs.Line.{splitOn, command}
 use Rattle.session.specs.declared.line.Command.{Command}
-use Rattle.session.specs.declared.input.Gathered.{Gathered}
-use Rattle.session.specs.declared.input.Gathered.the-variants.{More, Whole}
+use Rattle.session_input.specs.declared.Gathered.{Gathered}
+use Rattle.session_input.specs.declared.Gathered.the-variants.{More, Whole}
 
 -- behind the last line end there is a line only if there are bytes
 unfoldable pub closed : List (List ℕ) → List (List ℕ)

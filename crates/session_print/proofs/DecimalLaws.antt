@@ -12,9 +12,9 @@ use borrow.Author.Tests.{le-leb, lt-ltb, le-ltb}
 use Rattle.io.specs.Digits.{glyph, digits, Fewest}
 use Rattle.lists.specs.Lists.{pick, every, first}
 use Rattle.lists.proofs.Tests.{both, left, right}
 use Rattle.session.specs.Number.{isDigit, valueFrom, value, digitsOnly, number}
-use Rattle.session.specs.Printed.{decimalIn, decimal}
+use Rattle.session_print.specs.Printed.{decimalIn, decimal}
 use Rattle.session.specs.declared.number.Numeral.the-variants.{Value}
 
 -- one digit, and one digit more
 module _ (k n : ℕ) where

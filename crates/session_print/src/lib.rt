@@ -4,7 +4,7 @@ ghost use mathlib.Core.List.{[], _∷_, _++_};
 ghost use Prim.Native.Nat.{_+_, _≤_};
 ghost use lib.ListN.{length};
 ghost use Rattle.lists.specs.Lists.{splice};
-ghost use Rattle.session.specs.Printed.{decimal, Prints};
+ghost use Rattle.session_print.specs.Printed.{decimal, Prints};
 
 pub enum Reply {
     Number(u64),

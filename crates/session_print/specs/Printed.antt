@@ -5,9 +5,9 @@ use Prim.Native.Nat.{ℕ, zero, suc, _+_, _/_, _%_}
 use lib.ListN.{length}
 use lib.Dec.{ltb}
 use Rattle.lists.specs.Lists.{pick, splice}
 use Rattle.session.specs.Ascii.{byte, bytes}
-use Rattle.session.specs.declared.output.Reply.{Reply}
-use Rattle.session.specs.declared.output.Reply.the-variants.{Number, Done, Refused, Unknown}
+use Rattle.session_print.specs.declared.Reply.{Reply}
+use Rattle.session_print.specs.declared.Reply.the-variants.{Number, Done, Refused, Unknown}
 
 -- the decimal digits of n, most significant first, no zero in front; k is at least their number
 unfoldable pub decimalIn : ℕ → ℕ → List ℕ
