@@ -1,6 +1,6 @@
 // The check of a tree: whether bits are the code of some list.
-use bits::front;
-use bits::word::low_bits;
+use bits_field::front;
+use bits_word::low_bits;
 use reserve::digits_of;
 use reserve::reserve_of;
 use reserve_table::reserve_by;
@@ -23,7 +23,7 @@ pub fn zero_bits(b: &[u8], at: usize, n: usize) -> bool
     let mut done = 0;
     while done < n {
         let k = lists::smaller(n - done, 57);
-        if bits::get_field(b, at + done, k as u32) != 0 {
+        if bits_field::get_field(b, at + done, k as u32) != 0 {
             return false;
         }
         done = done + k;
@@ -69,7 +69,7 @@ fn low_levels(b: &[u8], at: usize, h: u32, s: u64, r: usize) -> bool
     requires { ⌜ Lies (now b) at h s × (r ≡ reserved h s) × (r ≤ 57) × (1 ≤ h) × (h ≤ 2) ⌝ }
     ensures { λ q. ⌜ q ≡ exact h s (bits (now (b .entry))) at ⌝ }
 {
-    let v = bits::get_field(b, at, r as u32);
+    let v = bits_field::get_field(b, at, r as u32);
     if h == 1 {
         return v <= s;
     }
