@@ -1,7 +1,7 @@
 // The parts of an image, put into a buffer that has room for it: the header, then page by page, then the zeros behind the code.
 use crate::plan::Layout;
-use bits_clear::clear_bits;
 use bits::numbers::put4;
+use bits_clear::clear_bits;
 use bits_field::put_field;
 use tree::sums::sum_of;
 ghost use mathlib.Core.Path.{_≡_};
