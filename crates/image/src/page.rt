@@ -31,7 +31,7 @@ pub fn root_of(s: &[u8], h: Head, p: u64) -> Root
             end: 0,
         };
     }
-    let value = bits::get_field(s, h.code + (start as usize), w);
+    let value = bits_field::get_field(s, h.code + (start as usize), w);
     Root {
         ok: true,
         value,

@@ -27,7 +27,7 @@ fn root_of(s: &[u8], h: Head, w: u32, p: usize) -> u64
     requires { ⌜ (accepted (now s) ≡ true) × HeadOf (now s) h × (p < pagesOf (now s)) × (w ≡ widthOf (now s)) ⌝ }
     ensures { λ r. ⌜ r ≡ rootOf (now (s .entry)) p ⌝ }
 {
-    bits::get_field(s, h.code + start_of(s, h, p), w)
+    bits_field::get_field(s, h.code + start_of(s, h, p), w)
 }
 
 // The root of the page before page p: 0 before page 0.

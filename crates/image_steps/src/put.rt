@@ -1,8 +1,8 @@
 // The parts of an image, put into a buffer that has room for it: the header, then page by page, then the zeros behind the code.
 use crate::plan::Layout;
-use bits::clear::clear_bits;
 use bits::numbers::put4;
-use bits::put_field;
+use bits_clear::clear_bits;
+use bits_field::put_field;
 use tree::sums::sum_of;
 ghost use mathlib.Core.Path.{_≡_};
 ghost use Prim.Native.Nat.{_+_, _≤_, _<_};

@@ -1,8 +1,6 @@
 // The live calls on a store's bytes. Each turns a store that is not sound down first, and then answers as the store's list does.
 use answers::refusal;
 use answers::store::Answer;
-use live_query::query;
-use live_query::search;
 use soundness::check;
 ghost use Rattle.store.specs.Plain.{Append, Count, Day, Free, Reach, Reading, Set};
 ghost use Rattle.store.specs.Call.{Called};
@@ -35,7 +33,7 @@ pub fn count(s: &[u8], i: u32) -> Answer
     if !check(s) {
         return Answer::Refused(refusal::UNSOUND);
     }
-    query::count(s, i)
+    live_query::count(s, i)
 }
 
 // The reading at i: the sum of the counts before hour i.
@@ -45,7 +43,7 @@ pub fn reading(s: &[u8], i: u32) -> Answer
     if !check(s) {
         return Answer::Refused(refusal::UNSOUND);
     }
-    query::reading(s, i)
+    live_query::reading(s, i)
 }
 
 // The smallest i whose reading is p or more.
@@ -55,7 +53,7 @@ pub fn reach(s: &[u8], p: u32) -> Answer
     if !check(s) {
         return Answer::Refused(refusal::UNSOUND);
     }
-    search::reach(s, p)
+    live_search::reach(s, p)
 }
 
 // The sum of the counts of day d.
@@ -65,7 +63,7 @@ pub fn day(s: &[u8], d: u32) -> Answer
     if !check(s) {
         return Answer::Refused(refusal::UNSOUND);
     }
-    query::day(s, d)
+    live_query::day(s, d)
 }
 
 // How many cells are free.
@@ -75,5 +73,5 @@ pub fn free(s: &[u8]) -> Answer
     if !check(s) {
         return Answer::Refused(refusal::UNSOUND);
     }
-    query::free(s)
+    live_query::free(s)
 }

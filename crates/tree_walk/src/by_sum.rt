@@ -1,7 +1,7 @@
 // The search for an index by a prefix sum.
 use crate::damage::DAMAGED;
 use crate::pairs::one_pair;
-use bits::front;
+use bits_field::front;
 use lists::either;
 use reserve::digits_of;
 use tree::node::one_word;

@@ -1,5 +1,5 @@
 // The lowest two levels on a walk's way: four counts whose bits stand at the high end of a word, and one of their two pairs.
-use bits::front;
+use bits_field::front;
 use lists::either;
 use reserve::digits_of;
 ghost use Prim.Native.Nat.{_≤_};

@@ -8,7 +8,7 @@ use Rattle.tree.specs.Code.Node.{Lies}
 use Rattle.answers.specs.Image.{told, given, refused}
 use Rattle.image.specs.Reach.{Reach}
 use Rattle.image.proofs.HeadLaws.{bounds}
-use Rattle.image_reach.proofs.SearchSteps.{AtPage, above, before-small, found-six, index, last-six, page-in, page-six}
+use Rattle.image_find.proofs.SearchSteps.{AtPage, above, before-small, found-six, index, last-six, page-in, page-six}
 use Rattle.image_reach.proofs.reach_in.Statement.{statement}
 use Rattle.image_reach.proofs.reach_in.Tie as tie
 
