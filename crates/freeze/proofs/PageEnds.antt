@@ -49,6 +49,11 @@ to {e} {xs} {plan} r d h q =
     }
 
 -- ---- pages that end in page p of the store
+-- the reading behind the page
+pub all-next : {s : List ℕ} {P p t k : ℕ} (all : ℕ) → OfPage s P p t k → all ≡ reading (listIn s) (64 * p)
+    → all + t ≡ reading (listIn s) (64 * (p + 1))
+all-next {s} {P} {p} {t} all o q = ap₂ _+_ q (sum-same o) ∙ sym (reading-next (listIn s) p)
+
 -- a walk to count i of it gives the reading behind that count
 told : (all x c : ℕ) (f : Found) → f ≡ Found.found x c → walkAnswer all 1 f ≡ all + x + c
 unfolding walkAnswer
@@ -67,6 +72,12 @@ walked-to {s} {P} {p} {t} {k} {code} o g all i w ea l q =
     let m : reading ys (i + 1) ≡ sum (take i ys) + getD ys i 0 =
     ap (reading ys) (add-one i) ∙ ap sum (take-suc ys i 0 (omega arith)) ∙ sum-snoc (take i ys) (getD ys i 0) in
     omega (arith, q, told all (sum (take i ys)) (getD ys i 0) (walk 6 t (bits code) 0 i) f, reading-within 64 xs p (i + 1) (omega arith))
+
+-- and at the page's last count the page's sum does
+pub ended-at : {s : List ℕ} {P p t k : ℕ} → OfPage s P p t k → (all i : ℕ) → all ≡ reading (listIn s) (64 * p) → i + 1 ≡ 64
+    → all + t ≡ reading (listIn s) (64 * p + (i + 1))
+ended-at {s} {P} {p} o all i ea q =
+    all-next all o ea ∙ ap (reading (listIn s)) {x = 64 * (p + 1)} {y = 64 * p + (i + 1)} (omega arith)
 
 -- where the next page ends, d pages being there
 pub record Turn (m p d : ℕ) : Type 0 where
@@ -103,10 +114,6 @@ ahead e m p end n d em q l k =
 
 pub power-low : (e m : ℕ) → m ≡ 2 ^ e → e ≤ 8 → (0 < m) × (m ≤ 256)
 power-low e m q l = rw q (pow-pos e, pow-mono {i = e} {j = 8} l)
-
-pub all-next : {s : List ℕ} {P p t k : ℕ} (all : ℕ) → OfPage s P p t k → all ≡ reading (listIn s) (64 * p)
-    → all + t ≡ reading (listIn s) (64 * (p + 1))
-all-next {s} {P} {p} {t} all o q = ap₂ _+_ q (sum-same o) ∙ sym (reading-next (listIn s) p)
 
 -- ---- behind the last page of the store
 module _ (s : List ℕ) (e : sound s ≡ true) where

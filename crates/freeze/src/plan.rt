@@ -11,11 +11,24 @@ use pages::gather::gather_at;
 use store::header::Header;
 ghost use mathlib.Core.Bool.{true};
 ghost use mathlib.Core.Path.{_≡_};
-ghost use Prim.Native.Nat.{_≤_};
+ghost use Prim.Native.Nat.{_+_, _*_, _≤_};
+ghost use Rattle.lists.specs.Lists.{reading};
 ghost use Rattle.store.specs.Reading.{listIn, pagesOf};
 ghost use Rattle.store.specs.Sound.{sound};
 ghost use Rattle.image_steps.specs.Code.Planning.{Drafted, Planned as PlannedOf};
-ghost use Rattle.freeze.specs.Code.Steps.{Within};
+ghost use Rattle.freeze.specs.Code.Steps.{OnPage, Within};
+
+// The reading behind count j of the page of the store that has this code and sum; all is the reading at the page's start. Where the page
+// ends it takes no walk.
+fn reading_behind(code: &[u8], sum: u64, j: usize, all: u64) -> u64
+    requires { ⌜ OnPage (now code) sum j all ⌝ }
+    ensures { λ r. ⌜ ((a : OnPage (now (code .entry)) sum j all) → r ≡ reading (listIn (a .s)) (64 * a .p + (j + 1))) ⌝ }
+{
+    if j + 1 == Header::HOURS {
+        return all + sum;
+    }
+    tree_walk::walk(code, 0, 6, sum, j as u64, all, 1)
+}
 
 // Adds the pages up to page number end of the image, which end in page p of the store; all is the reading at the start of page p.
 fn add_within(s: &[u8], e: u32, p: usize, all: u64, end: usize, plan: Plan) -> Plan
@@ -28,7 +41,7 @@ fn add_within(s: &[u8], e: u32, p: usize, all: u64, end: usize, plan: Plan) -> P
     let mut next = plan;
     while next.done < end {
         let j = m * (next.done + 1) - Header::HOURS * p - 1;
-        let r = tree_walk::walk(&code, 0, 6, own.sum, j as u64, all, 1);
+        let r = reading_behind(&code, own.sum, j, all);
         next = add_page(next, r - next.total);
     }
     next

@@ -4,7 +4,9 @@ use answers::refusal;
 use image::head::Head;
 use image::head::Opening;
 use image::head::open_image;
-use image::page::page_of;
+use image::page::page_between;
+use image::page::root_before;
+use image::page::root_of;
 use image_find::Span;
 use image_find::find;
 ghost use Prim.Native.Nat.{_≤_};
@@ -21,7 +23,7 @@ fn reach_in(s: &[u8], h: Head, q: u64, at: Span) -> Answer
     if !at.ok {
         return Answer::Refused(refusal::BODY);
     }
-    let r = page_of(s, h, at.lo);
+    let r = page_between(h, root_of(s, h, at.lo), root_before(s, h, at.lo));
     if !r.ok {
         return Answer::Refused(refusal::BODY);
     }

@@ -4,13 +4,13 @@ use mathlib.Core.Path.{_≡_, ap, _∙_}
 use Prim.Native.Nat.{ℕ}
 use native.Mathlib.Nat.{mul-le-mul-left}
 use Rattle.lists.specs.Lists.{reading}
-use Rattle.pages.proofs.Coding.{lies}
-use Rattle.pages.proofs.SoundPage.{as-said, sum-small}
+use Rattle.pages.proofs.SoundPage.{as-said}
 use Rattle.store.proofs.SoundFacts.{facts}
 use Rattle.image_steps.specs.Code.Planning.{Awaits}
 use Rattle.image_steps.specs.declared.plan.Plan.{Plan}
 use Rattle.image_steps.proofs.PlanLaws as P
-use Rattle.freeze.proofs.PageEnds.{To, Turn, ends-at, reading-fits, to, total-fits, turn, walked-to}
+use Rattle.freeze.specs.Code.Steps.{OnPage}
+use Rattle.freeze.proofs.PageEnds.{To, Turn, ends-at, to, total-fits, turn}
 use Prim.Native.Nat.{_+_, _-_, _*_, _^_, _≤_, _<_}
 use native.Mathlib.Omega.{arith}
 use Rattle.store.specs.Reading.{listIn}
@@ -69,32 +69,46 @@ sub-j c = omega (arith, at c .below)
 sub-j-2 : tie.Need-sub-j-2 Inv-loop μ-loop
 sub-j-2 c = omega (arith, at c .below)
 
-slice-aggregate-walk : tie.Need-slice-aggregate-walk Inv-loop μ-loop
-slice-aggregate-walk c = search needs
+slice-aggregate-reading-behind : tie.Need-slice-aggregate-reading-behind Inv-loop μ-loop
+slice-aggregate-reading-behind c = search needs
 
-walk-requires : tie.Need-walk-requires Inv-loop μ-loop
-walk-requires c κs =
-    let o = c .before .before .before .before .before .before .entry-of .ensures in
-    let a = call (c .before) in
-    (lies (c .before .before .before .before .before .gather-at .result) _ (omega arith) (sum-small o), omega (arith, sum-small o, a .pre .all-is, reading-fits (a .args .s .now) (a .pre .is-sound) (64 * a .args .p)), omega arith)
+-- the page's end is behind one of the counts of page p
+abbrev on-page : (c : tie.After-struct-known2 Inv-loop μ-loop)
+    → OnPage (c .before .before .before .before .gather-at .result) (c .before .before .before .before .before .entry-of .result .sum)
+    (c .before .before .before .before .before .before .power .result * (next c .done + 1) - 64 * call c .args .p - 1) (call c .args .all)
+on-page c =
+    let g = c .before .before .before .before in
+    let t = at c in
+    record {
+      s = call c .args .s .now;
+      base = _;
+      p = call c .args .p;
+      cells = _;
+      is-sound = call c .pre .is-sound;
+      own = g .before .entry-of .ensures;
+      long = omega arith;
+      gathered = g .gather-at .ensures;
+      all-is = call c .pre .all-is;
+      inside = omega (arith, t .below, t .above);
+    }
+
+reading-behind-requires : tie.Need-reading-behind-requires Inv-loop μ-loop
+reading-behind-requires c κs = on-page (c .before)
 
 -- the reading there
 module _ (c : tie.After-struct-known3 Inv-loop μ-loop) where
   abbrev top : tie.After-struct-known2 Inv-loop μ-loop
   top = c .before .before .before
 
-  r-is : c .before .walk .result ≡ reading (listIn (call top .args .s .now)) (2 ^ call top .args .e * (next top .done + 1))
+  r-is : c .before .reading-behind .result ≡ reading (listIn (call top .args .s .now)) (2 ^ call top .args .e * (next top .done + 1))
   r-is =
-      let t = at top in
-      walked-to (top .before .before .before .before .before .entry-of .ensures) (top .before .before .before .before .gather-at .ensures) (call top .args .all)
-      (top .before .before .before .before .before .before .power .result * (next top .done + 1) - 64 * call top .args .p - 1) (c .before .walk .result) (call top .pre .all-is)
-      (omega (arith, t .below, t .above)) (c .before .walk .ensures)
-      ∙ ends-at (call top .args .e) _ (call top .args .p) (next top .done) (listIn (call top .args .s .now)) (top .before .before .before .before .before .before .power .ensures) t
+      c .before .reading-behind .ensures (on-page top)
+      ∙ ends-at (call top .args .e) _ (call top .args .p) (next top .done) (listIn (call top .args .s .now)) (top .before .before .before .before .before .before .power .ensures) (at top)
 
-  next-to : To (call top .args .e) (listIn (call top .args .s .now)) (next top) (c .before .walk .result)
-  next-to = to (c .before .walk .result) (top .before .before .before .loop .inv .0) (total-fits (call top .args .s .now) (call top .pre .is-sound)) r-is
+  next-to : To (call top .args .e) (listIn (call top .args .s .now)) (next top) (c .before .reading-behind .result)
+  next-to = to (c .before .reading-behind .result) (top .before .before .before .loop .inv .0) (total-fits (call top .args .s .now) (call top .pre .is-sound)) r-is
 
-  abbrev awaits : Awaits (next top) (c .before .walk .result - next top .total)
+  abbrev awaits : Awaits (next top) (c .before .reading-behind .result - next top .total)
   awaits = record {
     e = call top .args .e;
     xs = listIn (call top .args .s .now);
@@ -148,8 +162,8 @@ add-within-spec =
     mul-j-2
     sub-j
     sub-j-2
-    slice-aggregate-walk
-    walk-requires
+    slice-aggregate-reading-behind
+    reading-behind-requires
     sub-add-page
     add-page-requires
     loop-less
