@@ -3,6 +3,7 @@ use crate::plan::Layout;
 use bits::numbers::put4;
 use bits_clear::clear_bits;
 use bits_field::put_field;
+use image::head::Head;
 use tree::sums::sum_of;
 ghost use mathlib.Core.Path.{_≡_};
 ghost use Prim.Native.Nat.{_+_, _≤_, _<_};
@@ -58,7 +59,7 @@ pub fn put_page(out: &mut [u8], r: Layout, at: Place, counts: &[u32], from: usiz
     let own = reserve::reserve_of(r.e, s);
     let root = at.before + s;
     let tree = at.start + (w as usize);
-    put4(out, 16 + 4 * at.page, at.start as u64);
+    put4(out, Head::SIZE + 4 * at.page, at.start as u64);
     put_field(out, r.code + at.start, w, root);
     tree_write::write(out, r.code + tree, r.e, counts, from, s, own);
     Place {
