@@ -30,7 +30,7 @@ fn reach_in(s: &[u8], h: Head, q: u64, at: Span) -> Answer
     if r.before + r.sum < q {
         return Answer::Refused(refusal::BODY);
     }
-    let i = tree_walk::search(
+    let i = tree_search::search(
         s,
         r.at,
         h.e,

@@ -28,5 +28,5 @@ pub fn search_page(s: &[u8], p: usize, q: u64, n: u64) -> u64
 {
     let e = entry_of(s, p);
     let code = gather_at(s, e.base, p, e.cells);
-    tree_walk::search(&code, 0, 6, e.sum, q, n)
+    tree_search::search(&code, 0, 6, e.sum, q, n)
 }
