@@ -74,8 +74,8 @@ fn damaged() -> Page
     }
 }
 
-// The page between two roots, its own and the one before it, tested. It reads nothing: a caller that counts the nanoseconds reads both roots
-// itself, and the compiler then keeps header, roots and page in registers, which it does not where one function reads two roots.
+// The page between two roots, its own and the one before it, tested. It reads nothing: its callers read both roots themselves, so that the
+// compiler keeps header, roots and page in registers. A function that reads two roots is too large for it to be joined with its callers.
 pub fn page_between(h: Head, own: Root, last: Root) -> Page
     requires { ⌜ Rooted h own last ⌝ }
     ensures { λ r. ⌜ ((a : Rooted h own last) → PageAt (a .s) (a .p) r) ⌝ }

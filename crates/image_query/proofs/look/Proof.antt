@@ -1,5 +1,4 @@
 -- `image_query::look` meets its contract. Assumes nothing.
-use native.Mathlib.Omega.{arith}
 use Rattle.image.proofs.HeadLaws.{bounds}
 use Rattle.image_query.proofs.LookSteps.{look-between, look-page}
 use Rattle.image_query.proofs.look.Statement.{statement}
