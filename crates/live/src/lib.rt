@@ -4,11 +4,14 @@ use answers::store::Answer;
 use soundness::check;
 ghost use Rattle.store.specs.Plain.{Append, Count, Day, Free, Reach, Reading, Set};
 ghost use Rattle.store.specs.Call.{Called};
+ghost use Rattle.store.specs.Reading.{listIn};
+ghost use Rattle.coin_cost.specs.Cost.{TakesAtMost, cellsFor, gain};
 ghost use Rattle.answers.specs.Store.{told};
 
-// Appends the count of the next hour.
+// Appends the count of the next hour. For v coins it takes at most ceil(v / 40) cells, or eight if that is less.
 pub fn append(s: &mut [u8], v: u32) -> Answer
     ensures { λ r. ⌜ Called (Append v) (now (s .entry)) (told r) (now (s .exit)) ⌝ }
+    ensures { λ r. ⌜ TakesAtMost (cellsFor v) (told r) ⌝ }
 {
     if !check(s) {
         return Answer::Refused(refusal::UNSOUND);
@@ -16,9 +19,10 @@ pub fn append(s: &mut [u8], v: u32) -> Answer
     live_change::append(s, v)
 }
 
-// Sets the count of hour i, which is logged.
+// Sets the count of hour i, which is logged. What it takes goes by the coins that the hour gains, as in append.
 pub fn set(s: &mut [u8], i: u32, v: u32) -> Answer
     ensures { λ r. ⌜ Called (Set i v) (now (s .entry)) (told r) (now (s .exit)) ⌝ }
+    ensures { λ r. ⌜ TakesAtMost (cellsFor (gain (listIn (now (s .entry))) i v)) (told r) ⌝ }
 {
     if !check(s) {
         return Answer::Refused(refusal::UNSOUND);
