@@ -125,7 +125,8 @@ typedef uint64_t hourlog_size;
  *     cells          0    1      2       3        4          5           6
  *
  * and 7 up to 954,437,176, and 8 above.  So a store of 8*P cells is never
- * refused 12; with fewer, it goes by what all pages need together. */
+ * refused 12; with fewer, it goes by what all pages need together.  A page with
+ * twice the coins needs at most one cell more (docs/SIZING.md has examples). */
 #define HOURLOG_CELLS_A_PAGE_MAX 8u
 
 /* Bytes that suffice for the image of this many hours at page size 2^e,
@@ -242,11 +243,13 @@ int64_t hourlog_fresh(uint8_t *store, hourlog_size len, uint32_t pages, uint32_t
 
 /* Logs the next hour.  Answers how many cells the store took and how many it
  * gave back, as a pair (see hourlog_taken, hourlog_returned); one of the two
- * is 0.  Refuses: 10, 11, 3, 12. */
+ * is 0.  For d coins it takes at most d/40 cells, rounded up, and never more
+ * than 8.  Refuses: 10, 11, 3, 12. */
 HOURLOG_MUST_USE
 int64_t hourlog_append(uint8_t *store, hourlog_size len, uint32_t count);
 
-/* Changes the count of a logged hour.  Answers as append does.
+/* Changes the count of a logged hour.  Answers as append does, and takes at
+ * most as many cells, where d is by how many coins the count rises.
  * Refuses: 10, 7 (hour >= N), 3, 12. */
 HOURLOG_MUST_USE
 int64_t hourlog_set(uint8_t *store, hourlog_size len, uint32_t hour, uint32_t count);

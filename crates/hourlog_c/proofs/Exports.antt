@@ -2,7 +2,7 @@
 use mathlib.Core.Path.{_≡_, refl, sym, ap, _∙_, subst}
 use mathlib.Core.Bool.{Bool, true, false}
 use mathlib.Core.List.{List, [], _∷_}
-use Prim.Native.Nat.{ℕ, _<_}
+use Prim.Native.Nat.{ℕ, _≤_, _<_}
 use native.Mathlib.Omega.{arith}
 use lib.ListN.{getD}
 use Rattle.lists.specs.Lists.{pick}
@@ -12,6 +12,8 @@ use Rattle.store.specs.Call.{Called, Started, call, freshCall}
 use Rattle.store.specs.Reading.{listIn}
 use Rattle.store.specs.Sound.{sound}
 use Rattle.store.proofs.Sizes.{Small as SmallAnswer, call-small, fresh-small}
+use Rattle.coin_cost.specs.Cost.{Gains, TakesAtMost, cellsFor}
+use Rattle.coin_cost.proofs.CallCosts.{call-takes}
 use Rattle.image.specs.Calls.{Wrote, lengthCall, unwritten, writeCall}
 use Rattle.image.specs.Check.{check}
 use Rattle.answers.specs.Image.{Verdict, fails, holds, Reply, given, refused}
@@ -22,8 +24,8 @@ use Rattle.freeze.specs.Freeze.{freezeCall}
 use Rattle.hourlog_c.specs.Public.{End, Ends, Fresh, Freeze, ImageCheck, ImageCount, ImageLength, ImageReach, ImageReading, ImageWrite, Live}
 use Rattle.hourlog_c.specs.Public.{PublicCall, Ten, ofCheck, ofImage, ofStore}
 use Rattle.hourlog_c.specs.Words.{wordOf}
-use Rattle.hourlog_c.specs.ReadBack.{Reads}
-use Rattle.hourlog_c.specs.Export.{Answers}
+use Rattle.hourlog_c.specs.ReadBack.{Above, Reads, taken}
+use Rattle.hourlog_c.specs.Export.{Answers, Costs}
 use Rattle.hourlog_c.proofs.RefusedTen.{freeze-ten, live-ten}
 use Rattle.hourlog_c.proofs.WordLaws.{Small, small-reads}
 
@@ -61,6 +63,23 @@ pub live-answers : (c : Call) (s t : List ℕ) (w : ℕ) (a : Answer) → ((j : 
 live-answers c s t w a bytes e d =
     answers (Live c s) w (t ∷ []) (ofStore (call c s .answer)) (refl, ap (λ (z : List ℕ). z ∷ []) (d .bytes)) (live-ten c s bytes)
     (small-store (call c s .answer) (call-small c s)) (e ∙ ap (λ (z : Answer). wordOf (ofStore z)) (d .answer))
+
+-- ---- append and set, with what they cost
+word-takes : (a : Answer) (k w : ℕ) → TakesAtMost k a → Reads (ofStore a) w → Above w → taken w ≤ k
+unfolding ofStore
+word-takes (changed t r) k w m e h = omega (arith, e .1)
+word-takes (answered n) k w m e h = absurd m
+word-takes (turned j) k w m e h = omega (arith, e .sign)
+
+pub costs : (c : Call) (s : List ℕ) (w d : ℕ) (t : List (List ℕ)) → Gains c (listIn s) d → Answers (Live c s) w t → Costs d w
+costs c s w d t g a =
+    word-takes (call c s .answer) (cellsFor d) w (call-takes c s d g) (subst (λ (z : End). Reads z w) (a .ends .0) (a .reads))
+
+pub change-answers : (c : Call) (s t : List ℕ) (w : ℕ) (a : Answer) {d : ℕ} → Gains c (listIn s) d → ((j : ℕ) → getD s j 0 < 256)
+    → w ≡ wordOf (ofStore a) → Called c s a t → Answers (Live c s) w (t ∷ []) × Costs d w
+change-answers c s t w a {d} g bytes e q =
+    let r : Answers (Live c s) w (t ∷ []) = live-answers c s t w a bytes e q in
+    (r, costs c s w d (t ∷ []) g r)
 
 pub fresh-answers : (b t : List ℕ) (P C w : ℕ) (a : Answer) → w ≡ wordOf (ofStore a) → Started b P C a t → Answers (Fresh b P C) w (t ∷ [])
 fresh-answers b t P C w a e d =

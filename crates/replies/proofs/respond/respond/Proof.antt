@@ -140,7 +140,7 @@ unfolding turn
 returns-2 c =
     let r = c .before .before .before .append in
     changes-it (Call.Append _) (c .before .before .before .before .before .before .before .before .smaller .ensures)
-    (c .before .before .before .before .before .before .command2 .given .1) (c .kept .ensures) refl (r .ensures) (r .kept .0)
+    (c .before .before .before .before .before .before .command2 .given .1) (c .kept .ensures) refl (r .ensures .0) (r .kept .0)
 
 same-length-3 : tie.Need-same-length-3
 same-length-3 c = search needs
@@ -150,7 +150,7 @@ unfolding turn
 returns-3 c =
     let r = c .before .before .before .set in
     changes-it (Call.Set _ _) (c .before .before .before .before .before .before .before .before .smaller .ensures)
-    (c .before .before .before .before .before .before .command3 .given .1) (c .kept2 .ensures) refl (r .ensures) (r .kept .0)
+    (c .before .before .before .before .before .before .command3 .given .1) (c .kept2 .ensures) refl (r .ensures .0) (r .kept .0)
 
 same-length-4 : tie.Need-same-length-4
 same-length-4 c = search needs
