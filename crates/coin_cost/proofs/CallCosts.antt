@@ -7,8 +7,7 @@ use native.Mathlib.Omega.{arith}
 use lib.ListN.{length, getD, set, List·getD-eq-default}
 use borrow.Author.Tests.{leb-false}
 use Rattle.lists.specs.Lists.{pick, sum, tabulate}
-use Rattle.answers.specs.Store.{Answer, answered, changed, refused}
-use Rattle.store.specs.PageCode.{cells}
+use Rattle.answers.specs.Store.{Answer, changed}
 use Rattle.store.specs.Plain.{Call, Outcome, Plain, change, need, page, refuse, step}
 use Rattle.store.specs.Limits.{maxTotal}
 use Rattle.store.specs.Reading.{listIn, read}
@@ -28,10 +27,11 @@ use Rattle.coin_cost.proofs.CellLaws.{need-rises, rises}
 hour-rises : (xs ys : List ℕ) (i v P : ℕ) → With xs ys i v → i < 64 * P → sum ys ≤ maxTotal → need ys P ≤ need xs P + cellsFor (gain xs i v)
 unfolding gain
 hour-rises xs ys i v P w l t =
-    let e : sum (page ys (i / 64)) - sum (page xs (i / 64)) ≡ gain xs i v = omega (arith, page-sum xs ys i v w) in
-    let k : cells (sum (page ys (i / 64))) ≤ cells (sum (page xs (i / 64))) + cellsFor (gain xs i v) =
-    rw e at (rises (sum (page xs (i / 64))) (sum (page ys (i / 64))) (omega (arith, page-le ys (i / 64)))) in
-    omega (arith, need-off xs ys i P (w .off) (omega arith))
+    omega (
+      arith,
+      need-off xs ys i P (w .off) (omega arith),
+      rises (sum (page xs (i / 64))) (sum (page ys (i / 64))) (gain xs i v) (omega (arith, page-le ys (i / 64))) (omega (arith, page-sum xs ys i v w)),
+    )
 
 -- ---- the plain list
 takes-or : (k j : ℕ) (L : Plain) (b : Bool) (o : Outcome) → (b ≡ false → TakesAtMost k (o .answer)) → TakesAtMost k (pick b (refuse j L) o .answer)
@@ -68,7 +68,7 @@ step-takes c L d h (by-set i v xs) =
     (subst (λ (ys : List ℕ). With (L .counts) ys i v) (with-inside (L .counts) i v l) (with-hour (L .counts) i v (omega arith))) (omega arith))
 
 end-takes : (L : Plain) (r f : ℕ) {o : Outcome} → End L o → o .answer ≡ changed r f
-    → r ≤ sum (tabulate (L .pages) (λ p. cellsFor (sum (page (o .list .counts) p) - sum (page (L .counts) p))))
+    → r ≤ sum (tabulate (L .pages) (λ p. cellsFor (pageGain (L .counts) (o .list .counts) p)))
 end-takes L r f (said n) e = let z : _≡_ {A = ℕ} 0 1 = cc in absurd (omega arith)
 end-takes L r f (not-done n) e = let z : _≡_ {A = ℕ} 0 1 = cc in absurd (omega arith)
 end-takes L r f (made ys ly ls ln) e =
@@ -88,9 +88,9 @@ pub with-cost : (c : Call) {s t : List ℕ} {a : Answer} {d : ℕ} → Gains c (
 with-cost c {s} {t} {a} {d} g w = (w, rw (w .answer) (call-takes c s d g))
 
 pub change-rises : (c : Call) (s : List ℕ) (r f : ℕ) → call c s .answer ≡ changed r f
-    → r ≤ sum (tabulate (read s .plain .pages) (λ p. cellsFor (pageGain c s p)))
+    → r ≤ sum (tabulate (read s .plain .pages) (λ p. cellsFor (pageGain (listIn s) (step c (read s .plain) .list .counts) p)))
 change-rises c s r f q = go (sound s) refl
   where
-    go : (b : Bool) → sound s ≡ b → r ≤ sum (tabulate (read s .plain .pages) (λ p. cellsFor (pageGain c s p)))
+    go : (b : Bool) → sound s ≡ b → r ≤ sum (tabulate (read s .plain .pages) (λ p. cellsFor (pageGain (listIn s) (step c (read s .plain) .list .counts) p)))
     go true e = end-takes (read s .plain) r f (step-end c (read s .plain) (facts s e .good .hours)) (sound-call c s e .answer ∙ q)
     go false e = let h = call-10 c s e .answer ∙ q in let z : _≡_ {A = ℕ} 0 1 = cc in absurd (omega arith)

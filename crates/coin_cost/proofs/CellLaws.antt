@@ -15,7 +15,7 @@ use Rattle.store.specs.Plain.{need, page}
 use Rattle.store.specs.Limits.{maxTotal}
 use Rattle.store.proofs.PageCodeLaws.{cells-most}
 use Rattle.store.proofs.ReadBack.{page-le}
-use Rattle.coin_cost.specs.Cost.{cellsFor}
+use Rattle.coin_cost.specs.Cost.{cellsFor, pageGain}
 
 -- ---- 122 coins, as many as a page's first cell holds, cost 240 bits at most: below 64 coins by computing, from there on a bit each
 few : same (tabulate 64 (λ s. reserve 6 (s + 122) - (reserve 6 s + 240))) (tabulate 64 (λ s. 0)) ≡ true
@@ -55,18 +55,21 @@ pub coins : (s d : ℕ) → s + d ≤ maxTotal → cells (s + d) ≤ cells s + c
 unfolding cellsFor ceil
 coins s d l = omega (arith, sharper s d, cells-most (s + d) l)
 
--- the same of two sums of which the second may be the smaller
-pub rises : (s s′ : ℕ) → s′ ≤ maxTotal → cells s′ ≤ cells s + cellsFor (s′ - s)
-rises s s′ l = go (decLe s s′)
+-- the same of two sums, of which the second may be the smaller
+pub rises : (s s′ d : ℕ) → s′ ≤ maxTotal → s′ ≤ s + d → cells s′ ≤ cells s + cellsFor d
+unfolding cellsFor ceil
+rises s s′ d l m = go (decLe s s′)
   where
-    go : Dec (s ≤ s′) → cells s′ ≤ cells s + cellsFor (s′ - s)
-    go (yes m) = let e : s + (s′ - s) ≡ s′ = omega arith in rw e at (coins s (s′ - s) (omega arith))
-    go (no m) = omega (arith, cells-grow s′ s (omega arith))
+    go : Dec (s ≤ s′) → cells s′ ≤ cells s + cellsFor d
+    go (yes n) =
+        let e : s + (s′ - s) ≡ s′ = omega arith in
+        let k : cells s′ ≤ cells s + cellsFor (s′ - s) = rw e at (coins s (s′ - s) (omega arith)) in
+        omega arith
+    go (no n) = omega (arith, cells-grow s′ s (omega arith))
 
--- ---- page by page: whatever becomes of a list, its need rises by no more than its pages' coins may cost
-pub need-rises : (xs ys : List ℕ) (P : ℕ) → sum ys ≤ maxTotal
-    → need ys P ≤ need xs P + sum (tabulate P (λ p. cellsFor (sum (page ys p) - sum (page xs p))))
-unfolding need
+-- ---- page by page: whatever becomes of a list, its need rises by no more than the coins that its pages gain may cost
+pub need-rises : (xs ys : List ℕ) (P : ℕ) → sum ys ≤ maxTotal → need ys P ≤ need xs P + sum (tabulate P (λ p. cellsFor (pageGain xs ys p)))
+unfolding need pageGain
 need-rises xs ys P l =
-    sum-two P (λ p. cells (sum (page ys p))) (λ p. cells (sum (page xs p))) (λ p. cellsFor (sum (page ys p) - sum (page xs p)))
-    (λ p. rises (sum (page xs p)) (sum (page ys p)) (omega (arith, page-le ys p)))
+    sum-two P (λ p. cells (sum (page ys p))) (λ p. cells (sum (page xs p))) (λ p. cellsFor (pageGain xs ys p))
+    (λ p. rises (sum (page xs p)) (sum (page ys p)) (pageGain xs ys p) (omega (arith, page-le ys p)) (omega arith))

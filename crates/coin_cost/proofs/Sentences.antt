@@ -12,7 +12,7 @@ use Rattle.store.specs.PageCode.{cells}
 use Rattle.store.specs.Plain.{Append, Call, Set, page, step}
 use Rattle.store.specs.Reading.{listIn, read}
 use Rattle.store.specs.Call.{call}
-use Rattle.coin_cost.specs.Cost.{TakesAtMost, by-append, by-set, cellsFor, gain}
+use Rattle.coin_cost.specs.Cost.{TakesAtMost, by-append, by-set, cellsFor, gain, pageGain}
 use Rattle.coin_cost.proofs.Claim.{coin-cost}
 
 -- 'for every page and every d .. d more coins in one hour take at most ceil(d / 40) more cells'
@@ -64,5 +64,5 @@ set-lower s i v r f l e = omega (arith, set-takes s i v r f e)
 -- any accepted change: each page takes at most ceil(d / 40) cells for the d coins that it gains, or eight if that is less
 pub pages-take : (c : Call) (s : List ℕ) (r f : ℕ) → call c s .answer ≡ changed r f
     → r ≤ sum (tabulate (read s .plain .pages) (λ p. min ((sum (page (step c (read s .plain) .list .counts) p) - sum (page (listIn s) p) + 39) / 40) 8))
-unfolding cellsFor ceil
+unfolding cellsFor ceil pageGain
 pages-take c s r f e = coin-cost .changes c s r f e

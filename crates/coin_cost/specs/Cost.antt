@@ -35,9 +35,9 @@ TakesAtMost k (changed rise fall) = rise ≤ k
 TakesAtMost k (answered n) = ⊥
 TakesAtMost k (refused j) = Unit {0}
 
--- the coins that page p of a store gains by a call
-abbrev pub pageGain : Call → List ℕ → ℕ → ℕ
-pageGain c s p = sum (page (step c (read s .plain) .list .counts) p) - sum (page (listIn s) p)
+-- the coins that page p gains when the list xs becomes ys
+unfoldable pub pageGain : List ℕ → List ℕ → ℕ → ℕ
+pageGain xs ys p = sum (page ys p) - sum (page xs p)
 
 -- The whole claim
 pub record CoinCost : Type 0 where
@@ -51,4 +51,4 @@ pub record CoinCost : Type 0 where
   pub calls : (c : Call) (s : List ℕ) (d : ℕ) → Gains c (listIn s) d → TakesAtMost (cellsFor d) (call c s .answer)
   -- any accepted change, also one that moves hours from page to page: what the pages that gain coins may take, together
   pub changes : (c : Call) (s : List ℕ) (r f : ℕ) → call c s .answer ≡ changed r f
-      → r ≤ sum (tabulate (read s .plain .pages) (λ p. cellsFor (pageGain c s p)))
+      → r ≤ sum (tabulate (read s .plain .pages) (λ p. cellsFor (pageGain (listIn s) (step c (read s .plain) .list .counts) p)))
