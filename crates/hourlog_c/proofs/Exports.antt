@@ -2,7 +2,7 @@
 use mathlib.Core.Path.{_≡_, refl, sym, ap, _∙_, subst}
 use mathlib.Core.Bool.{Bool, true, false}
 use mathlib.Core.List.{List, [], _∷_}
-use Prim.Native.Nat.{ℕ, _≤_, _<_}
+use Prim.Native.Nat.{ℕ, _<_}
 use native.Mathlib.Omega.{arith}
 use lib.ListN.{getD}
 use Rattle.lists.specs.Lists.{pick}
@@ -12,8 +12,7 @@ use Rattle.store.specs.Call.{Called, Started, call, freshCall}
 use Rattle.store.specs.Reading.{listIn}
 use Rattle.store.specs.Sound.{sound}
 use Rattle.store.proofs.Sizes.{Small as SmallAnswer, call-small, fresh-small}
-use Rattle.coin_cost.specs.Cost.{Gains, TakesAtMost, cellsFor}
-use Rattle.coin_cost.proofs.CallCosts.{call-takes}
+use Rattle.coin_cost.specs.Cost.{TakesAtMost, cellsFor}
 use Rattle.image.specs.Calls.{Wrote, lengthCall, unwritten, writeCall}
 use Rattle.image.specs.Check.{check}
 use Rattle.answers.specs.Image.{Verdict, fails, holds, Reply, given, refused}
@@ -24,7 +23,7 @@ use Rattle.freeze.specs.Freeze.{freezeCall}
 use Rattle.hourlog_c.specs.Public.{End, Ends, Fresh, Freeze, ImageCheck, ImageCount, ImageLength, ImageReach, ImageReading, ImageWrite, Live}
 use Rattle.hourlog_c.specs.Public.{PublicCall, Ten, ofCheck, ofImage, ofStore}
 use Rattle.hourlog_c.specs.Words.{wordOf}
-use Rattle.hourlog_c.specs.ReadBack.{Above, Reads, taken}
+use Rattle.hourlog_c.specs.ReadBack.{Reads}
 use Rattle.hourlog_c.specs.Export.{Answers, Costs}
 use Rattle.hourlog_c.proofs.RefusedTen.{freeze-ten, live-ten}
 use Rattle.hourlog_c.proofs.WordLaws.{Small, small-reads}
@@ -65,21 +64,17 @@ live-answers c s t w a bytes e d =
     (small-store (call c s .answer) (call-small c s)) (e ∙ ap (λ (z : Answer). wordOf (ofStore z)) (d .answer))
 
 -- ---- append and set, with what they cost
-word-takes : (a : Answer) (k w : ℕ) → TakesAtMost k a → Reads (ofStore a) w → Above w → taken w ≤ k
+word-costs : (a : Answer) (d w : ℕ) → TakesAtMost (cellsFor d) a → Reads (ofStore a) w → Costs d w
 unfolding ofStore
-word-takes (changed t r) k w m e h = omega (arith, e .1)
-word-takes (answered n) k w m e h = absurd m
-word-takes (turned j) k w m e h = omega (arith, e .sign)
+word-costs (changed t r) d w m e h = omega (arith, e .1)
+word-costs (answered n) d w m e h = absurd m
+word-costs (turned j) d w m e h = omega (arith, e .sign)
 
-pub costs : (c : Call) (s : List ℕ) (w d : ℕ) (t : List (List ℕ)) → Gains c (listIn s) d → Answers (Live c s) w t → Costs d w
-costs c s w d t g a =
-    word-takes (call c s .answer) (cellsFor d) w (call-takes c s d g) (subst (λ (z : End). Reads z w) (a .ends .0) (a .reads))
-
-pub change-answers : (c : Call) (s t : List ℕ) (w : ℕ) (a : Answer) {d : ℕ} → Gains c (listIn s) d → ((j : ℕ) → getD s j 0 < 256)
-    → w ≡ wordOf (ofStore a) → Called c s a t → Answers (Live c s) w (t ∷ []) × Costs d w
-change-answers c s t w a {d} g bytes e q =
-    let r : Answers (Live c s) w (t ∷ []) = live-answers c s t w a bytes e q in
-    (r, costs c s w d (t ∷ []) g r)
+pub change-answers : (c : Call) (s t : List ℕ) (w : ℕ) (a : Answer) (d : ℕ) → ((j : ℕ) → getD s j 0 < 256) → w ≡ wordOf (ofStore a)
+    → Called c s a t × TakesAtMost (cellsFor d) a → Answers (Live c s) w (t ∷ []) × Costs d w
+change-answers c s t w a d bytes e q =
+    let r : Answers (Live c s) w (t ∷ []) = live-answers c s t w a bytes e (q .0) in
+    (r, word-costs a d w (q .1) (subst (λ (z : End). Reads z w) (r .ends .0 ∙ ap ofStore (sym (q .0 .answer))) (r .reads)))
 
 pub fresh-answers : (b t : List ℕ) (P C w : ℕ) (a : Answer) → w ≡ wordOf (ofStore a) → Started b P C a t → Answers (Fresh b P C) w (t ∷ [])
 fresh-answers b t P C w a e d =
