@@ -15,13 +15,14 @@ pub fn fit(changes: &[u32]) -> bool
     ensures { λ r. ⌜ r ≡ changesFit (now (changes .entry)) ⌝ }
 {
     let n = changes.len();
-    if n % 2 != 0 {
+    let paired = n / 2 * 2;
+    if paired != n {
         return false;
     }
     // the first day that the next pair may name
     let mut from = 0u64;
     let mut i = 0;
-    while i < n {
+    while i < paired {
         let day = changes[i] as u64;
         if day < from {
             return false;
@@ -40,9 +41,8 @@ pub fn hours_of(changes: &[u32], d: u32) -> u64
     requires { ⌜ changesFit (now changes) ≡ true ⌝ }
     ensures { λ r. ⌜ r ≡ dayHours (now (changes .entry)) d ⌝ }
 {
-    let n = changes.len();
     let mut i = 0;
-    while i < n {
+    while i < changes.len() {
         if changes[i] == d {
             return changes[i + 1] as u64;
         }

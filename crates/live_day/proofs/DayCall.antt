@@ -6,23 +6,21 @@ use Prim.Native.Nat.{ℕ, _+_, _-_, _*_, _≤_, _<_}
 use native.Mathlib.Omega.{arith}
 use lib.ListN.{length, take}
 use lib.Seq.{take-take}
-use borrow.Author.Tests.{le-ltb, lt-ltb, not-false, not-true}
-use Rattle.lists.specs.Lists.{pick, reading, sum}
+use borrow.Author.Tests.{not-false, not-true}
+use Rattle.lists.specs.Lists.{reading, sum}
 use Rattle.lists.proofs.Sums.{sum-take-le}
 use Rattle.answers.specs.Store.{answered, refused}
 use Rattle.days.specs.Days.{changesFit, dayEnd, dayHours, dayStart}
 use Rattle.days.proofs.Pairs.{fit, hours-most, start-most}
-use Rattle.store.specs.Plain.{Day, Outcome, Plain, step}
+use Rattle.store.specs.Plain.{Day, tell}
 use Rattle.store.specs.Reading.{listIn, read}
 use Rattle.store.specs.Sound.{sound}
 use Rattle.store.specs.Call.{Called}
 use Rattle.store.specs.Code.Heads.{Heads}
 use Rattle.store.specs.declared.header.Header.{Header}
 use Rattle.store.proofs.CallLaws.{answered-as, refused-as}
+use Rattle.store.proofs.DayLaws.{not-over, over, wrong-list}
 use Rattle.store.proofs.SoundFacts.{facts}
-
-abbrev Told : Plain → ℕ → Outcome
-Told L n = record { answer = answered n; list = L }
 
 -- what the test of the list answers
 pub fitting : (cs : List ℕ) {t : Bool} → t ≡ changesFit cs → not t ≡ false → changesFit cs ≡ true
@@ -30,8 +28,7 @@ fitting cs {t} e f = sym e ∙ not-false t f
 
 module _ {s : List ℕ} (e : sound s ≡ true) (d : ℕ) (cs : List ℕ) where
   pub day-16 : {t : Bool} → t ≡ changesFit cs → not t ≡ true → Called (Day d cs) s (refused 16) s
-  unfolding step pick
-  day-16 {t} w f = refused-as (Day d cs) s 16 e (rw (sym w ∙ not-true t f))
+  day-16 {t} w f = refused-as (Day d cs) s 16 e (wrong-list d cs (read s .plain) (sym w ∙ not-true t f))
 
   module _ (f : changesFit cs ≡ true) {H : Header} (h : Heads s H) {start more : ℕ} (a : start ≡ dayStart cs d) (b : more ≡ dayHours cs d) where
     abbrev xs : List ℕ
@@ -45,16 +42,14 @@ module _ {s : List ℕ} (e : sound s ≡ true) (d : ℕ) (cs : List ℕ) where
     end-is = ap₂ _+_ a b
 
     pub day-7 : H .hours < start + more → Called (Day d cs) s (refused 7) s
-    unfolding step pick
-    day-7 l = refused-as (Day d cs) s 7 e (rw (f, lt-ltb (length xs) (dayEnd cs d) (omega (arith, hours, end-is))))
+    day-7 l = refused-as (Day d cs) s 7 e (not-over d cs (read s .plain) f (omega (arith, hours, end-is)))
 
     -- a day's readings, the later one first
     pub day-is : (r q : ℕ) → start + more ≤ H .hours → r ≡ reading xs (start + more) → q ≡ reading xs start → Called (Day d cs) s (answered (r - q)) s
-    unfolding step pick
     day-is r q l u v =
         answered-as (Day d cs) s (r - q) e
-        (rw (f, le-ltb (length xs) (dayEnd cs d) (omega (arith, hours, end-is)))
-        (ap (Told (read s .plain)) (sym (ap₂ _-_ (u ∙ ap (reading xs) end-is) (v ∙ ap (reading xs) a)))))
+        (over d cs (read s .plain) f (omega (arith, hours, end-is))
+        ∙ ap (λ (n : ℕ). tell n (read s .plain)) (sym (ap₂ _-_ (u ∙ ap (reading xs) end-is) (v ∙ ap (reading xs) a))))
 
 -- a day's numbers fit 64 bits
 pub day-fits : (cs : List ℕ) (d : ℕ) {start more : ℕ} → changesFit cs ≡ true → start ≡ dayStart cs d → more ≡ dayHours cs d → start + more ≤ 25 * d + 25

@@ -1,18 +1,12 @@
--- Document 01's printed session on the plain list, computed; its days. Assumes nothing.
+-- Document 01's printed session on the plain list, computed. Assumes nothing.
 use mathlib.Core.Path.{_≡_, refl}
 use mathlib.Core.List.{List, [], _∷_}
-use Prim.Native.Nat.{ℕ, _+_, _-_, _*_}
-use lib.ListN.{length}
-use lib.Dec.{ltb}
-use Rattle.answers.specs.Refusals.{notLogged}
-use Rattle.days.specs.Days.{changesFit, dayNumbers, hoursGiven, rises}
-use Rattle.days.proofs.DayLaws.{old-end, old-start}
 use Rattle.reserve.specs.Reserve.{ceil, reserve}
-use Rattle.lists.specs.Lists.{every, least, pick, reached, reading, sum, tabulate}
+use Rattle.lists.specs.Lists.{least, pick, reached, sum, tabulate}
 use Rattle.store.specs.PageCode.{cells}
-use Rattle.store.specs.Plain.{Append, Call, Day, Free, Plain, Reach, Reading, Set, change, need, next, page}
+use Rattle.store.specs.Plain.{Append, Call, Free, Reach, Reading, Set, change, need, next, page}
 use Rattle.answers.specs.Store.{answered, changed, refused}
-use Rattle.store.specs.Plain.{plainAnswers, plainFresh, refuse, step, tell}
+use Rattle.store.specs.Plain.{plainAnswers, plainFresh, step}
 
 -- 'Input `n 1 2`, `a 122`, `f`, `s 0 123`, `f`, `a 5`, `r 2`, `w 124`, `w 129`, `s 1 4294967295`, `s 0 100000` prints `ok`, `ok`, `1`, `ok`,
 -- `0`, `ok`, `128`, `2`, `refused 8`, `refused 3`, `refused 12`'
@@ -34,12 +28,3 @@ unfoldable pub session-answers : plainAnswers session (plainFresh 1 2)
     ∷ []
 unfolding session plainAnswers next step change need page cells ceil reserve reached least tabulate sum pick
 session-answers = refl
-
--- Document 02, note 4: 'An empty list gives the old answers'. Document 01: 'day d: reading at 24d + 24 minus reading at 24d; 7 if
--- 24d + 24 > N'
-pub old-day : (d : ℕ) (L : Plain)
-    → step (Day d []) L
-    ≡ pick (ltb (length (L .counts)) (24 * d + 24)) (refuse notLogged L)
-    (tell (reading (L .counts) (24 * d + 24) - reading (L .counts) (24 * d)) L)
-unfolding step pick changesFit every rises dayNumbers hoursGiven
-old-day d L = rw (old-end d, old-start d)

@@ -12,17 +12,20 @@ use Rattle.days.proofs.fit.Statement.{statement}
 use Rattle.days.proofs.fit.Tie as tie
 
 abbrev Inv-loop : tie.InvT-loop
-Inv-loop changes n from₀ i₀ from i =
-    (n ≡ length changes) × (n % 2 ≡ 0) × (i % 2 ≡ 0) × (i ≤ n) × (from ≤ 4294967296) × (changesFit changes ≡ fitFrom from (drop i changes))
+Inv-loop changes n paired from₀ i₀ from i =
+    (paired ≡ length changes) × (paired % 2 ≡ 0) × (i % 2 ≡ 0) × (i ≤ paired) × (from ≤ 4294967296) × (changesFit changes ≡ fitFrom from (drop i changes))
 
 abbrev μ-loop : tie.MeasureT-loop
-μ-loop changes n from₀ i₀ from i = n - i
+μ-loop changes n paired from₀ i₀ from i = paired - i
+
+mul-paired : tie.Need-mul-paired Inv-loop μ-loop
+mul-paired c = search needs
 
 returns : tie.Need-returns Inv-loop μ-loop
-returns c = sym (fit-odd _ (c .if1 .taken))
+returns c = sym (fit-odd (c .before .before .args .changes .now) (λ (e : length (c .before .before .args .changes .now) % 2 ≡ 0). c .if1 .taken (omega arith)))
 
 loop-holds : tie.Need-loop-holds Inv-loop μ-loop
-loop-holds c = (search needs, search needs, search needs, search needs, search needs, fit-is _ (c .if1 .left))
+loop-holds c = (search needs, search needs, search needs, search needs, search needs, fit-is (c .before .before .args .changes .now) (omega (arith, c .if1 .left)))
 
 mul-day : tie.Need-mul-day Inv-loop μ-loop
 mul-day c = search needs
@@ -86,6 +89,7 @@ fit-spec =
     (tie.spec
     Inv-loop
     μ-loop
+    mul-paired
     returns
     loop-holds
     mul-day

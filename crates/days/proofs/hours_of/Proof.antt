@@ -11,14 +11,14 @@ use Rattle.days.proofs.hours_of.Statement.{statement}
 use Rattle.days.proofs.hours_of.Tie as tie
 
 abbrev Inv-loop : tie.InvT-loop
-Inv-loop changes d n i₀ i =
-    (n ≡ length changes) × (n % 2 ≡ 0) × (i % 2 ≡ 0) × (i ≤ n) × (dayHours changes d ≡ dayHours (drop i changes) d)
+Inv-loop changes d i₀ i =
+    (length changes % 2 ≡ 0) × (i % 2 ≡ 0) × (i ≤ length changes) × (dayHours changes d ≡ dayHours (drop i changes) d)
 
 abbrev μ-loop : tie.MeasureT-loop
-μ-loop changes d n i₀ i = n - i
+μ-loop changes d i₀ i = length changes - i
 
 loop-holds : tie.Need-loop-holds Inv-loop μ-loop
-loop-holds c = (search needs, fit _ (c .pre) .even, search needs, search needs, search needs)
+loop-holds c = (fit _ (c .pre) .even, search needs, search needs, search needs)
 
 mul-if1 : tie.Need-mul-if1 Inv-loop μ-loop
 mul-if1 c = search needs
@@ -41,7 +41,7 @@ cast-result c = omega (arith, c .shared-slice-known2 .given (c .before .before .
 returns : tie.Need-returns Inv-loop μ-loop
 returns c =
     let at = c .before .before .before .before in
-    found _ (at .loop .i) (omega arith) _ (c .before .if1 .taken) ∙ sym (at .loop .inv .4)
+    found _ (at .loop .i) (omega arith) _ (c .before .if1 .taken) ∙ sym (at .loop .inv .3)
 
 add-i : tie.Need-add-i Inv-loop μ-loop
 add-i c = search needs
@@ -52,10 +52,10 @@ loop-less c = search needs
 loop-again : tie.Need-loop-again Inv-loop μ-loop
 loop-again c =
     let at = c .before .before .before in
-    (search needs, search needs, omega arith, omega arith, at .loop .inv .4 ∙ passed _ (at .loop .i) (omega arith) _ (c .if1 .left))
+    (search needs, omega arith, omega arith, at .loop .inv .3 ∙ passed _ (at .loop .i) (omega arith) _ (c .if1 .left))
 
 returns-2 : tie.Need-returns-2 Inv-loop μ-loop
-returns-2 c = let at = c .before in sym (at .loop .inv .4 ∙ not-named _ (at .loop .i) (omega arith) _)
+returns-2 c = let at = c .before in sym (at .loop .inv .3 ∙ not-named _ (at .loop .i) (omega arith) _)
 
 pub hours-of-spec : {M : Type 1} → statement M
 hours-of-spec =
