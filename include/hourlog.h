@@ -17,8 +17,8 @@
  * call ever changes one that it is lent by a const pointer.
  *
  * A pointer must be good for the length given with it; with length 0 it is not
- * followed and may be NULL.  Bytes may lie at any address, counts at one that
- * is good for a uint32_t.  The two buffers of one call must not overlap.
+ * followed and may be NULL.  Bytes may lie at any address, counts and changes at
+ * one that is good for a uint32_t.  The two buffers of one call must not overlap.
  *
  * A 64-bit value handed to a uint32_t parameter is cut to its low 32 bits by C,
  * before the library sees it: test it first (hourlog_image_reach alone takes a
@@ -27,14 +27,22 @@
  * THE CLOCK
  *
  * The log numbers its hours and knows no calendar.  Let hour 0 begin at a
- * midnight, and note that date beside the store: then day d, as hourlog_day
- * sums it, is hours 24*d to 24*d + 23.  With N the hours logged (hourlog_hours)
- * and H the full hours since that midnight, by a clock without summer time:
+ * midnight, and note that date beside the store: it is day 0.  With N the hours
+ * logged (hourlog_hours) and H the full hours since that midnight, by a clock
+ * without summer time:
  *   after fresh     append 0 until N is H, the hour of the day;
  *   each full hour  append the coins of the hour that is over: N is H again;
  *   after power-up  while N is behind H, append 0 for each hour slept through;
  *   N ahead of H    (the clock was put back) skip: append nothing and count on,
  *                   so that these coins come into the next hour logged.
+ * A day has 24 hours, but 23 where the clocks of the arcade are put forward on
+ * it and 25 where they are put back.  Keep these days beside that date, as a
+ * LIST OF CHANGES: day number and hours by turns, the days rising, such as
+ * {88, 23, 305, 25}; hourlog_day takes it, and sums each day from midnight to
+ * midnight by those clocks.  The list may reach as far ahead as is known.  A
+ * board without a calendar takes it from the laptop, with the time; a laptop
+ * that reads the days keeps it beside the store's bytes.  A fresh store has a
+ * new day 0, so its list starts anew.  Where no clock is changed, it is empty.
  *
  * WHAT A BOARD HAS TO GIVE
  *
@@ -77,7 +85,7 @@ extern "C" {
 
 /* Of this header.  MAJOR rises where a call takes or answers something else
  * than before, MINOR where something is added.  For #if: 1000*MAJOR + MINOR. */
-#define HOURLOG_VERSION_MAJOR 1
+#define HOURLOG_VERSION_MAJOR 2
 #define HOURLOG_VERSION_MINOR 0
 #define HOURLOG_VERSION (1000 * HOURLOG_VERSION_MAJOR + HOURLOG_VERSION_MINOR)
 
@@ -166,6 +174,8 @@ typedef uint64_t hourlog_size;
  *   1, 2, 4, 7, 8, 9  The arguments do not fit: a matter for the program.  At 4
  *       the macros above say what length suffices, for freeze and for write;
  *       for write hourlog_image_length says the exact one.
+ *   16  The list of changes is none (see THE CLOCK): set it right.  The log is
+ *       whole; with the empty list every day has 24 hours.
  *   3   Nobody pays that much: look at the coin counter.  The refused hour is
  *       NOT logged: append it with the right count.
  *   5, 6  A laptop takes the image from the board again.  At 6, count and
@@ -194,6 +204,7 @@ typedef uint64_t hourlog_size;
 #define HOURLOG_REFUSED_UNSOUND 10  /* these bytes are not a sound store       */
 #define HOURLOG_REFUSED_FULL 11     /* append: 64*P hours are logged           */
 #define HOURLOG_REFUSED_CELLS 12    /* more cells needed than the store has    */
+#define HOURLOG_REFUSED_CHANGES 16  /* day: the list of changes is wrong       */
 
 /* 1 if the call was refused, else 0. */
 static inline int hourlog_is_refused(int64_t answer)
@@ -224,6 +235,7 @@ static inline const char *hourlog_refusal_text(int number)
     case HOURLOG_REFUSED_UNSOUND: return "store is not sound";
     case HOURLOG_REFUSED_FULL: return "log is full";
     case HOURLOG_REFUSED_CELLS: return "no cells left";
+    case HOURLOG_REFUSED_CHANGES: return "list of changed days is wrong";
     default: return "unknown refusal";
     }
 }
@@ -269,10 +281,15 @@ int64_t hourlog_reading(const uint8_t *store, hourlog_size len, uint32_t hour);
 HOURLOG_MUST_USE
 int64_t hourlog_reach(const uint8_t *store, hourlog_size len, uint32_t figure);
 
-/* The sum of hours 24*day to 24*day + 23.
- * Refuses: 10, 7 (24*day + 24 > N). */
+/* The sum of the hours of a day.  A day starts after the hours of all days
+ * before it: 24 each, but for those that the list of changes names (see THE
+ * CLOCK).  n is the number of its entries, two for each change; with n = 0 day d
+ * is hours 24*d to 24*d + 23.
+ * Refuses: 10; 16 (n is odd, a day number is not above the one before it, or
+ * hours are neither 23 nor 25, anywhere in the list); 7 (the day ends after N). */
 HOURLOG_MUST_USE
-int64_t hourlog_day(const uint8_t *store, hourlog_size len, uint32_t day);
+int64_t hourlog_day(const uint8_t *store, hourlog_size len, uint32_t day,
+                    const uint32_t *changes, hourlog_size n);
 
 /* How many cells are free; also the way to ask whether a store is sound.  It is
  * a question like those above, not the end of the store: it releases nothing

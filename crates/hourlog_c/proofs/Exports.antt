@@ -21,7 +21,7 @@ use Rattle.image.specs.Reach.{Reach}
 use Rattle.image.proofs.Sizes.{Small as SmallReply, SmallVerdict, check-small, count-small, length-small, reach-small, reading-small, write-small}
 use Rattle.freeze.specs.Freeze.{freezeCall}
 use Rattle.hourlog_c.specs.Public.{End, Ends, Fresh, Freeze, ImageCheck, ImageCount, ImageLength, ImageReach, ImageReading, ImageWrite, Live}
-use Rattle.hourlog_c.specs.Public.{PublicCall, Ten, ofCheck, ofImage, ofStore}
+use Rattle.hourlog_c.specs.Public.{PublicCall, Ten, beside, ofCheck, ofImage, ofStore}
 use Rattle.hourlog_c.specs.Words.{wordOf}
 use Rattle.hourlog_c.specs.ReadBack.{Reads}
 use Rattle.hourlog_c.specs.Export.{Answers, Costs}
@@ -37,17 +37,17 @@ small-store : (a : Answer) → SmallAnswer a → Small (ofStore a)
 unfolding ofStore
 small-store (changed t r) w = w
 small-store (answered n) w = w
-small-store (turned k) w = w
+small-store (turned k) w = omega (arith, w .0, w .1)
 
 small-image : (r : Reply) → SmallReply r → Small (ofImage r)
 unfolding ofImage
 small-image (given n) w = w
-small-image (refused k) w = w
+small-image (refused k) w = omega (arith, w .0, w .1)
 
 small-check : (v : Verdict) → SmallVerdict v → Small (ofCheck v)
 unfolding ofCheck
 small-check (holds n s) w = w
-small-check (fails k) w = w
+small-check (fails k) w = omega (arith, w .0, w .1)
 
 freeze-small : (e : ℕ) (s out : List ℕ) → SmallReply (freezeCall e s out .reply)
 unfolding freezeCall pick unwritten
@@ -58,9 +58,10 @@ freeze-small e s out = go (sound s)
     go false = omega arith
 
 -- ---- the store
-pub live-answers : (c : Call) (s t : List ℕ) (w : ℕ) (a : Answer) → ((j : ℕ) → getD s j 0 < 256) → w ≡ wordOf (ofStore a) → Called c s a t → Answers (Live c s) w (t ∷ [])
+pub live-answers : (c : Call) (s t : List ℕ) (w : ℕ) (a : Answer) → ((j : ℕ) → getD s j 0 < 256) → w ≡ wordOf (ofStore a) → Called c s a t
+    → Answers (Live c s) w (t ∷ beside c)
 live-answers c s t w a bytes e d =
-    answers (Live c s) w (t ∷ []) (ofStore (call c s .answer)) (refl, ap (λ (z : List ℕ). z ∷ []) (d .bytes)) (live-ten c s bytes)
+    answers (Live c s) w (t ∷ beside c) (ofStore (call c s .answer)) (refl, ap (λ (z : List ℕ). z ∷ beside c) (d .bytes)) (live-ten c s bytes)
     (small-store (call c s .answer) (call-small c s)) (e ∙ ap (λ (z : Answer). wordOf (ofStore z)) (d .answer))
 
 -- ---- append and set, with what they cost

@@ -23,12 +23,12 @@ pub pair-exact : (k a b : ℕ) → a + b * 2 ^ k < 2 ^ 64 → pair k a b ≡ a +
 unfolding pair
 pair-exact k a b l = mod-eq-of-lt l
 
--- ---- answers whose words lose nothing: cells are no more than a store has, N and S within their limits, refusals 1 to 12
+-- ---- answers whose words lose nothing: cells are no more than a store has, N and S within their limits, refusals 1 to 20
 abbrev pub Small : End → Type 0
 Small (theNumber n) = n ≤ 4294967295
 Small (theCells t r) = (t ≤ 1800) × (r ≤ 1800)
 Small (theSums n s) = (n ≤ 65536) × (s ≤ 4294967295)
-Small (refusal k) = (1 ≤ k) × (k ≤ 12)
+Small (refusal k) = (1 ≤ k) × (k ≤ 20)
 
 pub small-reads : (a : End) → Small a → Reads a (wordOf a)
 unfolding wordOf minus

@@ -52,10 +52,10 @@ pub extern "C" fn hourlog_reach(store: &[u8], figure: u32) -> u64
 }
 
 #[no_mangle]
-pub extern "C" fn hourlog_day(store: &[u8], day: u32) -> u64
-    ensures { λ r. ⌜ Answers (Live (Day day) (now (store .entry))) r (now (store .exit) ∷ []) ⌝ }
+pub extern "C" fn hourlog_day(store: &[u8], day: u32, changes: &[u32]) -> u64
+    ensures { λ r. ⌜ Answers (Live (Day day (now (changes .entry))) (now (store .entry))) r (now (store .exit) ∷ now (changes .exit) ∷ []) ⌝ }
 {
-    of_store(live::day(store, day))
+    of_store(live::day(store, day, changes))
 }
 
 #[no_mangle]

@@ -60,14 +60,14 @@ pub fn reach(s: &[u8], p: u32) -> Answer
     live_search::reach(s, p)
 }
 
-// The sum of the counts of day d.
-pub fn day(s: &[u8], d: u32) -> Answer
-    ensures { λ r. ⌜ Called (Day d) (now (s .entry)) (told r) (now (s .exit)) ⌝ }
+// The sum of the counts of day d, where a list gives days their hours that have not 24.
+pub fn day(s: &[u8], d: u32, changes: &[u32]) -> Answer
+    ensures { λ r. ⌜ Called (Day d (now (changes .entry))) (now (s .entry)) (told r) (now (s .exit)) ⌝ }
 {
     if !check(s) {
         return Answer::Refused(refusal::UNSOUND);
     }
-    live_query::day(s, d)
+    live_day::day(s, d, changes)
 }
 
 // How many cells are free.

@@ -1,4 +1,4 @@
-// Questions to a sound store: a count, a reading, a day's sum, the free cells.
+// Questions to a sound store: a count, a reading, the free cells.
 use answers::refusal;
 use answers::store::Answer;
 use live_page::walk_page;
@@ -9,7 +9,7 @@ ghost use mathlib.Core.Path.{_≡_};
 ghost use Prim.Native.Nat.{_≤_, _<_};
 ghost use lib.ListN.{getD};
 ghost use Rattle.lists.specs.Lists.{reading as readingAt};
-ghost use Rattle.store.specs.Plain.{Count, Day, Free, Reading, dayStart};
+ghost use Rattle.store.specs.Plain.{Count, Free, Reading};
 ghost use Rattle.store.specs.Reading.{hoursOf, listIn};
 ghost use Rattle.store.specs.Sound.{sound};
 ghost use Rattle.store.specs.Call.{Called};
@@ -24,7 +24,7 @@ fn count_in(s: &[u8], i: usize) -> u64
 }
 
 // The sum of the counts before hour i: of the pages before its own, and of the counts before it in its page.
-fn reading_in(s: &[u8], i: usize) -> u64
+pub fn reading_in(s: &[u8], i: usize) -> u64
     requires { ⌜ (sound (now s) ≡ true) × (i ≤ hoursOf (now s)) ⌝ }
     ensures { λ r. ⌜ r ≡ readingAt (listIn (now (s .entry))) i ⌝ }
 {
@@ -57,27 +57,6 @@ pub fn reading(s: &[u8], i: u32) -> Answer
         return Answer::Refused(refusal::HOUR);
     }
     Answer::Number(reading_in(s, i as usize))
-}
-
-// The hour at which day d begins. In 64 bits it never wraps.
-fn day_start(d: u64) -> u64
-    requires { ⌜ d ≤ 4294967296 ⌝ }
-    ensures { λ r. ⌜ r ≡ dayStart d ⌝ }
-{
-    24 * d
-}
-
-pub fn day(s: &[u8], d: u32) -> Answer
-    requires { ⌜ sound (now s) ≡ true ⌝ }
-    ensures { λ r. ⌜ Called (Day d) (now (s .entry)) (told r) (now (s .exit)) ⌝ }
-{
-    let head = Header::of(s);
-    let start = day_start(d as u64) as usize;
-    let end = day_start(d as u64 + 1) as usize;
-    if head.hours < end {
-        return Answer::Refused(refusal::HOUR);
-    }
-    Answer::Number(reading_in(s, end) - reading_in(s, start))
 }
 
 pub fn free(s: &[u8]) -> Answer

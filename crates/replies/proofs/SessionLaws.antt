@@ -96,7 +96,7 @@ turn-agrees (Set i v) s b h = changes-agree (Call.Set i v) s b h
 turn-agrees (Count i) s b h = asks-agree (Call.Count i) s b h
 turn-agrees (Reading i) s b h = asks-agree (Call.Reading i) s b h
 turn-agrees (Reach p) s b h = asks-agree (Call.Reach p) s b h
-turn-agrees (Day d) s b h = asks-agree (Call.Day d) s b h
+turn-agrees (Day d) s b h = asks-agree (Call.Day d []) s b h
 turn-agrees Free s b h = asks-agree Call.Free s b h
 turn-agrees Unknown s b h = record { same = refl; shows = h }
 

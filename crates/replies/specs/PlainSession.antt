@@ -44,7 +44,7 @@ plainTurn (Set i v) b = plainChange (Call.Set i v) b
 plainTurn (Count i) b = plainAsk (Call.Count i) b
 plainTurn (Reading i) b = plainAsk (Call.Reading i) b
 plainTurn (Reach p) b = plainAsk (Call.Reach p) b
-plainTurn (Day d) b = plainAsk (Call.Day d) b
+plainTurn (Day d) b = plainAsk (Call.Day d []) b
 plainTurn Free b = plainAsk Call.Free b
 plainTurn Unknown b = record { reply = Reply.Unknown; board = b }
 

@@ -88,7 +88,7 @@ pub fn respond(store: &mut [u8], used: usize, command: Command) -> Response
         Command::Count(i) => kept(n, live::count(&store[..n], i)),
         Command::Reading(i) => kept(n, live::reading(&store[..n], i)),
         Command::Reach(p) => kept(n, live::reach(&store[..n], p)),
-        Command::Day(d) => kept(n, live::day(&store[..n], d)),
+        Command::Day(d) => kept(n, live::day(&store[..n], d, &[])),
         Command::Free => kept(n, live::free(&store[..n])),
         Command::Unknown => Response {
             used: n,

@@ -14,7 +14,7 @@ mod store_damage;
 mod store_faults;
 mod stretches;
 
-use crate::function::{Function, CHANGED_DAYS};
+use crate::function::Function;
 use crate::run::{Outcome, Run};
 
 pub struct Suite {
@@ -36,7 +36,7 @@ static ALL: [Suite; 13] = [
     suite("busiest stretches", stretches::play).if_there(Function::ImageBusiest.is_there()),
     suite("bags", bags::play).if_there(Function::ImageMatch.is_there()),
     suite("books", books::play).if_there(Function::ImageToBook.is_there()),
-    suite("days with a clock change", days::play).if_there(CHANGED_DAYS),
+    suite("days with a clock change", days::play),
     suite("insert and strike", insert_strike::play).if_there(Function::Insert.is_there()),
     suite("lists of calls on small stores", sessions::play),
     suite("images", images::play),
