@@ -3,7 +3,7 @@
 
 use crate::days;
 use crate::refusal::{refuse_if, Answer, Moved, Refusal};
-use crate::reserve::{cells, cells_for};
+use crate::reserve::cells;
 
 pub const TOTAL_LIMIT: u64 = 4_294_967_295;
 pub const HOURS_A_PAGE: usize = 64;
@@ -50,14 +50,6 @@ impl Plain {
         Ok(moved)
     }
 
-    /// The same where one hour alone changes and gains so many coins: it must
-    /// not take more cells than these may cost.
-    fn become_richer(&mut self, counts: Vec<u64>, coins: u64) -> Answer<Moved> {
-        let moved = self.become_list(counts)?;
-        assert!(moved.taken <= cells_for(coins), "{coins} coins: {moved:?}");
-        Ok(moved)
-    }
-
     fn is_full(&self) -> bool {
         self.hours() == HOURS_A_PAGE as u64 * self.pages
     }
@@ -66,15 +58,14 @@ impl Plain {
         refuse_if(self.is_full(), Refusal::Full)?;
         let mut counts = self.counts.clone();
         counts.push(count);
-        self.become_richer(counts, count)
+        self.become_list(counts)
     }
 
     pub fn set(&mut self, hour: u64, count: u64) -> Answer<Moved> {
         refuse_if(hour >= self.hours(), Refusal::Hour)?;
         let mut counts = self.counts.clone();
-        let gain = count.saturating_sub(counts[hour as usize]);
         counts[hour as usize] = count;
-        self.become_richer(counts, gain)
+        self.become_list(counts)
     }
 
     /// The count joins the list before an hour, at N behind all.

@@ -31,8 +31,3 @@ pub fn reserve(h: u32, s: u64) -> usize {
 pub fn cells(s: u64) -> u64 {
     reserve(6, s).div_ceil(240) as u64
 }
-
-/// The most cells that `coins` more in one hour take: document 02, note 6.
-pub fn cells_for(coins: u64) -> u64 {
-    coins.div_ceil(40).min(8)
-}

@@ -2,6 +2,7 @@
 
 mod bags;
 mod books;
+mod coins;
 mod days;
 mod examples;
 mod image_damage;
@@ -29,8 +30,9 @@ pub fn all() -> impl Iterator<Item = &'static Suite> {
 }
 
 /// The quick ones first.
-static ALL: [Suite; 13] = [
+static ALL: [Suite; 14] = [
     suite("document 01's examples", examples::play),
+    suite("what more coins cost", coins::play),
     suite("named faults of images", image_faults::play),
     suite("named faults of stores", store_faults::play),
     suite("busiest stretches", stretches::play).if_there(Function::ImageBusiest.is_there()),
