@@ -69,6 +69,10 @@ pub fn append(s: &mut [u8], v: u32) -> Answer
     if Header::HOURS * head.pages <= head.hours {
         return Answer::Refused(refusal::FULL);
     }
+    // The count that is there is 0: the total is known before the page is read.
+    if Header::MAX_TOTAL < total(s, head.pages) + v as u64 {
+        return Answer::Refused(refusal::TOTAL);
+    }
     change_hour(s, head.hours, v, head.hours + 1)
 }
 
