@@ -2,13 +2,15 @@
 # The tests outside the proofs: the library and the session program against the
 # second implementation, how the program reads and writes, the C example as C and
 # as C++, the header and its figures, those of docs/SIZING.md, the library
-# installed and used from there, and comparison and example once more in a build
-# with AddressSanitizer.
+# installed and used from there, how often a change works out a page's reserve, in
+# a copy that counts it, and comparison and example once more in a build with
+# AddressSanitizer.
 #
 # usage: tests/run.sh
 #   HOURLOG_LIB     the folder that holds libhourlog_c.a (else it is built); the
-#                   build with AddressSanitizer takes the proved libraries from
-#                   target/rlib all the same: without them, rt check hourlog_c first
+#                   builds that count and with AddressSanitizer take the proved
+#                   libraries from target/rlib all the same: without them, rt check
+#                   hourlog_c first
 #   HOURLOG_PROGRAM the session program (else it is built; empty: left out)
 #   HOURLOG_ROUNDS  makes the comparison so many times as long (1)
 #   HOURLOG_SEED    plays one seed of the comparison alone
@@ -147,6 +149,8 @@ sanitised=$!
     compare
     from_c
     installed
+    echo "== the reserve of a page, counted"
+    tests/reserve_twice.sh "$HOURLOG_LIB"
 ) &
 status=0
 wait $! || status=$?

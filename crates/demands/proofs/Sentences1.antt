@@ -241,7 +241,7 @@ module _ (w : ℕ) (l : w < 2 ^ 63) (t : List (List ℕ)) where
       store-number (call c s .answer) w (sym (number (Live c s) g a) ∙ demand-1 .above (Live c s) w t a l .ends .0)
 
   live-cells : (c : Call) (s : List ℕ) → row (Live c s) .gives ≡ cellsMoved → Answers (Live c s) w t
-      → (call c s .answer ≡ changed (taken w) (returned w)) × (t ≡ call c s .bytes ∷ [])
+      → (call c s .answer ≡ changed (taken w) (returned w)) × (t ≡ call c s .bytes ∷ beside c)
   live-cells c s g a =
       let G : Given (Live c s) w t = demand-1 .above (Live c s) w t a l in (
         store-cells (call c s .answer) (taken w) (returned w) (sym (cells-in g (G .result) w (G .kind) (G .reads)) ∙ G .ends .0),

@@ -3,6 +3,7 @@ use answers::refusal;
 use answers::store::Answer;
 use live_hour::change_hour;
 use store::header::Header;
+use store::total::total;
 ghost use mathlib.Core.Bool.{true};
 ghost use mathlib.Core.Path.{_≡_};
 ghost use Rattle.store.specs.Plain.{Append, Set};
@@ -18,6 +19,10 @@ pub fn append(s: &mut [u8], v: u32) -> Answer
     let head = Header::of(s);
     if Header::HOURS * head.pages <= head.hours {
         return Answer::Refused(refusal::FULL);
+    }
+    // The count that is there is 0: the total is known before the page is read.
+    if Header::MAX_TOTAL < total(s, head.pages) + v as u64 {
+        return Answer::Refused(refusal::TOTAL);
     }
     change_hour(s, head.hours, v, head.hours + 1)
 }
