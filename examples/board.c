@@ -175,17 +175,47 @@ static void power_up(uint32_t full_hours)
     report("up to the clock, hours logged", hourlog_hours(store));
 }
 
+/* On day 1 the clocks of this arcade were put back: it has 25 hours.  (In memory
+ * that survives power loss too: the laptop writes the list there.) */
+static const uint32_t changes[] = {1, 25};
+#define CHANGES (sizeof changes / sizeof changes[0])
+
+static uint32_t hours_of(uint32_t day)
+{
+    for (size_t k = 0; k < CHANGES; k += 2) {
+        if (changes[k] == day) {
+            return changes[k + 1];
+        }
+    }
+    return 24;
+}
+
+/* Which day an hour of the log belongs to, and which hour of that day it is. */
+struct moment {
+    uint32_t day, of_day;
+};
+
+static struct moment moment_of(uint32_t hour)
+{
+    struct moment m = {0, hour};
+    while (m.of_day >= hours_of(m.day)) {
+        m.of_day -= hours_of(m.day);
+        m.day++;
+    }
+    return m;
+}
+
 /* Stands in for the coin counter: shut at night, busiest in the evening. */
 static uint32_t coins_in_hour(uint32_t hour)
 {
-    uint32_t of_day = hour % 24;
-    return of_day < 10 ? 0 : (of_day - 9) * (3 + hour / 24);
+    struct moment m = moment_of(hour);
+    return m.of_day < 10 ? 0 : (m.of_day - 9) * (3 + m.day);
 }
 
 /* Goes on where the log stopped, which after a power-up can be any hour. */
 static void log_days(uint32_t days)
 {
-    for (uint32_t hour = hourlog_hours(store); hour < 24 * days; hour++) {
+    for (uint32_t hour = hourlog_hours(store); moment_of(hour).day < days; hour++) {
         if (!log_hour(hour, coins_in_hour(hour))) {
             return;
         }
@@ -202,9 +232,10 @@ static void report_coin(const char *call, int64_t reached)
 
 static void show_takings(void)
 {
-    report("takings of day 0", hourlog_day(store, STORE_LENGTH, 0));
-    report("takings of day 1", hourlog_day(store, STORE_LENGTH, 1));
-    report("takings of day 4, not yet over", hourlog_day(store, STORE_LENGTH, 4));
+    report("takings of day 0", hourlog_day(store, STORE_LENGTH, 0, changes, CHANGES));
+    report("takings of day 1, 25 hours", hourlog_day(store, STORE_LENGTH, 1, changes, CHANGES));
+    report("takings of day 2", hourlog_day(store, STORE_LENGTH, 2, changes, CHANGES));
+    report("takings of day 4, not yet over", hourlog_day(store, STORE_LENGTH, 4, changes, CHANGES));
     report("count of hour 20", hourlog_count(store, STORE_LENGTH, 20));
     report("meter after 72 hours", hourlog_reading(store, STORE_LENGTH, 72));
     report_coin("coin number 500 fell in hour", hourlog_reach(store, STORE_LENGTH, 500));
@@ -265,7 +296,7 @@ static void freeze_to(const char *path)
  * calendar: a board notes with the file on which day its hour 0 was.) */
 static void start_over(const char *path, uint32_t refused_coins)
 {
-    uint32_t of_day = hourlog_hours(store) % 24;
+    uint32_t of_day = moment_of(hourlog_hours(store)).of_day;
     freeze_to(path);
     uint8_t *copy = copy_of_store();
     must(hourlog_fresh(copy, STORE_LENGTH, PAGES, CELLS));
@@ -326,7 +357,9 @@ static void refusals_of_the_store(const char *path)
     report("fresh with no pages",
            changed(hourlog_fresh(copy_of_store(), STORE_LENGTH, 0, CELLS)));
     append(HOURLOG_TOTAL_MAX);
-    report("count of hour 96", hourlog_count(store, STORE_LENGTH, 96));
+    report("count of hour 97", hourlog_count(store, STORE_LENGTH, 97));
+    static const uint32_t no_change[] = {1, 24};
+    report("day 1, named with 24 hours", hourlog_day(store, STORE_LENGTH, 1, no_change, 2));
     report("reach of 4,000,000,000", hourlog_reach(store, STORE_LENGTH, 4000000000u));
     report("freeze with e = 9", hourlog_freeze(store, STORE_LENGTH, 9, image, sizeof image));
     report("freeze into 20 bytes", hourlog_freeze(store, STORE_LENGTH, IMAGE_E, image, 20));

@@ -17,8 +17,8 @@
  * call ever changes one that it is lent by a const pointer.
  *
  * A pointer must be good for the length given with it; with length 0 it is not
- * followed and may be NULL.  Bytes may lie at any address, counts at one that
- * is good for a uint32_t.  The two buffers of one call must not overlap.
+ * followed and may be NULL.  Bytes may lie at any address, counts and changes at
+ * one that is good for a uint32_t.  The two buffers of one call must not overlap.
  *
  * A 64-bit value handed to a uint32_t parameter is cut to its low 32 bits by C,
  * before the library sees it: test it first (hourlog_image_reach alone takes a
@@ -27,14 +27,22 @@
  * THE CLOCK
  *
  * The log numbers its hours and knows no calendar.  Let hour 0 begin at a
- * midnight, and note that date beside the store: then day d, as hourlog_day
- * sums it, is hours 24*d to 24*d + 23.  With N the hours logged (hourlog_hours)
- * and H the full hours since that midnight, by a clock without summer time:
+ * midnight, and note that date beside the store: it is day 0.  With N the hours
+ * logged (hourlog_hours) and H the full hours since that midnight, by a clock
+ * without summer time:
  *   after fresh     append 0 until N is H, the hour of the day;
  *   each full hour  append the coins of the hour that is over: N is H again;
  *   after power-up  while N is behind H, append 0 for each hour slept through;
  *   N ahead of H    (the clock was put back) skip: append nothing and count on,
  *                   so that these coins come into the next hour logged.
+ * A day has 24 hours, but 23 where the clocks of the arcade are put forward on
+ * it and 25 where they are put back.  Keep these days beside that date, as a
+ * LIST OF CHANGES: day number and hours by turns, the days rising, such as
+ * {88, 23, 305, 25}; hourlog_day takes it, and sums each day from midnight to
+ * midnight by those clocks.  The list may reach as far ahead as is known.  A
+ * board without a calendar takes it from the laptop, with the time; a laptop
+ * that reads the days keeps it beside the store's bytes.  A fresh store has a
+ * new day 0, so its list starts anew.  Where no clock is changed, it is empty.
  *
  * WHAT A BOARD HAS TO GIVE
  *
@@ -77,7 +85,7 @@ extern "C" {
 
 /* Of this header.  MAJOR rises where a call takes or answers something else
  * than before, MINOR where something is added.  For #if: 1000*MAJOR + MINOR. */
-#define HOURLOG_VERSION_MAJOR 1
+#define HOURLOG_VERSION_MAJOR 2
 #define HOURLOG_VERSION_MINOR 1
 #define HOURLOG_VERSION (1000 * HOURLOG_VERSION_MAJOR + HOURLOG_VERSION_MINOR)
 
@@ -125,7 +133,8 @@ typedef uint64_t hourlog_size;
  *     cells          0    1      2       3        4          5           6
  *
  * and 7 up to 954,437,176, and 8 above.  So a store of 8*P cells is never
- * refused 12; with fewer, it goes by what all pages need together. */
+ * refused 12; with fewer, it goes by what all pages need together.  A page with
+ * twice the coins needs at most one cell more (docs/SIZING.md has examples). */
 #define HOURLOG_CELLS_A_PAGE_MAX 8u
 
 /* Bytes that suffice for the image of this many hours at page size 2^e,
@@ -170,6 +179,8 @@ typedef uint64_t hourlog_size;
  *   1, 2, 4, 7, 8, 9  The arguments do not fit: a matter for the program.  At 4
  *       the macros above say what length suffices, for freeze and for write;
  *       for write hourlog_image_length says the exact one.
+ *   16  The list of changes is none (see THE CLOCK): set it right.  The log is
+ *       whole; with the empty list every day has 24 hours.
  *   3   Nobody pays that much: look at the coin counter.  The refused hour is
  *       NOT logged: append it with the right count.
  *   5, 6  A laptop takes the image from the board again.  At 6, count and
@@ -203,6 +214,7 @@ typedef uint64_t hourlog_size;
 #define HOURLOG_REFUSED_CELLS 12    /* more cells needed than the store has    */
 #define HOURLOG_REFUSED_BOOK 14     /* book: odd length, or a digit above 9    */
 #define HOURLOG_REFUSED_DIGITS 15   /* image to book: a count above 9999       */
+#define HOURLOG_REFUSED_CHANGES 16  /* day: the list of changes is wrong       */
 
 /* 1 if the call was refused, else 0. */
 static inline int hourlog_is_refused(int64_t answer)
@@ -235,6 +247,7 @@ static inline const char *hourlog_refusal_text(int number)
     case HOURLOG_REFUSED_CELLS: return "no cells left";
     case HOURLOG_REFUSED_BOOK: return "book is not packed decimal";
     case HOURLOG_REFUSED_DIGITS: return "a count needs more than four digits";
+    case HOURLOG_REFUSED_CHANGES: return "list of changed days is wrong";
     default: return "unknown refusal";
     }
 }
@@ -254,11 +267,13 @@ int64_t hourlog_fresh(uint8_t *store, hourlog_size len, uint32_t pages, uint32_t
 
 /* Logs the next hour.  Answers how many cells the store took and how many it
  * gave back, as a pair (see hourlog_taken, hourlog_returned); one of the two
- * is 0.  Refuses: 10, 11, 3, 12. */
+ * is 0.  For d coins it takes at most d/40 cells, rounded up, and never more
+ * than 8.  Refuses: 10, 11, 3, 12. */
 HOURLOG_MUST_USE
 int64_t hourlog_append(uint8_t *store, hourlog_size len, uint32_t count);
 
-/* Changes the count of a logged hour.  Answers as append does.
+/* Changes the count of a logged hour.  Answers as append does, and takes at
+ * most as many cells, where d is by how many coins the count rises.
  * Refuses: 10, 7 (hour >= N), 3, 12. */
 HOURLOG_MUST_USE
 int64_t hourlog_set(uint8_t *store, hourlog_size len, uint32_t hour, uint32_t count);
@@ -278,10 +293,15 @@ int64_t hourlog_reading(const uint8_t *store, hourlog_size len, uint32_t hour);
 HOURLOG_MUST_USE
 int64_t hourlog_reach(const uint8_t *store, hourlog_size len, uint32_t figure);
 
-/* The sum of hours 24*day to 24*day + 23.
- * Refuses: 10, 7 (24*day + 24 > N). */
+/* The sum of the hours of a day.  A day starts after the hours of all days
+ * before it: 24 each, but for those that the list of changes names (see THE
+ * CLOCK).  n is the number of its entries, two for each change; with n = 0 day d
+ * is hours 24*d to 24*d + 23.
+ * Refuses: 10; 16 (n is odd, a day number is not above the one before it, or
+ * hours are neither 23 nor 25, anywhere in the list); 7 (the day ends after N). */
 HOURLOG_MUST_USE
-int64_t hourlog_day(const uint8_t *store, hourlog_size len, uint32_t day);
+int64_t hourlog_day(const uint8_t *store, hourlog_size len, uint32_t day,
+                    const uint32_t *changes, hourlog_size n);
 
 /* How many cells are free; also the way to ask whether a store is sound.  It is
  * a question like those above, not the end of the store: it releases nothing

@@ -12,9 +12,6 @@ extern "C" {
     pub fn hourlog_count(store: *const u8, len: usize, hour: u32) -> i64;
     pub fn hourlog_reading(store: *const u8, len: usize, hour: u32) -> i64;
     pub fn hourlog_reach(store: *const u8, len: usize, figure: u32) -> i64;
-    #[cfg(not(feature = "changed-days"))]
-    pub fn hourlog_day(store: *const u8, len: usize, day: u32) -> i64;
-    #[cfg(feature = "changed-days")]
     pub fn hourlog_day(
         store: *const u8,
         len: usize,

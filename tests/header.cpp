@@ -214,7 +214,7 @@ static void texts()
     const char *const unknown = hourlog_refusal_text(99);
     assert(hourlog_refusal_text(-1) == unknown);
     assert(std::strcmp(hourlog_refusal_text(0), "no refusal") == 0);
-    std::vector<int> numbers{HOURLOG_REFUSED_BOOK, HOURLOG_REFUSED_DIGITS};
+    std::vector<int> numbers{HOURLOG_REFUSED_BOOK, HOURLOG_REFUSED_DIGITS, HOURLOG_REFUSED_CHANGES};
     for (int k = 0; k <= HOURLOG_REFUSED_CELLS; k++) {
         numbers.push_back(k);
     }
@@ -235,7 +235,7 @@ static void null_with_length_0()
     assert(hourlog_count(nullptr, 0, 0) == -HOURLOG_REFUSED_UNSOUND);
     assert(hourlog_reading(nullptr, 0, 0) == -HOURLOG_REFUSED_UNSOUND);
     assert(hourlog_reach(nullptr, 0, 0) == -HOURLOG_REFUSED_UNSOUND);
-    assert(hourlog_day(nullptr, 0, 0) == -HOURLOG_REFUSED_UNSOUND);
+    assert(hourlog_day(nullptr, 0, 0, nullptr, 0) == -HOURLOG_REFUSED_UNSOUND);
     assert(hourlog_free(nullptr, 0) == -HOURLOG_REFUSED_UNSOUND);
     assert(hourlog_image_check(nullptr, 0) == -HOURLOG_REFUSED_HEADER);
     assert(hourlog_image_count(nullptr, 0, 0) == -HOURLOG_REFUSED_HEADER);
@@ -246,6 +246,7 @@ static void null_with_length_0()
     // The calls with two buffers, either of them NULL and both. An image of no hours is its header.
     std::vector<uint8_t> store(HOURLOG_STORE_LENGTH(1, 2));
     assert(hourlog_fresh(store.data(), store.size(), 1, 2) == 0);
+    assert(hourlog_day(store.data(), store.size(), 0, nullptr, 0) == -HOURLOG_REFUSED_HOUR);
     const std::vector<uint32_t> counts{1, 0, 2, 0, 5};
     for (uint32_t e = HOURLOG_E_MIN; e <= HOURLOG_E_MAX; e++) {
         std::vector<uint8_t> image(16);

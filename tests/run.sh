@@ -1,13 +1,16 @@
 #!/bin/sh
 # The tests outside the proofs: the library and the session program against the
 # second implementation, how the program reads and writes, the C example as C and
-# as C++, the header and its figures, the library installed and used from there,
-# and comparison and example once more in a build with AddressSanitizer.
+# as C++, the header and its figures, those of docs/SIZING.md, the library
+# installed and used from there, how often a change works out a page's reserve, in
+# a copy that counts it, and comparison and example once more in a build with
+# AddressSanitizer.
 #
 # usage: tests/run.sh
 #   HOURLOG_LIB     the folder that holds libhourlog_c.a (else it is built); the
-#                   build with AddressSanitizer takes the proved libraries from
-#                   target/rlib all the same: without them, rt check hourlog_c first
+#                   builds that count and with AddressSanitizer take the proved
+#                   libraries from target/rlib all the same: without them, rt check
+#                   hourlog_c first
 #   HOURLOG_PROGRAM the session program (else it is built; empty: left out)
 #   HOURLOG_ROUNDS  makes the comparison so many times as long (1)
 #   HOURLOG_SEED    plays one seed of the comparison alone
@@ -117,6 +120,8 @@ from_c() {
     "$out/header-c++11"
     build stack "$HOURLOG_LIB" gcc -std=c99 -O2 tests/stack.c
     "$out/stack"
+    gcc -shared -Wl,--whole-archive "$HOURLOG_LIB/libhourlog_c.a" -Wl,--no-whole-archive -o "$out/hourlog.so"
+    tests/sizing "$out/hourlog.so"
     echo '#include "hourlog.h"
         void passed_over(void) { hourlog_append(NULL, 0, 1); }' >"$out/passed_over.c"
     if gcc -Werror -Iinclude -c -o "$out/passed_over.o" "$out/passed_over.c" 2>"$out/passed_over.txt"; then
@@ -170,6 +175,8 @@ sanitised=$!
     compare
     from_c
     installed
+    echo "== the reserve of a page, counted"
+    tests/reserve_twice.sh "$HOURLOG_LIB"
 ) &
 status=0
 wait $! || status=$?

@@ -34,7 +34,8 @@ static int64_t set(void) { return hourlog_set(STORE, 63, HOURLOG_TOTAL_MAX / 2);
 static int64_t count(void) { return hourlog_count(STORE, 62); }
 static int64_t reading(void) { return hourlog_reading(STORE, 62); }
 static int64_t reach(void) { return hourlog_reach(STORE, 100); }
-static int64_t day(void) { return hourlog_day(STORE, 1); }
+static const uint32_t changes[] = {0, 25, 1, 23};
+static int64_t day(void) { return hourlog_day(STORE, 1, changes, 4); }
 static int64_t free_cells(void) { return hourlog_free(STORE); }
 static int64_t length(void) { return hourlog_image_length(LIST); }
 static int64_t write_image(void) { return hourlog_image_write(LIST, image, sizeof image); }

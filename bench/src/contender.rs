@@ -26,6 +26,7 @@ pub struct Contender {
     pub reading: fn(&[u8], u32) -> i64,
     pub reach: fn(&[u8], u64) -> i64,
     pub append: fn(&mut [u8], u32) -> i64,
+    pub freeze: fn(&[u8], u32, &mut [u8]) -> i64,
     pub busiest: fn(&[u8], u32) -> i64,
     pub matched: fn(&[u8], u64) -> i64,
     pub from_book: fn(&[u8], u32, &mut [u8]) -> i64,
@@ -51,6 +52,7 @@ fn rival<C: Code>(name: &'static str) -> Contender {
         reading: image::reading::<C>,
         reach: image::reach::<C>,
         append: store::append::<C>,
+        freeze: store::freeze::<C>,
         busiest: runs::busiest::<C>,
         matched: runs::matched::<C>,
         from_book: books::to_image::<C>,
@@ -76,6 +78,10 @@ fn library() -> Contender {
             c::hourlog_image_reach(image.as_ptr(), image.len(), figure)
         },
         append: |store, count| unsafe { c::hourlog_append(store.as_mut_ptr(), store.len(), count) },
+        freeze: |store, e, out| unsafe {
+            let (image, room) = (out.as_mut_ptr(), out.len());
+            c::hourlog_freeze(store.as_ptr(), store.len(), e, image, room)
+        },
         busiest: |image, hours| unsafe {
             c::hourlog_image_busiest(image.as_ptr(), image.len(), hours)
         },

@@ -28,6 +28,9 @@ fn main() {
     for pages in [16, 64, 256, 1_024] {
         measure(&contenders, &format!("{pages} pages"), tasks::append(pages));
     }
+    for task in tasks::freezes(1_024) {
+        measure(&contenders, "1024 pages", task);
+    }
     for task in tasks::moves(1_024) {
         measure(&contenders, "1024 pages", task);
     }

@@ -119,6 +119,27 @@ pub fn append(pages: usize) -> Task {
     })
 }
 
+/// The image of a full store's list, at pages of 4, 8 and 64 counts.
+pub fn freezes(pages: usize) -> Vec<Task> {
+    let store = filled(pages, 0);
+    [
+        (2, "freeze e = 2"),
+        (3, "freeze e = 3"),
+        (6, "freeze e = 6"),
+    ]
+    .map(|(e, name)| {
+        let store = store.clone();
+        let mut room = vec![0xFF; 16 * PAGE * pages];
+        let length = rival::store::freeze::<rival::Fast>(&store, e, &mut room);
+        room.truncate(length as usize);
+        room.fill(0xFF);
+        over_store(name, 1, room, move |by, bytes| {
+            (by.freeze)(&store, e, bytes)
+        })
+    })
+    .into()
+}
+
 fn over_store(
     name: &'static str,
     calls: usize,

@@ -124,6 +124,22 @@ static uint32_t figure_at(int64_t reading, uint32_t hour)
     return (hourlog_is_refused(reading) ? hour : (uint32_t)reading) + hour % 2;
 }
 
+/* Changed days, mostly right ones: at most three, and at times an entry too few, a
+ * day again, or 24 hours. */
+static uint32_t changes[6];
+
+static uint64_t changed_days(void)
+{
+    uint32_t day = below(3);
+    uint64_t n = 2 * below(4);
+    for (uint64_t k = 0; k < n; k += 2) {
+        changes[k] = day;
+        changes[k + 1] = below(16) == 0 ? 24 : 23 + 2 * below(2);
+        day += below(16) == 0 ? 0 : 1 + below(3);
+    }
+    return n - (n > 0 && below(16) == 0);
+}
+
 /* ---- calls on a store: the first buffer; freeze writes to the second -------- */
 
 static void store_call(uint64_t length)
@@ -132,6 +148,7 @@ static void store_call(uint64_t length)
     uint32_t hour = hour_of(length >= 16 && first.length >= 16 ? hourlog_hours(store) % 70000 : 3);
     uint32_t number = any();
     uint64_t room = length_near(second.length);
+    uint64_t changed;
     uint32_t call = below(14);
     if (room > second.length && call >= 12) {
         room = second.length; /* a longer one would be written over its end */
@@ -144,7 +161,8 @@ static void store_call(uint64_t length)
     case 8: say("reach", length, number, 0, hourlog_reach(store, length, number)); break;
     case 9: number = figure_at(hourlog_reading(store, length, hour), hour);
         say("reach", length, number, 0, hourlog_reach(store, length, number)); break;
-    case 10: say("day", length, hour / 24, 0, hourlog_day(store, length, hour / 24)); break;
+    case 10: changed = changed_days();
+        say("day", length, hour / 24, (uint32_t)changed, hourlog_day(store, length, hour / 24, changes, changed)); break;
     case 11: say("free", length, 0, 0, hourlog_free(store, length)); break;
     case 12: case 13:
         number = number % 8 == 0 ? number : 2 + number % 7;

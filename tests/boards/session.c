@@ -76,7 +76,7 @@ static int64_t answer_to(unsigned char letter, const uint32_t *n)
     case 'g': return hourlog_count(store, store_len, n[0]);
     case 'r': return hourlog_reading(store, store_len, n[0]);
     case 'w': return hourlog_reach(store, store_len, n[0]);
-    case 'd': return hourlog_day(store, store_len, n[0]);
+    case 'd': return hourlog_day(store, store_len, n[0], NULL, 0);
     default: return hourlog_free(store, store_len);
     }
 }

@@ -1,7 +1,6 @@
 -- Laws of the definitions.
 pub mod Laws
 pub mod Words
-pub mod Leading
 pub mod Zeros
 pub mod Packing
 pub mod Little

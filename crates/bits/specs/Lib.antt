@@ -2,4 +2,3 @@
 pub mod Bits
 pub mod Pack
 pub mod Numbers
-pub mod Code

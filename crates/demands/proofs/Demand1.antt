@@ -24,7 +24,7 @@ use Rattle.book_out.specs.ToBook.{toCall}
 use Rattle.book_out.proofs.ToLaws.{to-refused}
 use Rattle.hourlog_c.specs.Public.{End, Ends, Fresh, Freeze, ImageCheck, ImageCount, ImageLength, ImageReach, ImageReading, ImageWrite, Live}
 use Rattle.hourlog_c.specs.Public.{ImageFromBcd, ImageToBcd}
-use Rattle.hourlog_c.specs.Public.{PublicCall, lent, ofImage, ofStore, refusal, theCells, theNumber, theSums}
+use Rattle.hourlog_c.specs.Public.{PublicCall, beside, lent, ofImage, ofStore, refusal, theCells, theNumber, theSums}
 use Rattle.hourlog_c.specs.ReadBack.{Reads}
 use Rattle.hourlog_c.proofs.RefusedTen.{image-refused, store-refused}
 use Rattle.demands.proofs.Refusals.{check-allowed, count-allowed, freeze-allowed, fresh-allowed, length-allowed, live-allowed, reach-allowed, reading-allowed, write-allowed}
@@ -72,7 +72,7 @@ some (ImageToBcd i b) = (_, _, (refl, refl))
 keeps : (c : PublicCall) (k : ℕ) (t : List (List ℕ)) → Ends c (refusal k) t → t ≡ lent c
 keeps (Fresh s P C) k t d =
     d .1 ∙ ap (λ (z : List ℕ). z ∷ []) (fresh-refused-keeps s P C k (store-refused (freshCall s P C .answer) k .0 (sym (d .0))))
-keeps (Live c s) k t d = d .1 ∙ ap (λ (z : List ℕ). z ∷ []) (refused-keeps c s k (store-refused (call c s .answer) k .0 (sym (d .0))))
+keeps (Live c s) k t d = d .1 ∙ ap (λ (z : List ℕ). z ∷ beside c) (refused-keeps c s k (store-refused (call c s .answer) k .0 (sym (d .0))))
 keeps (Freeze s e i) k t d =
     d .1 ∙ ap (λ (z : List ℕ). s ∷ z ∷ []) (freeze-refused e s i k (image-refused (freezeCall e s i .reply) k .0 (sym (d .0))))
 keeps (ImageLength xs e) k t d = d .1
@@ -107,13 +107,13 @@ asked (Set i v) s q = absurd (true≢false (sym q))
 asked (Count i) s q = number-keeps (Count i) s refl
 asked (Reading i) s q = number-keeps (Reading i) s refl
 asked (ReachOf p) s q = number-keeps (ReachOf p) s refl
-asked (Day d) s q = number-keeps (Day d) s refl
+asked (Day d cs) s q = number-keeps (Day d cs) s refl
 asked Free s q = number-keeps Free s refl
 
 question-keeps : (c : PublicCall) (a : End) (t : List (List ℕ)) → row c .question ≡ true → Ends c a t → t ≡ lent c
 unfolding row
 question-keeps (Fresh s P C) a t q d = absurd (true≢false (sym q))
-question-keeps (Live c s) a t q d = d .1 ∙ ap (λ (z : List ℕ). z ∷ []) (asked c s q)
+question-keeps (Live c s) a t q d = d .1 ∙ ap (λ (z : List ℕ). z ∷ beside c) (asked c s q)
 question-keeps (Freeze s e i) a t q d = absurd (true≢false (sym q))
 question-keeps (ImageLength xs e) a t q d = d .1
 question-keeps (ImageWrite xs e i) a t q d = absurd (true≢false (sym q))

@@ -46,7 +46,7 @@ step-never (Set i v) L h = pick-never _ 7 L _ (λ e. omega arith) (change-never 
 step-never (Count i) L h = pick-never _ 7 L _ (λ e. omega arith) (tell-never _ L)
 step-never (Reading i) L h = pick-never _ 7 L _ (λ e. omega arith) (tell-never _ L)
 step-never (Reach p) L h = pick-never _ 8 L _ (λ e. omega arith) (tell-never _ L)
-step-never (Day d) L h = pick-never _ 7 L _ (λ e. omega arith) (tell-never _ L)
+step-never (Day d cs) L h = pick-never _ 16 L _ (λ e. omega arith) (pick-never _ 7 L _ (λ e. omega arith) (tell-never _ L))
 step-never Free L h = tell-never _ L
 
 step-when : (c : Call) (L : Plain) (ys : List ℕ) → Passes c L ys → (step c L .answer ≡ refused 12) ↔ (L .cells < need ys (L .pages))

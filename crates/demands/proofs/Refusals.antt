@@ -60,7 +60,7 @@ step-allowed (Set i v) s L = or-turned _ L _ 7 _ (omega arith) (change-allowed _
 step-allowed (Count i) s L = or-turned _ L _ 7 _ (omega arith) refl
 step-allowed (Reading i) s L = or-turned _ L _ 7 _ (omega arith) refl
 step-allowed (ReachOf p) s L = or-turned _ L _ 8 _ (omega arith) refl
-step-allowed (Day d) s L = or-turned _ L _ 7 _ (omega arith) refl
+step-allowed (Day d cs) s L = or-turned _ L _ 16 _ (omega arith) (or-turned _ L _ 7 _ (omega arith) refl)
 step-allowed Free s L = refl
 
 -- every live call has 10
@@ -71,7 +71,7 @@ has-10 (Set i v) s = omega arith
 has-10 (Count i) s = omega arith
 has-10 (Reading i) s = omega arith
 has-10 (ReachOf p) s = omega arith
-has-10 (Day d) s = omega arith
+has-10 (Day d cs) s = omega arith
 has-10 Free s = omega arith
 
 pub live-allowed : (c : Call) (s : List ℕ) → Allowed (row (Live c s)) (ofStore (call c s .answer))

@@ -18,7 +18,7 @@ use Rattle.image.specs.Query.{count, reading}
 use Rattle.image.specs.Reach.{Reach}
 use Rattle.freeze.specs.Freeze.{freezeCall}
 use Rattle.hourlog_c.specs.Public.{End, Ends, Fresh, Freeze, ImageCheck, ImageCount, ImageLength, ImageReach, ImageReading, ImageWrite, Live}
-use Rattle.hourlog_c.specs.Public.{PublicCall, lent, ofCheck, ofImage, ofStore, refusal, theCells, theNumber, theSums}
+use Rattle.hourlog_c.specs.Public.{PublicCall, beside, lent, ofCheck, ofImage, ofStore, refusal, theCells, theNumber, theSums}
 use Rattle.hourlog_c.specs.ReadBack.{Reads, checkedHours, checkedTotal, returned, taken}
 use Rattle.hourlog_c.specs.Export.{Answers}
 use Rattle.hourlog_c.proofs.RefusedTen.{image-refused, store-refused}
@@ -34,8 +34,8 @@ ends = demand-1 .some
 module _ (s : List ℕ) (k : ℕ) where
   live : (c : Call) → call c s .answer ≡ turned k → Among k (row (Live c s) .refusals) × (call c s .bytes ≡ s)
   live c q =
-      let e : Ends (Live c s) (refusal k) (call c s .bytes ∷ []) = (sym (store-refused (call c s .answer) k .1 q), refl) in
-      (demand-1 .allowed (Live c s) (refusal k) (call c s .bytes ∷ []) e, same-slice (demand-1 .refused-keeps (Live c s) k (call c s .bytes ∷ []) e))
+      let e : Ends (Live c s) (refusal k) (call c s .bytes ∷ beside c) = (sym (store-refused (call c s .answer) k .1 q), refl) in
+      (demand-1 .allowed (Live c s) (refusal k) (call c s .bytes ∷ beside c) e, same-slice (demand-1 .refused-keeps (Live c s) k (call c s .bytes ∷ beside c) e))
 
   -- 'fresh: 9'
   pub fresh-refused : (P C : ℕ) → freshCall s P C .answer ≡ turned k → Among k (9 ∷ []) × (freshCall s P C .bytes ≡ s)
@@ -70,10 +70,11 @@ module _ (s : List ℕ) (k : ℕ) where
   unfolding row
   reach-refused p = live (ReachOf p)
 
-  -- 'day d: .. 7 if 24d + 24 > N'
-  pub day-refused : (d : ℕ) → call (Day d) s .answer ≡ turned k → Among k (10 ∷ 7 ∷ []) × (call (Day d) s .bytes ≡ s)
+  -- 'day d', of document 02's note 4: '16, right after 10', '7 now stands for a day whose end is above N'
+  pub day-refused : (d : ℕ) (changes : List ℕ) → call (Day d changes) s .answer ≡ turned k
+      → Among k (10 ∷ 16 ∷ 7 ∷ []) × (call (Day d changes) s .bytes ≡ s)
   unfolding row
-  day-refused d = live (Day d)
+  day-refused d changes = live (Day d changes)
 
   -- 'free: C - need'
   pub free-refused : call Free s .answer ≡ turned k → Among k (10 ∷ []) × (call Free s .bytes ≡ s)
@@ -130,7 +131,7 @@ module _ (s : List ℕ) (k : ℕ) where
 -- ---- a question changes no byte
 module _ (s : List ℕ) where
   asks : (c : Call) → row (Live c s) .question ≡ true → call c s .bytes ≡ s
-  asks c q = same-slice (demand-1 .question-keeps (Live c s) (ofStore (call c s .answer)) (call c s .bytes ∷ []) q (refl, refl))
+  asks c q = same-slice (demand-1 .question-keeps (Live c s) (ofStore (call c s .answer)) (call c s .bytes ∷ beside c) q (refl, refl))
 
   pub count-asks : (i : ℕ) → call (Count i) s .bytes ≡ s
   unfolding row
@@ -144,9 +145,9 @@ module _ (s : List ℕ) where
   unfolding row
   reach-asks p = asks (ReachOf p) refl
 
-  pub day-asks : (d : ℕ) → call (Day d) s .bytes ≡ s
+  pub day-asks : (d : ℕ) (changes : List ℕ) → call (Day d changes) s .bytes ≡ s
   unfolding row
-  day-asks d = asks (Day d) refl
+  day-asks d changes = asks (Day d changes) refl
 
   pub free-asks : call Free s .bytes ≡ s
   unfolding row
@@ -240,7 +241,7 @@ module _ (w : ℕ) (l : w < 2 ^ 63) (t : List (List ℕ)) where
       store-number (call c s .answer) w (sym (number (Live c s) g a) ∙ demand-1 .above (Live c s) w t a l .ends .0)
 
   live-cells : (c : Call) (s : List ℕ) → row (Live c s) .gives ≡ cellsMoved → Answers (Live c s) w t
-      → (call c s .answer ≡ changed (taken w) (returned w)) × (t ≡ call c s .bytes ∷ [])
+      → (call c s .answer ≡ changed (taken w) (returned w)) × (t ≡ call c s .bytes ∷ beside c)
   live-cells c s g a =
       let G : Given (Live c s) w t = demand-1 .above (Live c s) w t a l in (
         store-cells (call c s .answer) (taken w) (returned w) (sym (cells-in g (G .result) w (G .kind) (G .reads)) ∙ G .ends .0),
@@ -275,9 +276,9 @@ module _ (w : ℕ) (l : w < 2 ^ 63) (t : List (List ℕ)) where
   unfolding row
   reach-word p s = live-number (ReachOf p) s refl
 
-  pub day-word : (d : ℕ) (s : List ℕ) → Answers (Live (Day d) s) w t → call (Day d) s .answer ≡ answered w
+  pub day-word : (d : ℕ) (changes s : List ℕ) → Answers (Live (Day d changes) s) w t → call (Day d changes) s .answer ≡ answered w
   unfolding row
-  day-word d s = live-number (Day d) s refl
+  day-word d changes s = live-number (Day d changes) s refl
 
   pub free-word : (s : List ℕ) → Answers (Live Free s) w t → call Free s .answer ≡ answered w
   unfolding row

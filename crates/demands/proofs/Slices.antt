@@ -3,7 +3,7 @@ use mathlib.Core.Path.{_≡_}
 use mathlib.Core.List.{List, [], _∷_}
 use Prim.Native.Nat.{ℕ}
 
-pub same-slice : {s t : List ℕ} → _≡_ {A = List (List ℕ)} (s ∷ []) (t ∷ []) → s ≡ t
+pub same-slice : {s t : List ℕ} {more : List (List ℕ)} → _≡_ {A = List (List ℕ)} (s ∷ more) (t ∷ more) → s ≡ t
 same-slice e = cc
 
 pub same-second : {r s t : List ℕ} → _≡_ {A = List (List ℕ)} (r ∷ s ∷ []) (r ∷ t ∷ []) → s ≡ t

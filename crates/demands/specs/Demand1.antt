@@ -38,7 +38,7 @@ row (Live (Set i v) s) = record { refusals = 10 ∷ 7 ∷ 3 ∷ 12 ∷ []; gives
 row (Live (Count i) s) = record { refusals = 10 ∷ 7 ∷ []; gives = aNumber; question = true }
 row (Live (Reading i) s) = record { refusals = 10 ∷ 7 ∷ []; gives = aNumber; question = true }
 row (Live (Reach p) s) = record { refusals = 10 ∷ 8 ∷ []; gives = aNumber; question = true }
-row (Live (Day d) s) = record { refusals = 10 ∷ 7 ∷ []; gives = aNumber; question = true }
+row (Live (Day d changes) s) = record { refusals = 10 ∷ 16 ∷ 7 ∷ []; gives = aNumber; question = true }
 row (Live Free s) = record { refusals = 10 ∷ []; gives = aNumber; question = true }
 row (Freeze s e i) = record { refusals = 10 ∷ 1 ∷ 4 ∷ []; gives = aNumber; question = false }
 row (ImageLength xs e) = record { refusals = 1 ∷ 2 ∷ 3 ∷ []; gives = aNumber; question = true }

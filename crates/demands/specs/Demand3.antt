@@ -17,7 +17,7 @@ use Rattle.store.specs.Reading.{Runs, firstIn, sumIn, chainIn, spareIn, read}
 use Rattle.store.specs.Sound.{sound, isCell}
 use Rattle.store.specs.Call.{call, storeEnd, storeAnswers, freshCall}
 use Rattle.store.specs.Items.{Items}
-use Rattle.hourlog_c.specs.Public.{Fresh, Live, ofStore}
+use Rattle.hourlog_c.specs.Public.{Fresh, Live, beside, ofStore}
 use Rattle.hourlog_c.specs.Words.{wordOf}
 use Rattle.hourlog_c.specs.Export.{Answers}
 
@@ -75,7 +75,7 @@ pub record HoldsAfter (b : List ℕ) (P C : ℕ) (cs : List Call) : Type 0 where
 -- A run of the exports, each on the bytes that the one before left: the calls, the bytes before, the words that C got, the bytes at the end
 pub data Run : List Call → List ℕ → List ℕ → List ℕ → Type 0 where
   over : (s : List ℕ) → Run [] s [] s
-  goes-on : (c : Call) (cs : List Call) (s u t : List ℕ) (w : ℕ) (ws : List ℕ) → Answers (Live c s) w (u ∷ []) → Run cs u ws t
+  goes-on : (c : Call) (cs : List Call) (s u t : List ℕ) (w : ℕ) (ws : List ℕ) → Answers (Live c s) w (u ∷ beside c) → Run cs u ws t
       → Run (c ∷ cs) s (w ∷ ws) t
 
 -- the words of a list of answers

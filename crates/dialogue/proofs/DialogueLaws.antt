@@ -4,10 +4,10 @@ use mathlib.Core.List.{List, [], _∷_, _++_, append-assoc}
 use Prim.Native.Nat.{ℕ}
 use native.Mathlib.Omega.{arith}
 use Rattle.lists.specs.Lists.{concat}
-use Rattle.session.specs.Lines.{holds, completes, gathered}
-use Rattle.session.specs.Printed.{printed}
+use Rattle.session_input.specs.Lines.{holds, completes, gathered}
+use Rattle.session_print.specs.Printed.{printed}
 use Rattle.session.specs.declared.line.Command.{Command}
-use Rattle.session.proofs.GatherLaws.{one-for-each-line}
+use Rattle.session_input.proofs.GatherLaws.{one-for-each-line}
 use Rattle.replies.specs.Session.{turn, replies, output}
 use Rattle.replies.specs.PlainSession.{plainOutput}
 use Rattle.replies.proofs.SessionLaws.{session-is-plain}

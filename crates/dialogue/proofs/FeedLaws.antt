@@ -7,13 +7,13 @@ use native.Mathlib.Omega.{arith}
 use lib.ListN.{length, getD, take, length-append}
 use lib.Seq.{take-suc, take-all}
 use Rattle.lists.specs.Lists.{concat}
-use Rattle.session.specs.Lines.{holds, completes, ends, heldLength, wholeCommands, Gathers}
-use Rattle.session.specs.Printed.{printed, Prints}
+use Rattle.session_input.specs.Lines.{holds, completes, ends, heldLength, wholeCommands, Gathers}
+use Rattle.session_print.specs.Printed.{printed, Prints}
 use Rattle.session.specs.declared.line.Command.{Command}
-use Rattle.session.specs.declared.output.Reply.{Reply}
-use Rattle.session.specs.declared.input.Gathered.{Gathered}
-use Rattle.session.specs.declared.input.Gathered.the-variants.{More, Whole}
-use Rattle.session.proofs.PrintLaws.{printed-behind, printed-length}
+use Rattle.session_print.specs.declared.Reply.{Reply}
+use Rattle.session_input.specs.declared.Gathered.{Gathered}
+use Rattle.session_input.specs.declared.Gathered.the-variants.{More, Whole}
+use Rattle.session_print.proofs.PrintLaws.{printed-behind, printed-length}
 use Rattle.replies.specs.Session.{turn, replies}
 use Rattle.replies.specs.Code.Respond.{Responds}
 use Rattle.replies.specs.declared.respond.Response.{Response}

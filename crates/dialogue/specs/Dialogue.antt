@@ -2,8 +2,8 @@
 use mathlib.Core.List.{List, [], _∷_, _++_, map}
 use Prim.Native.Nat.{ℕ}
 use Rattle.lists.specs.Lists.{concat}
-use Rattle.session.specs.Lines.{holds, completes, ends}
-use Rattle.session.specs.Printed.{printed}
+use Rattle.session_input.specs.Lines.{holds, completes, ends}
+use Rattle.session_print.specs.Printed.{printed}
 use Rattle.session.specs.declared.line.Command.{Command}
 use Rattle.replies.specs.Session.{turn, replies}
 

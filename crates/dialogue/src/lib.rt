@@ -1,7 +1,7 @@
 // A session between a read and a write: a chunk of the input goes in, the lines to write come out.
 use replies::respond::respond;
 use session::Command;
-use session::Gathered;
+use session_input::Gathered;
 ghost use mathlib.Core.List.{List, [], _∷_};
 ghost use mathlib.Core.Path.{_≡_};
 ghost use Prim.Native.Nat.{ℕ, _+_, _*_, _≤_};
@@ -37,7 +37,7 @@ fn answer(store: &mut [u8], place: Standing, command: Command, out: &mut [u8]) -
 {
     let response = respond(store, place.used, command);
     let reply = response.reply;
-    let said = session::print(out, place.said, reply);
+    let said = session_print::print(out, place.said, reply);
     Standing {
         used: response.used,
         held: 0,
@@ -58,7 +58,7 @@ fn take_byte(
     requires { ⌜ place .said + 32 ≤ length (now out) ⌝ }
     ensures { λ r. ⌜ Feeds (byte ∷ []) (stand place (now (store .entry)) (now (line .entry))) (place .said) (now (out .entry)) (stand r (now (store .exit)) (now (line .exit))) (r .said) (now (out .exit)) ⌝ }
 {
-    match session::gather(line, place.held, byte) {
+    match session_input::gather(line, place.held, byte) {
         Gathered::More(held) => Standing {
             used: place.used,
             held,
@@ -100,7 +100,7 @@ pub fn close(store: &mut [u8], line: &[u8], place: Standing, out: &mut [u8]) -> 
     requires { ⌜ 32 ≤ length (now out) ⌝ }
     ensures { λ r. ⌜ Closes (stand place (now (store .entry)) (now (line .entry))) r (now (out .exit)) ⌝ }
 {
-    let Gathered::Whole(command) = session::finish(line, place.held) else {
+    let Gathered::Whole(command) = session_input::finish(line, place.held) else {
         return 0;
     };
     let here = Standing {

@@ -1,14 +1,13 @@
 -- The call's refusals. Assumes nothing.
-use mathlib.Core.Path.{_≡_, refl, sym, _∙_}
+use mathlib.Core.Path.{_≡_, refl}
 use mathlib.Core.Bool.{Bool, true, false, _&&_}
 use mathlib.Core.List.{List}
-use Prim.Native.Nat.{ℕ, _≤_}
+use Prim.Native.Nat.{ℕ}
 use native.Mathlib.Omega.{arith}
 use lib.ListN.{length}
 use lib.Dec.{leb}
 use borrow.Author.Tests.{le-leb}
 use Rattle.lists.specs.Lists.{pick, sum}
-use Rattle.bits.specs.Numbers.{numberAt}
 use Rattle.store.specs.Reading.{listIn}
 use Rattle.store.specs.Sound.{sound}
 use Rattle.store.proofs.SoundFacts.{facts}
@@ -18,13 +17,6 @@ use Rattle.answers.specs.Image.{given, refused}
 use Rattle.image.proofs.CallLaws.{write-refused}
 use Rattle.freeze.specs.Freeze.{freezeCall}
 
-pub long-enough : (s : List ℕ) → sound s ≡ true → 16 ≤ length s
-long-enough s e = omega (arith, facts s e .long)
-
-pub hours-are : (s : List ℕ) → sound s ≡ true → (n : ℕ) → n ≡ numberAt s 12 4 → length (listIn s) ≡ n
-hours-are s e n q = sym (q ∙ facts s e .hours-are)
-
--- ---- the call
 pub freeze-10 : (e : ℕ) (s out : List ℕ) → sound s ≡ false → record { reply = refused 10; bytes = out } ≡ freezeCall e s out
 unfolding freezeCall pick unwritten
 freeze-10 e s out h = rw h

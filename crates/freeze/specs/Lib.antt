@@ -1,3 +1,2 @@
 -- Definitions of the crate.
 pub mod Freeze
-pub mod Code

@@ -1,13 +1,9 @@
 // The frozen image of a live store's list. The list stands nowhere as one: its pages of 2^e counts are handed to the writer of images by
 // blocks of 256 hours, four pages of the store.
-mod block;
-mod plan;
-mod put;
-
-use crate::plan::layout_of;
-use crate::put::put_image;
 use answers::image::Answer;
 use answers::refusal;
+use freeze_plan::layout_of;
+use freeze_put::put_image;
 use image_steps::plan::Planned;
 use image_steps::plan::size;
 ghost use mathlib.Core.Bool.{true};

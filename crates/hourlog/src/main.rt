@@ -17,13 +17,13 @@ fn write(text: &[u8]) -> bool {
     false
 }
 
-// Reads to the input's end, and answers the last line. A byte of the input gives at most 32 to write.
-fn run(store: &mut [u8])
+// Reads to the input's end, and answers the last line. A byte of the input gives at most 32 to write, so out has room for a chunk's replies.
+fn run(store: &mut [u8], out: &mut [u8])
     requires { ⌜ 63760 ≤ length (now store) ⌝ }
+    requires { ⌜ 131072 ≤ length (now out) ⌝ }
 {
     let mut line = [0u8; 41];
     let mut chunk = io::buffer();
-    let mut out = [0u8; 131072];
     let mut place = dialogue::start();
     // more turns than any input has: they bound the loop, so that it is known to end
     let mut turns = u64::MAX;
@@ -37,18 +37,19 @@ fn run(store: &mut [u8])
             break;
         }
         let n = io::count(got, &chunk);
-        place = dialogue::feed(store, &mut line, place, &chunk[..n], &mut out);
+        place = dialogue::feed(store, &mut line, place, &chunk[..n], out);
         let said = place.said;
         if !write(&out[..said]) {
             return;
         }
         turns -= 1;
     }
-    let said = dialogue::close(store, &line, place, &mut out);
+    let said = dialogue::close(store, &line, place, out);
     write(&out[..said]);
 }
 
 fn main() {
     let mut store = [0u8; 63760];
-    run(&mut store);
+    let mut out = [0u8; 131072];
+    run(&mut store, &mut out);
 }

@@ -12,6 +12,7 @@ use Rattle.store.specs.Call.{Called, Started, call, freshCall}
 use Rattle.store.specs.Reading.{listIn}
 use Rattle.store.specs.Sound.{sound}
 use Rattle.store.proofs.Sizes.{Small as SmallAnswer, call-small, fresh-small}
+use Rattle.coin_cost.specs.Cost.{TakesAtMost, cellsFor}
 use Rattle.image.specs.Calls.{Wrote, lengthCall, unwritten, writeCall}
 use Rattle.image.specs.Check.{check}
 use Rattle.answers.specs.Image.{Verdict, fails, holds, Reply, given, refused}
@@ -20,10 +21,10 @@ use Rattle.image.specs.Reach.{Reach}
 use Rattle.image.proofs.Sizes.{Small as SmallReply, SmallVerdict, check-small, count-small, length-small, reach-small, reading-small, write-small}
 use Rattle.freeze.specs.Freeze.{freezeCall}
 use Rattle.hourlog_c.specs.Public.{End, Ends, Fresh, Freeze, ImageCheck, ImageCount, ImageLength, ImageReach, ImageReading, ImageWrite, Live}
-use Rattle.hourlog_c.specs.Public.{PublicCall, Ten, ofCheck, ofImage, ofStore}
+use Rattle.hourlog_c.specs.Public.{PublicCall, Ten, beside, ofCheck, ofImage, ofStore}
 use Rattle.hourlog_c.specs.Words.{wordOf}
 use Rattle.hourlog_c.specs.ReadBack.{Reads}
-use Rattle.hourlog_c.specs.Export.{Answers}
+use Rattle.hourlog_c.specs.Export.{Answers, Costs}
 use Rattle.hourlog_c.proofs.RefusedTen.{freeze-ten, live-ten}
 use Rattle.hourlog_c.proofs.WordLaws.{Small, small-reads}
 
@@ -57,10 +58,24 @@ freeze-small e s out = go (sound s)
     go false = omega arith
 
 -- ---- the store
-pub live-answers : (c : Call) (s t : List ℕ) (w : ℕ) (a : Answer) → ((j : ℕ) → getD s j 0 < 256) → w ≡ wordOf (ofStore a) → Called c s a t → Answers (Live c s) w (t ∷ [])
+pub live-answers : (c : Call) (s t : List ℕ) (w : ℕ) (a : Answer) → ((j : ℕ) → getD s j 0 < 256) → w ≡ wordOf (ofStore a) → Called c s a t
+    → Answers (Live c s) w (t ∷ beside c)
 live-answers c s t w a bytes e d =
-    answers (Live c s) w (t ∷ []) (ofStore (call c s .answer)) (refl, ap (λ (z : List ℕ). z ∷ []) (d .bytes)) (live-ten c s bytes)
+    answers (Live c s) w (t ∷ beside c) (ofStore (call c s .answer)) (refl, ap (λ (z : List ℕ). z ∷ beside c) (d .bytes)) (live-ten c s bytes)
     (small-store (call c s .answer) (call-small c s)) (e ∙ ap (λ (z : Answer). wordOf (ofStore z)) (d .answer))
+
+-- ---- append and set, with what they cost
+word-costs : (a : Answer) (d w : ℕ) → TakesAtMost (cellsFor d) a → Reads (ofStore a) w → Costs d w
+unfolding ofStore
+word-costs (changed t r) d w m e h = omega (arith, e .1)
+word-costs (answered n) d w m e h = absurd m
+word-costs (turned j) d w m e h = omega (arith, e .sign)
+
+pub change-answers : (c : Call) (s t : List ℕ) (w : ℕ) (a : Answer) (d : ℕ) → ((j : ℕ) → getD s j 0 < 256) → w ≡ wordOf (ofStore a)
+    → Called c s a t × TakesAtMost (cellsFor d) a → Answers (Live c s) w (t ∷ []) × Costs d w
+change-answers c s t w a d bytes e q =
+    let r : Answers (Live c s) w (t ∷ []) = live-answers c s t w a bytes e (q .0) in
+    (r, word-costs a d w (q .1) (subst (λ (z : End). Reads z w) (r .ends .0 ∙ ap ofStore (sym (q .0 .answer))) (r .reads)))
 
 pub fresh-answers : (b t : List ℕ) (P C w : ℕ) (a : Answer) → w ≡ wordOf (ofStore a) → Started b P C a t → Answers (Fresh b P C) w (t ∷ [])
 fresh-answers b t P C w a e d =

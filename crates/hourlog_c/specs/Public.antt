@@ -3,7 +3,7 @@ use mathlib.Core.List.{List, [], _∷_}
 use mathlib.Core.Logic.{_↔_}
 use mathlib.Core.Path.{_≡_}
 use Prim.Native.Nat.{ℕ}
-use Rattle.store.specs.Plain.{Call}
+use Rattle.store.specs.Plain.{Append, Call, Count, Day, Free, Reach as ReachOf, Reading, Set}
 use Rattle.answers.specs.Store.{Answer, answered, changed, refused as turned}
 use Rattle.store.specs.Call.{call, freshCall}
 use Rattle.store.specs.Items.{Items}
@@ -30,10 +30,20 @@ pub data PublicCall : Type 0 where
   ImageFromBcd : (book : List ℕ) (e : ℕ) (image : List ℕ) → PublicCall
   ImageToBcd : (image book : List ℕ) → PublicCall
 
+-- what a live call is lent beside the store: day its list of changed days
+abbrev pub beside : Call → List (List ℕ)
+beside (Append v) = []
+beside (Set i v) = []
+beside (Count i) = []
+beside (Reading i) = []
+beside (ReachOf p) = []
+beside (Day d changes) = changes ∷ []
+beside Free = []
+
 -- all that it is lent, to read or to change
 abbrev pub lent : PublicCall → List (List ℕ)
 lent (Fresh s P C) = s ∷ []
-lent (Live c s) = s ∷ []
+lent (Live c s) = s ∷ beside c
 lent (Freeze s e i) = s ∷ i ∷ []
 lent (ImageLength xs e) = xs ∷ []
 lent (ImageWrite xs e i) = xs ∷ i ∷ []
@@ -67,7 +77,7 @@ ofCheck (fails k) = refusal k
 -- The call may end in the answer a, and what it was lent is afterwards t. Reach alone may end in one of several answers
 abbrev pub Ends : PublicCall → End → List (List ℕ) → Type 0
 Ends (Fresh s P C) a t = (a ≡ ofStore (freshCall s P C .answer)) × (t ≡ freshCall s P C .bytes ∷ [])
-Ends (Live c s) a t = (a ≡ ofStore (call c s .answer)) × (t ≡ call c s .bytes ∷ [])
+Ends (Live c s) a t = (a ≡ ofStore (call c s .answer)) × (t ≡ call c s .bytes ∷ beside c)
 Ends (Freeze s e i) a t = (a ≡ ofImage (freezeCall e s i .reply)) × (t ≡ s ∷ freezeCall e s i .bytes ∷ [])
 Ends (ImageLength xs e) a t = (a ≡ ofImage (lengthCall e xs)) × (t ≡ xs ∷ [])
 Ends (ImageWrite xs e i) a t = (a ≡ ofImage (writeCall e xs i .reply)) × (t ≡ xs ∷ writeCall e xs i .bytes ∷ [])

@@ -2,8 +2,10 @@
 use crate::word::of_store;
 ghost use mathlib.Core.List.{[], _∷_};
 ghost use Rattle.store.specs.Plain.{Append, Set, Count, Reading, Reach, Day, Free};
+ghost use Rattle.store.specs.Reading.{listIn};
+ghost use Rattle.coin_cost.specs.Cost.{gain};
 ghost use Rattle.hourlog_c.specs.Public.{Fresh, Live};
-ghost use Rattle.hourlog_c.specs.Export.{Answers};
+ghost use Rattle.hourlog_c.specs.Export.{Answers, Costs};
 
 #[no_mangle]
 pub extern "C" fn hourlog_fresh(store: &mut [u8], pages: u32, cells: u32) -> u64
@@ -15,6 +17,7 @@ pub extern "C" fn hourlog_fresh(store: &mut [u8], pages: u32, cells: u32) -> u64
 #[no_mangle]
 pub extern "C" fn hourlog_append(store: &mut [u8], count: u32) -> u64
     ensures { λ r. ⌜ Answers (Live (Append count) (now (store .entry))) r (now (store .exit) ∷ []) ⌝ }
+    ensures { λ r. ⌜ Costs count r ⌝ }
 {
     of_store(live::append(store, count))
 }
@@ -22,6 +25,7 @@ pub extern "C" fn hourlog_append(store: &mut [u8], count: u32) -> u64
 #[no_mangle]
 pub extern "C" fn hourlog_set(store: &mut [u8], hour: u32, count: u32) -> u64
     ensures { λ r. ⌜ Answers (Live (Set hour count) (now (store .entry))) r (now (store .exit) ∷ []) ⌝ }
+    ensures { λ r. ⌜ Costs (gain (listIn (now (store .entry))) hour count) r ⌝ }
 {
     of_store(live::set(store, hour, count))
 }
@@ -48,10 +52,10 @@ pub extern "C" fn hourlog_reach(store: &[u8], figure: u32) -> u64
 }
 
 #[no_mangle]
-pub extern "C" fn hourlog_day(store: &[u8], day: u32) -> u64
-    ensures { λ r. ⌜ Answers (Live (Day day) (now (store .entry))) r (now (store .exit) ∷ []) ⌝ }
+pub extern "C" fn hourlog_day(store: &[u8], day: u32, changes: &[u32]) -> u64
+    ensures { λ r. ⌜ Answers (Live (Day day (now (changes .entry))) (now (store .entry))) r (now (store .exit) ∷ now (changes .exit) ∷ []) ⌝ }
 {
-    of_store(live::day(store, day))
+    of_store(live::day(store, day, changes))
 }
 
 #[no_mangle]

@@ -14,7 +14,7 @@ use Rattle.bits.specs.Numbers.{numberAt}
 use Rattle.bits.proofs.Packing.{Bits, bits-bytes, bits-drop, bits-take, value-lt}
 use Rattle.reserve.specs.Reserve.{digits, reserve}
 use Rattle.image.specs.Code.Head.{Opened}
-use Rattle.image.specs.Code.Page.{BeforeAt, PageAt, RootAt}
+use Rattle.image.specs.Code.Page.{BeforeAt, PageAt, Rooted, RootAt}
 use Rattle.image.specs.Image.{tableAt}
 use Rattle.image.specs.Query.{beforePassing, pageFine, pageTests, passing}
 use Rattle.image.specs.Read.{beforeOf, codeAt, eOf, lOf, rootOf, sOf, startOf, sumOf, treeAt, widthOf}
@@ -85,32 +85,36 @@ page-bad {s} {p} k e f = record {
 }
 
 -- past the tests of both roots: the page's own, t, and the one before, x
-pub record Roots (s : List ℕ) (h : Head) (p : ℕ) (t x : Root) : Type 0 where
-  pub opened : Opened s h
-  pub own-at : RootAt s p t
-  pub last-at : BeforeAt s p x
+pub record Roots (h : Head) (t x : Root) : Type 0 where
+  pub read : Rooted h t x
   pub own-ok : t .ok ≡ true
   pub last-ok : x .ok ≡ true
 
-module _ {s : List ℕ} {h : Head} {p : ℕ} {t x : Root} (g : Roots s h p t x) where
+module _ {h : Head} {t x : Root} (g : Roots h t x) where
+  abbrev s : List ℕ
+  s = g .read .s
+
+  abbrev p : ℕ
+  p = g .read .p
+
   abbrev o : Opened s h
-  o = g .opened
+  o = g .read .opened
 
   own : t .value ≡ rootOf s p
-  own = g .own-at .value-is (g .own-ok)
+  own = g .read .own-at .value-is (g .own-ok)
 
   own-end : t .end ≡ startOf s p + widthOf s
-  own-end = g .own-at .end-is (g .own-ok)
+  own-end = g .read .own-at .end-is (g .own-ok)
 
   last : x .value ≡ beforeOf s p
-  last = g .last-at .value-is (g .last-ok)
+  last = g .read .last-at .value-is (g .last-ok)
 
   sums : t .value - x .value ≡ sumOf s p
   unfolding sumOf
   sums = ap₂ _-_ own last
 
   pub own-within : t .end ≤ h .bits
-  own-within = omega (arith, g .own-at .end-le (g .own-ok), o .head .bits-is)
+  own-within = omega (arith, g .read .own-at .end-le (g .own-ok), o .head .bits-is)
 
   pub above-total : h .total < t .value → not (ltb (sOf s) (rootOf s p)) ≡ false
   above-total l = beyond (rootOf s p) (sOf s) (omega (arith, own, o .head .total-is))
@@ -139,9 +143,9 @@ module _ {s : List ℕ} {h : Head} {p : ℕ} {t x : Root} (g : Roots s h p t x) 
       record {
         ok-is =
             sym (every-of (pageTests s p) (
-              sym (g .own-at .ok-is) ∙ g .own-ok,
+              sym (g .read .own-at .ok-is) ∙ g .own-ok,
               (
-                sym (g .last-at .ok-is) ∙ g .last-ok,
+                sym (g .read .last-at .ok-is) ∙ g .last-ok,
                 (
                   within (rootOf s p) (sOf s) (omega (arith, own, q .total-is)),
                   (

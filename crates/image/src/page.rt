@@ -7,7 +7,7 @@ ghost use mathlib.Core.Path.{_≡_};
 ghost use Prim.Native.Nat.{_+_, _<_};
 ghost use Rattle.image.specs.Read.{pagesOf};
 ghost use Rattle.image.specs.Code.Head.{Opened};
-ghost use Rattle.image.specs.Code.Page.{BeforeAt, PageAt, RootAt};
+ghost use Rattle.image.specs.Code.Page.{BeforeAt, PageAt, Rooted, RootAt};
 
 // A root that was read: its number, and where it ends in the code. Where it passes L, ok is false and the rest says nothing.
 pub struct Root {
@@ -31,7 +31,7 @@ pub fn root_of(s: &[u8], h: Head, p: u64) -> Root
             end: 0,
         };
     }
-    let value = bits::get_field(s, h.code + (start as usize), w);
+    let value = bits_field::get_field(s, h.code + (start as usize), w);
     Root {
         ok: true,
         value,
@@ -74,16 +74,15 @@ fn damaged() -> Page
     }
 }
 
-// Page p, tested.
-pub fn page_of(s: &[u8], h: Head, p: u64) -> Page
-    requires { ⌜ Opened (now s) h × (p < pagesOf (now s)) ⌝ }
-    ensures { λ r. ⌜ PageAt (now (s .entry)) p r ⌝ }
+// The page between two roots, its own and the one before it, tested. It reads nothing: its callers read both roots themselves, so that the
+// compiler keeps header, roots and page in registers. A function that reads two roots is too large for it to be joined with its callers.
+pub fn page_between(h: Head, own: Root, last: Root) -> Page
+    requires { ⌜ Rooted h own last ⌝ }
+    ensures { λ r. ⌜ ((a : Rooted h own last) → PageAt (a .s) (a .p) r) ⌝ }
 {
-    let own = root_of(s, h, p);
     if !own.ok {
         return damaged();
     }
-    let last = root_before(s, h, p);
     if !last.ok {
         return damaged();
     }

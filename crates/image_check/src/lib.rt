@@ -4,11 +4,9 @@ use answers::refusal;
 use image::head::Head;
 use image::head::Opening;
 use image::head::open_image;
-use image::page::root_of;
 use image_query::look;
-use tree_check::nodes;
-use tree_check::zero_bits;
-ghost use mathlib.Core.Bool.{false};
+use image_test::page_test;
+use tree_lowest::zero_bits;
 ghost use mathlib.Core.Path.{_≡_};
 ghost use Prim.Native.Nat.{_+_, _-_, _*_, _≤_, _<_};
 ghost use Rattle.bits.specs.Bits.{bits};
@@ -20,55 +18,7 @@ ghost use Rattle.image.specs.Query.{readingAt};
 ghost use Rattle.image.specs.Check.{check as checkOf};
 ghost use Rattle.answers.specs.Image.{ruled};
 ghost use Rattle.image.specs.Code.Head.{Opened};
-ghost use Rattle.image_check.specs.Code.Test.{Tests, pagesFrom, says};
-
-// A page that was tested: where its code ends, and its root. Where it fails, ok is false and the rest says nothing.
-pub struct Tested {
-    pub ok: bool,
-    pub end: u64,
-    pub root: u64,
-}
-
-fn failed() -> Tested
-    ensures { λ r. ⌜ r .ok ≡ false ⌝ }
-{
-    Tested {
-        ok: false,
-        end: 0,
-        root: 0,
-    }
-}
-
-// Tests page p, which is to start at bit start of the code, the root before it being before.
-fn page_test(s: &[u8], table: &[u8; 512], h: Head, p: u64, start: u64, before: u64) -> Tested
-    requires { ⌜ Opened (now s) h × (p < pagesOf (now s)) × (start ≤ h .bits) × Tabled (now table) ⌝ }
-    ensures { λ r. ⌜ Tests (now (s .entry)) p start before r ⌝ }
-{
-    let own = root_of(s, h, p);
-    if !own.ok {
-        return failed();
-    }
-    if own.end != start + (reserve::digits_of(h.total) as u64) {
-        return failed();
-    }
-    if own.value < before {
-        return failed();
-    }
-    let sum = own.value - before;
-    let size = reserve::reserve_of(h.e, sum);
-    let end = own.end + (size as u64);
-    if h.bits < end {
-        return failed();
-    }
-    if !nodes(s, table, h.code + (own.end as usize), h.e, sum, size) {
-        return failed();
-    }
-    Tested {
-        ok: true,
-        end,
-        root: own.value,
-    }
-}
+ghost use Rattle.image_test.specs.Code.Test.{pagesFrom, says};
 
 // Whether each page passes, all L bits are used, and the last root is S.
 fn pages_pass(s: &[u8], table: &[u8; 512], h: Head) -> bool

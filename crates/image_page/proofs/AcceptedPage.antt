@@ -17,7 +17,7 @@ use Rattle.tree.proofs.Exacts.{tree-exact}
 use Rattle.tree.proofs.Shape.{counts-tree}
 use Rattle.image.specs.Check.{accepted}
 use Rattle.image.specs.Code.Head.{HeadOf}
-use Rattle.image.specs.Image.{Limits, bytesFor, code, image, page, pages, size, start}
+use Rattle.image.specs.Image.{Limits, bytesFor, code, codeStart, image, page, pages, size, start, tableAt}
 use Rattle.image.specs.Read.{beforeOf, codeAt, eOf, listOf, nOf, pagesOf, rootOf, sOf, startOf, sumOf, treeAt, widthOf}
 use Rattle.image.specs.declared.head.Head.{Head}
 use Rattle.image.proofs.Accepted.{accepted-only, length-list}
@@ -28,7 +28,7 @@ use Rattle.image.proofs.PageLaws.{code-most, length-page, page-le, page-sum, pa
 pub record Page (s : List ℕ) (p : ℕ) : Type 0 where
   pub few : p < 16384
   pub e-high : eOf s ≤ 8
-  pub entry-in : 16 + 4 * p + 4 ≤ length s
+  pub entry-in : tableAt p + 4 ≤ length s
   pub narrow : widthOf s ≤ 32
   pub rises : beforeOf s p ≤ rootOf s p
   pub sum-small : sumOf s p ≤ 4294967295
@@ -71,7 +71,7 @@ module _ (s : List ℕ) (a : accepted s ≡ true) where
         let roots = ap (λ (z : List ℕ). rootOf z p) same ∙ root-is e xs limits p inside in
         let befores = ap (λ (z : List ℕ). beforeOf z p) same ∙ before-is e xs limits p inside in
         let width : widthOf s ≡ digits (sum xs) = ap widthOf same ∙ width-is e xs limits in
-        let at : codeAt s ≡ 8 * (16 + 4 * pages e (length xs)) = ap codeAt same ∙ code-is e xs limits in
+        let at : codeAt s ≡ codeStart (pages e (length xs)) = ap codeAt same ∙ code-is e xs limits in
         let own : reserve e (sumOf s p) ≡ reserve e (sum (page e xs p)) = ap (reserve e) sums in
         let long : length s ≡ size e (length xs) (length (code e xs)) = ap length same ∙ length-image e xs in
         let many = pages-few e (length xs) (limits .e-low) (limits .hours) in
@@ -91,11 +91,7 @@ module _ (s : List ℕ) (a : accepted s ≡ true) where
               ∙ counts-tree e (page e xs p) (bits s) (treeAt s p) (length-page e xs p) tree-there;
         }
 
--- the header's numbers, as the code works them out
-pub head-code : {s : List ℕ} {h : Head} {k : ℕ} → HeadOf s h → k ≡ pages (h .e) (h .hours) → 8 * (16 + 4 * k) ≡ codeAt s
-unfolding codeAt pagesOf
-head-code d q = ap (λ (z : ℕ). 8 * (16 + 4 * z)) (q ∙ ap₂ pages (d .e-is) (d .hours-is))
-
+-- a root's width, as the code works it out
 pub head-width : {s : List ℕ} {h : Head} {w : ℕ} → HeadOf s h → w ≡ digits (h .total) → w ≡ widthOf s
 unfolding widthOf
 head-width d q = q ∙ ap digits (d .total-is)
@@ -111,30 +107,29 @@ unfolding beforeOf
 before-next s zero l = absurd (omega arith)
 before-next s (suc p) l = ap (rootOf s) {x = suc p - 1} {y = p} (omega arith)
 
--- what was read of it and of the header: its root r, the root x before it, where the code starts, its start bit b, and a root's width w
-pub record Numbers (s : List ℕ) (h : Head) (p r x c b w : ℕ) : Type 0 where
+-- what was read of it and of the header: its root r, the root x before it, its start bit b, and a root's width w
+pub record Numbers (s : List ℕ) (h : Head) (p r x b w : ℕ) : Type 0 where
   pub page : Page s p
   pub head : HeadOf s h
   pub root-is : r ≡ rootOf s p
   pub before-is : x ≡ beforeOf s p
-  pub code-is : c ≡ codeAt s
   pub start-is : b ≡ startOf s p
   pub width-is : w ≡ widthOf s
 
 -- its tree: what decoding asks, and what it gives
-module _ {s : List ℕ} {h : Head} {p r x c b w : ℕ} (n : Numbers s h p r x c b w) where
+module _ {s : List ℕ} {h : Head} {p r x b w : ℕ} (n : Numbers s h p r x b w) where
   sum-same : r - x ≡ sumOf s p
   unfolding sumOf
   sum-same = ap₂ _-_ (n .root-is) (n .before-is)
 
-  tree-same : c + b + w ≡ treeAt s p
+  tree-same : h .code + b + w ≡ treeAt s p
   unfolding treeAt
-  tree-same = omega (arith, n .code-is, n .start-is, n .width-is)
+  tree-same = omega (arith, n .head .code-is, n .start-is, n .width-is)
 
-  pub tree-small : c + b + w ≤ 4295491711
-  tree-small = omega (arith, n .page .code-low, n .page .end-low, n .code-is, n .start-is, n .width-is)
+  pub tree-small : h .code + b + w ≤ 4295491711
+  tree-small = omega (arith, n .page .code-low, n .page .end-low, n .head .code-is, n .start-is, n .width-is)
 
-  pub tree-lies : Lies s (c + b + w) (h .e) (r - x)
+  pub tree-lies : Lies s (h .code + b + w) (h .e) (r - x)
   tree-lies =
       let g = n .page in
       let own : reserve (h .e) (r - x) ≡ reserve (eOf s) (sumOf s p) = ap₂ reserve (n .head .e-is) sum-same in
@@ -142,12 +137,12 @@ module _ {s : List ℕ} {h : Head} {p r x c b w : ℕ} (n : Numbers s h p r x c 
         height = omega (arith, g .e-high, n .head .e-is);
         total = omega (arith, sum-same, g .sum-small);
         long = omega (arith, g .entry-in);
-        inside = omega (arith, g .end-in, n .code-is, n .start-is, n .width-is);
-        small = omega (arith, g .end-low, g .code-low, n .code-is, n .start-is, n .width-is);
+        inside = omega (arith, g .end-in, n .head .code-is, n .start-is, n .width-is);
+        small = omega (arith, g .end-low, g .code-low, n .head .code-is, n .start-is, n .width-is);
       }
 
-  pub tree-coded : exact (h .e) (r - x) (bits s) (c + b + w) ≡ true
-  tree-coded = ap₂ (λ (y z : ℕ). exact y z (bits s) (c + b + w)) (n .head .e-is) sum-same ∙ ap (exact (eOf s) (sumOf s p) (bits s)) tree-same ∙ n .page .coded
+  pub tree-coded : exact (h .e) (r - x) (bits s) (h .code + b + w) ≡ true
+  tree-coded = ap₂ (λ (y z : ℕ). exact y z (bits s) (h .code + b + w)) (n .head .e-is) sum-same ∙ ap (exact (eOf s) (sumOf s p) (bits s)) tree-same ∙ n .page .coded
 
   pub sum-fits : r - x < 4294967296
   sum-fits = omega (arith, sum-same, n .page .sum-small)
@@ -155,7 +150,7 @@ module _ {s : List ℕ} {h : Head} {p r x c b w : ℕ} (n : Numbers s h p r x c 
   pub room : (k : ℕ) → 256 ≤ k → 0 + 2 ^ h .e ≤ k
   room k l = omega (arith, pow-mono {i = h .e} {j = 8} (omega (arith, n .page .e-high, n .head .e-is)))
 
-  pub decoded : (o o₁ : List ℕ) → o₁ ≡ splice o 0 (counts (h .e) (r - x) (bits s) (c + b + w)) → o₁ ≡ splice o 0 (page (eOf s) (listOf s) p)
+  pub decoded : (o o₁ : List ℕ) → o₁ ≡ splice o 0 (counts (h .e) (r - x) (bits s) (h .code + b + w)) → o₁ ≡ splice o 0 (page (eOf s) (listOf s) p)
   decoded o o₁ q =
-      q ∙ ap (splice o 0) (ap₂ (λ (y z : ℕ). counts y z (bits s) (c + b + w)) (n .head .e-is) sum-same
+      q ∙ ap (splice o 0) (ap₂ (λ (y z : ℕ). counts y z (bits s) (h .code + b + w)) (n .head .e-is) sum-same
       ∙ ap (counts (eOf s) (sumOf s p) (bits s)) tree-same ∙ n .page .counts-are)

@@ -2,7 +2,7 @@
 // and then goes page by page over one lent array.
 use bits::numbers::get4;
 use image::head::Head;
-use image::head::pages_of;
+use image::head::table_at;
 use tree_decode::decode;
 ghost use mathlib.Core.Bool.{true};
 ghost use mathlib.Core.Path.{_≡_};
@@ -12,33 +12,33 @@ ghost use Rattle.lists.specs.Lists.{splice};
 ghost use Rattle.image.specs.Check.{accepted};
 ghost use Rattle.image.specs.Code.Head.{HeadOf};
 ghost use Rattle.image.specs.Image.{page};
-ghost use Rattle.image.specs.Read.{beforeOf, codeAt, eOf, listOf, pagesOf, rootOf, startOf, widthOf};
+ghost use Rattle.image.specs.Read.{beforeOf, eOf, listOf, pagesOf, rootOf, startOf, widthOf};
 
 // Where page p starts in the code, from the table.
-fn start_of(s: &[u8], p: usize) -> usize
-    requires { ⌜ (accepted (now s) ≡ true) × (p < pagesOf (now s)) ⌝ }
+fn start_of(s: &[u8], h: Head, p: usize) -> usize
+    requires { ⌜ (accepted (now s) ≡ true) × HeadOf (now s) h × (p < pagesOf (now s)) ⌝ }
     ensures { λ r. ⌜ r ≡ startOf (now (s .entry)) p ⌝ }
 {
-    get4(s, 16 + 4 * p) as usize
+    get4(s, table_at(h.table, p as u64)) as usize
 }
 
-// Page p's root, of w bits; the code starts at bit code of all the bytes.
-fn root_of(s: &[u8], code: usize, w: u32, p: usize) -> u64
-    requires { ⌜ (accepted (now s) ≡ true) × (p < pagesOf (now s)) × (code ≡ codeAt (now s)) × (w ≡ widthOf (now s)) ⌝ }
+// Page p's root, of w bits.
+fn root_of(s: &[u8], h: Head, w: u32, p: usize) -> u64
+    requires { ⌜ (accepted (now s) ≡ true) × HeadOf (now s) h × (p < pagesOf (now s)) × (w ≡ widthOf (now s)) ⌝ }
     ensures { λ r. ⌜ r ≡ rootOf (now (s .entry)) p ⌝ }
 {
-    bits::get_field(s, code + start_of(s, p), w)
+    bits_field::get_field(s, h.code + start_of(s, h, p), w)
 }
 
 // The root of the page before page p: 0 before page 0.
-fn root_before(s: &[u8], code: usize, w: u32, p: usize) -> u64
-    requires { ⌜ (accepted (now s) ≡ true) × (p < pagesOf (now s)) × (code ≡ codeAt (now s)) × (w ≡ widthOf (now s)) ⌝ }
+fn root_before(s: &[u8], h: Head, w: u32, p: usize) -> u64
+    requires { ⌜ (accepted (now s) ≡ true) × HeadOf (now s) h × (p < pagesOf (now s)) × (w ≡ widthOf (now s)) ⌝ }
     ensures { λ r. ⌜ r ≡ beforeOf (now (s .entry)) p ⌝ }
 {
     if p == 0 {
         return 0;
     }
-    root_of(s, code, w, p - 1)
+    root_of(s, h, w, p - 1)
 }
 
 // Puts the 2^e counts of page p of the image s, whose header is h, at the front of counts, zeros from hour N on among them. What stands
@@ -47,10 +47,9 @@ pub fn page_counts(s: &[u8], h: Head, p: usize, counts: &mut [u32])
     requires { ⌜ (accepted (now s) ≡ true) × HeadOf (now s) h × (p < pagesOf (now s)) × (256 ≤ length (now counts)) ⌝ }
     ensures { λ _. ⌜ now (counts .exit) ≡ splice (now (counts .entry)) 0 (page (eOf (now (s .entry))) (listOf (now (s .entry))) p) ⌝ }
 {
-    let code = 8 * (16 + 4 * (pages_of(h.e, h.hours) as usize));
     let w = reserve::digits_of(h.total);
-    let root = root_of(s, code, w, p);
-    let before = root_before(s, code, w, p);
-    let tree = code + start_of(s, p) + (w as usize);
+    let root = root_of(s, h, w, p);
+    let before = root_before(s, h, w, p);
+    let tree = h.code + start_of(s, h, p) + (w as usize);
     decode(s, tree, h.e, root - before, counts, 0);
 }

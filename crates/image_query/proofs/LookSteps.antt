@@ -1,5 +1,5 @@
 -- The way to an hour, step by step, over plain numbers. Assumes nothing.
-use mathlib.Core.Path.{_≡_, refl, sym, ap, _∙_}
+use mathlib.Core.Path.{_≡_, refl, sym, subst, ap, _∙_}
 use mathlib.Core.Bool.{true, false}
 use mathlib.Core.List.{List}
 use Prim.Native.Nat.{ℕ, zero, suc, _+_, _-_, _*_, _/_, _%_, _^_, _≤_, _<_}
@@ -11,7 +11,7 @@ use Rattle.tree_walk.specs.Code.Answers.{walkAnswer as walked}
 use Rattle.tree.specs.Read.{Found, damaged, found, later, walk}
 use Rattle.image.specs.Check.{headed}
 use Rattle.image.specs.Code.Head.{Opened}
-use Rattle.image.specs.Code.Page.{PageAt}
+use Rattle.image.specs.Code.Page.{BeforeAt, PageAt, Rooted, RootAt}
 use Rattle.image_query.specs.Code.Walk.{answered}
 use Rattle.image.specs.Query.{count, look, lookIn, reading, readingAt, theCount, theReading}
 use Rattle.image.specs.Read.{eOf, nOf, pagesOf, sOf}
@@ -20,6 +20,7 @@ use Rattle.image.proofs.QueryLaws.{Most, look-most}
 use Rattle.image.proofs.PageLaws.{hour-page}
 use Rattle.image.specs.declared.head.Head.{Head}
 use Rattle.image.specs.declared.page.Page.{Page}
+use Rattle.image.specs.declared.page.Root.{Root}
 
 -- ---- the way
 told-later : (k x y : ℕ) (f : Found) → y ≡ k * x → walked y k f ≡ walked 0 k (later x f)
@@ -27,24 +28,30 @@ unfolding walked later
 told-later k x y damaged e = refl
 told-later k x y (found z c) e = omega (arith, e)
 
-module _ (s : List ℕ) (h : Head) (o : Opened s h) (i m k : ℕ) (em : m ≡ 2 ^ (h .e)) where
-  place : (i / m ≡ i / 2 ^ eOf s) × (i % m ≡ i % 2 ^ eOf s)
-  place = rw (em, o .head .e-is) (refl, refl)
+module _ (s : List ℕ) (h : Head) (o : Opened s h) (i k : ℕ) where
+  same : 2 ^ (h .e) ≡ 2 ^ eOf s
+  same = ap (λ (e : ℕ). 2 ^ e) (o .head .e-is)
 
-  pub look-page : i < h .hours → i / m < pagesOf s
+  pub look-page : {p : ℕ} → p ≡ i / 2 ^ (h .e) → i < h .hours → p < pagesOf s
   unfolding pagesOf
-  look-page l = rw (place .0) (hour-page (eOf s) (nOf s) i (omega (arith, o .head .hours-is)))
+  look-page e l = rw (e, same) (hour-page (eOf s) (nOf s) i (omega (arith, o .head .hours-is)))
 
-  pub look-bad : (r : Page) → PageAt s (i / m) r → r .ok ≡ false → 2 ^ 63 ≡ walked 0 k (look s i)
+  -- the page between the roots of the hour's page is the hour's
+  pub look-between : {p : ℕ} {t x : Root} {r : Page} → p ≡ i / 2 ^ (h .e) → RootAt s p t → BeforeAt s p x
+      → ((a : Rooted h t x) → PageAt (a .s) (a .p) r) → PageAt s (i / 2 ^ (h .e)) r
+  look-between {p} {t} {x} {r} e own last f =
+      subst (λ (q : ℕ). PageAt s q r) e (f (record { s = s; p = p; opened = o; own-at = own; last-at = last }))
+
+  pub look-bad : (r : Page) → PageAt s (i / 2 ^ (h .e)) r → r .ok ≡ false → 2 ^ 63 ≡ walked 0 k (look s i)
   unfolding look lookIn pick walked
-  look-bad r p e = sym (rw (← place .0, sym (p .ok-is) ∙ e))
+  look-bad r p e = sym (rw (← same, sym (p .ok-is) ∙ e))
 
-  pub look-good : (r : Page) (y : ℕ) → PageAt s (i / m) r → r .ok ≡ true → y ≡ k * r .before
+  pub look-good : (r : Page) (m y : ℕ) → PageAt s (i / 2 ^ (h .e)) r → r .ok ≡ true → m ≡ 2 ^ (h .e) → y ≡ k * r .before
       → walked y k (walk (h .e) (r .sum) (bits s) (r .at) (i % m)) ≡ walked 0 k (look s i)
   unfolding look lookIn pick
-  look-good r y p e ey =
+  look-good r m y p e em ey =
       told-later k (r .before) y (walk (h .e) (r .sum) (bits s) (r .at) (i % m)) ey
-      ∙ ap (walked 0 k) (rw (o .head .e-is, p .before-is e, p .sum-is e, p .at-is e, ← place .0, ← place .1, sym (p .ok-is) ∙ e))
+      ∙ ap (walked 0 k) (rw (em, p .before-is e, p .sum-is e, p .at-is e, o .head .e-is, ← same, sym (p .ok-is) ∙ e))
 
 -- ---- the answers
 pub count-five : (s : List ℕ) (i : ℕ) → headed s ≡ false → refused 5 ≡ count s i

@@ -4,28 +4,49 @@ use answers::refusal;
 use image::head::Head;
 use image::head::Opening;
 use image::head::open_image;
-use image::page::page_of;
+use image::page::Page;
+use image::page::page_between;
+use image::page::root_before;
+use image::page::root_of;
 use tree_walk::DAMAGED;
 use tree_walk::walk;
 ghost use mathlib.Core.Path.{_≡_};
-ghost use Prim.Native.Nat.{_≤_, _<_};
+ghost use Prim.Native.Nat.{_/_, _^_, _≤_, _<_};
 ghost use Rattle.tree_walk.specs.Code.Answers.{walkAnswer as walked};
 ghost use Rattle.image.specs.Query.{look as looked, count as counted, reading as read};
 ghost use Rattle.image.specs.Code.Head.{Opened};
+ghost use Rattle.image.specs.Code.Page.{PageAt};
 ghost use Rattle.image_query.specs.Code.Walk.{answered};
 ghost use Rattle.answers.specs.Image.{told};
 
-// The way to hour i. Answers the hour's count, and with keep = 1 the counts before it too; 2^63 for damage.
+// The page with hour i.
+fn page_with(h: Head, i: u64) -> u64
+    requires { ⌜ h .e ≤ 8 ⌝ }
+    ensures { λ r. ⌜ r ≡ i / 2 ^ (h .e) ⌝ }
+{
+    i / reserve::power(h.e)
+}
+
+// The way to hour i in its page. Answers the hour's count, and with keep = 1 the counts before it too; 2^63 for damage.
+fn look_in(s: &[u8], h: Head, page: Page, i: u64, keep: u64) -> u64
+    requires { ⌜ Opened (now s) h × PageAt (now s) (i / 2 ^ (h .e)) page × (keep ≤ 1) ⌝ }
+    ensures { λ r. ⌜ r ≡ walked 0 keep (looked (now (s .entry)) i) ⌝ }
+{
+    if !page.ok {
+        return DAMAGED;
+    }
+    let m = reserve::power(h.e);
+    walk(s, page.at, h.e, page.sum, i % m, keep * page.before, keep)
+}
+
+// The same where the page is not read yet. Count and reading read it themselves: this function is too large to be joined with each.
 pub fn look(s: &[u8], h: Head, i: u64, keep: u64) -> u64
     requires { ⌜ Opened (now s) h × (i < h .hours) × (keep ≤ 1) ⌝ }
     ensures { λ r. ⌜ r ≡ walked 0 keep (looked (now (s .entry)) i) ⌝ }
 {
-    let m = reserve::power(h.e);
-    let r = page_of(s, h, i / m);
-    if !r.ok {
-        return DAMAGED;
-    }
-    walk(s, r.at, h.e, r.sum, i % m, keep * r.before, keep)
+    let p = page_with(h, i);
+    let page = page_between(h, root_of(s, h, p), root_before(s, h, p));
+    look_in(s, h, page, i, keep)
 }
 
 // The answer that the way found.
@@ -48,7 +69,9 @@ pub fn count(s: &[u8], i: u64) -> Answer
     if h.hours <= i {
         return Answer::Refused(refusal::HOUR);
     }
-    answer_of(look(s, h, i, 0))
+    let p = page_with(h, i);
+    let page = page_between(h, root_of(s, h, p), root_before(s, h, p));
+    answer_of(look_in(s, h, page, i, 0))
 }
 
 // The reading at i: the sum of the counts of the hours before i.
@@ -64,5 +87,8 @@ pub fn reading(s: &[u8], i: u64) -> Answer
     if i == 0 {
         return Answer::Number(0);
     }
-    answer_of(look(s, h, i - 1, 1))
+    let hour = i - 1;
+    let p = page_with(h, hour);
+    let page = page_between(h, root_of(s, h, p), root_before(s, h, p));
+    answer_of(look_in(s, h, page, hour, 1))
 }

@@ -16,7 +16,7 @@ use Rattle.reserve.specs.Reserve.{digits, reserve}
 use Rattle.reserve.proofs.Exact.{digits-is}
 use Rattle.tree.specs.Tree.{tree}
 use Rattle.tree.proofs.Shape.{length-tree}
-use Rattle.image.specs.Image.{Limits, bytesFor, code, image, page, pageCode, pages, root, size, start}
+use Rattle.image.specs.Image.{Limits, bytesFor, code, image, maxTotal, page, pageCode, pages, root, size, start, tableAt}
 use Rattle.image_steps.specs.Code.Planning.{codeStart}
 use Rattle.image_steps.specs.Code.Writing.{PlaceOf}
 use Rattle.image.proofs.ReadLaws.{length-image}
@@ -39,10 +39,10 @@ pub record Step (e : ℕ) (xs cs : List ℕ) (f i n m w s a x : ℕ) : Type 0 wh
   pub inside : i < 16384
   pub pages-most : pages e (length xs) ≤ 16384
   pub width-low : w ≤ 32
-  pub root-most : x + s ≤ 4294967295
+  pub root-most : x + s ≤ maxTotal
   pub root-fits : x + s < 2 ^ w
-  pub end-most : a + w + reserve e s ≤ 4294967295
-  pub entry-in : 16 + 4 * i + 4 ≤ n
+  pub end-most : a + w + reserve e s ≤ maxTotal
+  pub entry-in : tableAt i + 4 ≤ n
   pub end-in : codeStart e xs + (a + w + reserve e s) ≤ 8 * n
 
 pub step : (e : ℕ) (xs cs : List ℕ) (f i n m t w s a x : ℕ) → Limits e xs → length (image e xs) ≤ n → i < pages e (length xs) → m ≡ 2 ^ e
@@ -76,16 +76,16 @@ step e xs cs f i n m t w s a x g room l em et ew ec es ea ex =
 
 -- its start bit, its root and its tree
 pub page-put : {e : ℕ} {xs cs : List ℕ} {f i n m w s a x : ℕ} → Step e xs cs f i n m w s a x → (k : ℕ) (o o₁ o₂ o₃ : List ℕ) → k ≡ codeStart e xs
-    → length o ≡ n → o₁ ≡ splice o (16 + 4 * i) (little 4 a) → bits o₂ ≡ splice (bits o₁) (k + a) (field w (x + s))
+    → length o ≡ n → o₁ ≡ splice o (tableAt i) (little 4 a) → bits o₂ ≡ splice (bits o₁) (k + a) (field w (x + s))
     → bits o₃ ≡ splice (bits o₂) (k + (a + w)) (tree e (window cs f (2 ^ e)))
-    → bits o₃ ≡ splice (splice (bits o) (8 * (16 + 4 * i)) (bits (little 4 (start e xs i)))) (codeStart e xs + start e xs i) (pageCode e xs i)
+    → bits o₃ ≡ splice (splice (bits o) (8 * tableAt i) (bits (little 4 (start e xs i)))) (codeStart e xs + start e xs i) (pageCode e xs i)
 unfolding pageCode
 page-put {e} {xs} {cs} {f} {i} {n} {m} {w} {s} {a} {x} p k o o₁ o₂ o₃ ek lo e₁ e₂ e₃ =
     let F : List ℕ = field w (x + s) in
     let T : List ℕ = tree e (window cs f (2 ^ e)) in
     let lF : length F ≡ w = length-field w (x + s) in
     let lT : length T ≡ reserve e s = length-tree e (window cs f (2 ^ e)) ∙ ap (reserve e) (sym (p .sum-is)) in
-    let l₁ : length o₁ ≡ length o = ap length e₁ ∙ length-splice o (16 + 4 * i) (little 4 a) (omega (arith, p .entry-in, length-little 4 a)) in
+    let l₁ : length o₁ ≡ length o = ap length e₁ ∙ length-splice o (tableAt i) (little 4 a) (omega (arith, p .entry-in, length-little 4 a)) in
     let b : bits o₃ ≡ splice (bits o₁) (k + a) (F ++ T) =
     splice-then (bits o₁) (bits o₂) (bits o₃) F T (k + a) (k + (a + w)) e₂ e₃ (omega arith)
     (omega (arith, p .end-in, length-bits o₁)) in
@@ -93,7 +93,7 @@ page-put {e} {xs} {cs} {f} {i} {n} {m} {w} {s} {a} {x} p k o o₁ o₂ o₃ ek l
     let c : k + a ≡ codeStart e xs + start e xs i = omega (arith, p .start-is) in
     b ∙ ap₂ (splice (bits o₁)) c y
     ∙ ap (λ (z : List ℕ). splice z (codeStart e xs + start e xs i) (pageCode e xs i))
-    (ap bits e₁ ∙ bits-splice o (16 + 4 * i) (little 4 a) ∙ ap (λ (z : ℕ). splice (bits o) (8 * (16 + 4 * i)) (bits (little 4 z))) (p .start-is))
+    (ap bits e₁ ∙ bits-splice o (tableAt i) (little 4 a) ∙ ap (λ (z : ℕ). splice (bits o) (8 * tableAt i) (bits (little 4 z))) (p .start-is))
 
 -- the next page's place
 pub next-place : {e : ℕ} {xs cs : List ℕ} {f i n m w s a x : ℕ} → Step e xs cs f i n m w s a x → (v : ℕ) → v ≡ reserve e s

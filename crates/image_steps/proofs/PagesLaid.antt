@@ -11,7 +11,7 @@ use Rattle.lists.proofs.Parts.{length-splice}
 use Rattle.bits.specs.Bits.{bits}
 use Rattle.bits.specs.Numbers.{little}
 use Rattle.bits.proofs.Laws.{length-bits}
-use Rattle.image.specs.Image.{bytesFor, code, header, image, pageCode, pages, size, start}
+use Rattle.image.specs.Image.{bytesFor, code, header, image, maxTotal, pageCode, pages, size, start, tableAt}
 use Rattle.image.proofs.ReadLaws.{length-image}
 use Rattle.image.proofs.PageLaws.{code-most, pages-few}
 use Rattle.image_steps.specs.Code.Planning.{codeStart}
@@ -38,7 +38,7 @@ code-in {xs} {r} {first} b g l = omega (arith, g .enough, length-image (r .e) xs
 pub record Ends (r : Layout) (n : ℕ) : Type 0 where
   pub e-most : r .e ≤ 8
   pub code-most : r .code ≤ 524416
-  pub bits-most : r .bits ≤ 4294967295
+  pub bits-most : r .bits ≤ maxTotal
   pub enough : r .code + 8 * ((r .bits + 7) / 8) ≤ 8 * n
   pub long : 16 ≤ n
 
@@ -71,7 +71,7 @@ length-headed first r g = length-splice first 0 (header (r .e) (r .hours) (r .to
 -- one page more
 pub one-more : {xs first out : List ℕ} {r : Layout} {at : Place} (out₁ : List ℕ) (next : Place) → Laid xs first out r at → at .page < r .pages
     → length out₁ ≡ length out → next .page ≡ at .page + 1 → PlaceOf (r .e) xs next
-    → bits out₁ ≡ splice (splice (bits out) (8 * (16 + 4 * at .page)) (bits (little 4 (start (r .e) xs (at .page)))))
+    → bits out₁ ≡ splice (splice (bits out) (8 * tableAt (at .page)) (bits (little 4 (start (r .e) xs (at .page)))))
     (codeStart (r .e) xs + start (r .e) xs (at .page)) (pageCode (r .e) xs (at .page))
     → Laid xs first out₁ r next
 one-more {xs} {first} {out} {r} {at} out₁ next a l k n p q =

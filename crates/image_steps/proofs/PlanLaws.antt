@@ -12,7 +12,7 @@ use Rattle.lists.specs.Lists.{concat, pick, sum, tabulate}
 use Rattle.reserve.specs.Reserve.{digits, reserve}
 use Rattle.reserve.proofs.Exact.{digits-le}
 use Rattle.image.specs.Calls.{lengthCall}
-use Rattle.image.specs.Image.{code, image, page, pages, root, size, start}
+use Rattle.image.specs.Image.{code, image, maxHours, maxTotal, page, pages, root, size, start, tableAt}
 use Rattle.answers.specs.Image.{refused}
 use Rattle.image.proofs.ReadLaws.{length-image}
 use Rattle.image.proofs.PageLaws.{code-most, page-sum, pages-cover, pages-few, reserve-most, start-next}
@@ -33,14 +33,14 @@ pub e-above : (e : ℕ) (xs : List ℕ) → 8 < e → lengthCall e xs ≡ refuse
 unfolding lengthCall pick
 e-above e xs l = rw (le-leb 2 e (omega arith), lt-leb e 8 l)
 
-pub list-long : (e : ℕ) (xs : List ℕ) → 2 ≤ e → e ≤ 8 → 65536 < length xs → lengthCall e xs ≡ refused 2
+pub list-long : (e : ℕ) (xs : List ℕ) → 2 ≤ e → e ≤ 8 → maxHours < length xs → lengthCall e xs ≡ refused 2
 unfolding lengthCall pick
-list-long e xs a b l = rw (le-leb 2 e a, le-leb e 8 b, lt-leb (length xs) 65536 l)
+list-long e xs a b l = rw (le-leb 2 e a, le-leb e 8 b, lt-leb (length xs) maxHours l)
 
-pub total-above : (e : ℕ) (xs : List ℕ) (t : ℕ) → 2 ≤ e → e ≤ 8 → length xs ≤ 65536 → t ≡ sum xs → 4294967295 < t
+pub total-above : (e : ℕ) (xs : List ℕ) (t : ℕ) → 2 ≤ e → e ≤ 8 → length xs ≤ maxHours → t ≡ sum xs → maxTotal < t
     → lengthCall e xs ≡ refused 3
 unfolding lengthCall pick
-total-above e xs t a b l q h = rw (le-leb 2 e a, le-leb e 8 b, le-leb (length xs) 65536 l, lt-leb (sum xs) 4294967295 (omega arith))
+total-above e xs t a b l q h = rw (le-leb 2 e a, le-leb e 8 b, le-leb (length xs) maxHours l, lt-leb (sum xs) maxTotal (omega arith))
 
 -- ---- no page yet
 none-passed : (e : ℕ) (xs : List ℕ) → Passed e xs 0 0 0
@@ -52,7 +52,7 @@ none-passed e xs = record {
   trees-most = omega arith;
 }
 
-pub begun : (e n k : ℕ) → 2 ≤ e → e ≤ 8 → n ≤ 65536 → k ≡ pages e n
+pub begun : (e n k : ℕ) → 2 ≤ e → e ≤ 8 → n ≤ maxHours → k ≡ pages e n
     → Begun e n (Open (record { e = e; hours = n; pages = k; done = 0; total = 0; trees = 0 }))
 begun e n k low high l q = (
   refl,
@@ -138,11 +138,11 @@ module _ {e : ℕ} {xs : List ℕ} {r : Plan} (d : Drafted e xs r) (all : r .pag
       let w : t ≤ 54 = omega (arith, digits-le (r .total) 54 (omega (arith, sizes d .total-most))) in
       omega (arith, mul-le-mul-left (r .pages) w, sizes d .few)
 
-  pub too-much : 4294967295 < r .total → lengthCall e xs ≡ refused 3
+  pub too-much : maxTotal < r .total → lengthCall e xs ≡ refused 3
   too-much l = total-above e xs (r .total) (d .e-low) (d .e-high) (d .short) total-is l
 
-  pub finished : (t : ℕ) → t ≡ digits (r .total) → r .total ≤ 4294967295
-      → Planned e xs (Image (record { e = r .e; hours = r .hours; pages = r .pages; total = r .total; code = 8 * (16 + 4 * r .pages); bits = r .pages * t + r .trees }))
+  pub finished : (t : ℕ) → t ≡ digits (r .total) → r .total ≤ maxTotal
+      → Planned e xs (Image (record { e = r .e; hours = r .hours; pages = r .pages; total = r .total; code = 8 * tableAt (r .pages); bits = r .pages * t + r .trees }))
   unfolding code start
   finished t q l = (
     record { e-low = d .e-low; e-high = d .e-high; hours = d .short; total = omega (arith, total-is) },
@@ -151,7 +151,7 @@ module _ {e : ℕ} {xs : List ℕ} {r : Plan} (d : Drafted e xs r) (all : r .pag
       hours-are = d .hours-are;
       pages-are = d .pages-are;
       total-is = total-is;
-      code-is = ap (λ (z : ℕ). 8 * (16 + 4 * z)) (d .pages-are);
+      code-is = ap (λ (z : ℕ). 8 * tableAt z) (d .pages-are);
       bits-are =
           ap₂ (λ (y z : ℕ). y * z + r .trees) {x = r .pages} {y = r .done} (omega (arith, d .done-le)) (q ∙ ap digits total-is)
           ∙ d .passed .bits-are ∙ ap (start e xs) done-is;
@@ -160,7 +160,7 @@ module _ {e : ℕ} {xs : List ℕ} {r : Plan} (d : Drafted e xs r) (all : r .pag
 
 -- ---- the image's bytes
 -- what working them out asks, and what it gives
-pub size-asks : {r : Layout} → Laying r → (r .e ≤ 8) × (r .hours ≤ 65536) × (r .bits < 4294967296)
+pub size-asks : {r : Layout} → Laying r → (r .e ≤ 8) × (r .hours ≤ maxHours) × (r .bits < 4294967296)
 size-asks {r} a = (
   a .limits .e-high,
   omega (arith, a .layout .hours-are, a .limits .hours),

@@ -13,7 +13,7 @@ use Rattle.bits.specs.Numbers.{little}
 use Rattle.bits.proofs.Laws.{bits-append, length-bits}
 use Rattle.bits.proofs.Little.{Bytes, bytes-little, length-little}
 use Rattle.bits.proofs.Packing.{bits-fill}
-use Rattle.image.specs.Image.{bytesFor, code, firstPages, header, image, packed, pageCode, pages, size, start, table}
+use Rattle.image.specs.Image.{bytesFor, code, firstPages, header, image, packed, pageCode, pages, size, start, table, tableAt}
 use Rattle.image_steps.specs.Code.Planning.{codeStart}
 use Rattle.image_steps.specs.Code.Writing.{laid, starts, tableAndCode}
 use Rattle.image.proofs.ReadLaws.{bits-code, length-image}
@@ -52,7 +52,7 @@ length-starts e xs k =
 
 -- page k put into them: its start bit, then its code
 pub laid-more : (b c : List ℕ) (e : ℕ) (xs : List ℕ) (k : ℕ) → k < pages e (length xs) → codeStart e xs + length (code e xs) ≤ length b
-    → c ≡ splice (splice (laid b e xs k) (8 * (16 + 4 * k)) (bits (little 4 (start e xs k)))) (codeStart e xs + start e xs k) (pageCode e xs k)
+    → c ≡ splice (splice (laid b e xs k) (8 * tableAt k) (bits (little 4 (start e xs k)))) (codeStart e xs + start e xs k) (pageCode e xs k)
     → c ≡ laid b e xs (suc k)
 unfolding laid start code
 laid-more b c e xs k l h ec =
@@ -64,15 +64,15 @@ laid-more b c e xs k l h ec =
     let lT : length T ≡ 32 * k = length-starts e xs k in
     let lY : length Y ≡ 32 = length-bits (little 4 (start e xs k)) ∙ ap (λ (z : ℕ). 8 * z) (length-little 4 (start e xs k)) in
     let lG : length F + length G ≤ length (code e xs) = concat-le (pages e (length xs)) (pageCode e xs) k l in
-    let t : splice (splice b 128 T) (8 * (16 + 4 * k)) Y ≡ splice b 128 (bits (starts e xs (suc k))) =
-    ap (λ (z : ℕ). splice (splice b 128 T) z Y) {x = 8 * (16 + 4 * k)} {y = 128 + length T} (omega arith) ∙ splice-more b 128 T Y (omega arith)
+    let t : splice (splice b 128 T) (8 * tableAt k) Y ≡ splice b 128 (bits (starts e xs (suc k))) =
+    ap (λ (z : ℕ). splice (splice b 128 T) z Y) {x = 8 * tableAt k} {y = 128 + length T} (omega arith) ∙ splice-more b 128 T Y (omega arith)
     ∙ ap (splice b 128) (sym (bits-append (starts e xs k) (little 4 (start e xs k))) ∙ ap bits (sym (concat-suc k (λ p. little 4 (start e xs p))))) in
     let B : List ℕ = splice b 128 (bits (starts e xs (suc k))) in
     let lB : length B ≡ length b = length-splice b 128 (bits (starts e xs (suc k))) (omega (arith, length-starts e xs (suc k))) in
     let l₀ : length (splice b 128 T) ≡ length b = length-splice b 128 T (omega arith) in
     ec
     ∙ ap (λ (z : List ℕ). splice z (C + length F) G)
-    (sym (splice-apart (splice b 128 T) Y F (8 * (16 + 4 * k)) (32 * (pages e (length xs) - suc k)) C (omega arith) (omega arith))
+    (sym (splice-apart (splice b 128 T) Y F (8 * tableAt k) (32 * (pages e (length xs) - suc k)) C (omega arith) (omega arith))
     ∙ ap (λ (z : List ℕ). splice z C F) t)
     ∙ splice-more B C F G (omega arith) ∙ ap (splice B C) (sym (concat-suc k (pageCode e xs)))
 

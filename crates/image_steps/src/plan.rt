@@ -1,5 +1,6 @@
 // What an image will be, from the sums of its pages, known before a byte is written.
 use answers::refusal;
+use image::head::Head;
 use image::head::pages_of;
 use image::head::size_of;
 ghost use mathlib.Core.Path.{_≡_};
@@ -29,7 +30,7 @@ pub fn start(e: u32, hours: u64) -> Started
     ensures { λ r. ⌜ Begun e hours r ⌝ }
 {
     let e_wrong = e < 2 || 8 < e;
-    let too_long = 65536 < hours;
+    let too_long = Head::MAX_HOURS < hours;
     if e_wrong {
         return Started::Refused(refusal::PAGE_SIZE);
     }
@@ -85,11 +86,11 @@ pub fn finish(plan: Plan) -> Planned
     requires { ⌜ Whole plan ⌝ }
     ensures { λ r. ⌜ ((a : Whole plan) → PlannedOf (a .e) (a .xs) r) ⌝ }
 {
-    if 4294967295 < plan.total {
+    if Head::MAX_TOTAL < plan.total {
         return Planned::Refused(refusal::TOTAL);
     }
     let pages = plan.pages;
-    let code = 8 * (16 + 4 * pages);
+    let code = 8 * (Head::SIZE + 4 * pages);
     let bits = pages * (reserve::digits_of(plan.total) as usize) + plan.trees;
     Planned::Image(Layout {
         e: plan.e,

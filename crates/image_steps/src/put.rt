@@ -1,8 +1,9 @@
 // The parts of an image, put into a buffer that has room for it: the header, then page by page, then the zeros behind the code.
 use crate::plan::Layout;
-use bits::clear::clear_bits;
 use bits::numbers::put4;
-use bits::put_field;
+use bits_clear::clear_bits;
+use bits_field::put_field;
+use image::head::Head;
 use tree::sums::sum_of;
 ghost use mathlib.Core.Path.{_≡_};
 ghost use Prim.Native.Nat.{_+_, _≤_, _<_};
@@ -58,7 +59,7 @@ pub fn put_page(out: &mut [u8], r: Layout, at: Place, counts: &[u32], from: usiz
     let own = reserve::reserve_of(r.e, s);
     let root = at.before + s;
     let tree = at.start + (w as usize);
-    put4(out, 16 + 4 * at.page, at.start as u64);
+    put4(out, Head::SIZE + 4 * at.page, at.start as u64);
     put_field(out, r.code + at.start, w, root);
     tree_write::write(out, r.code + tree, r.e, counts, from, s, own);
     Place {

@@ -37,6 +37,12 @@ unfolding sum tabulate
 sum-most b zero f h = omega arith
 sum-most b (suc n) f h = omega (arith, h 0, mul-suc b n, sum-most b n (λ j. f (suc j)) (λ j. h (suc j)))
 
+-- entries of at most those of two other tables
+pub sum-two : (n : ℕ) (f g k : ℕ → ℕ) → ((j : ℕ) → f j ≤ g j + k j) → sum (tabulate n f) ≤ sum (tabulate n g) + sum (tabulate n k)
+unfolding sum tabulate
+sum-two zero f g k h = omega arith
+sum-two (suc n) f g k h = omega (arith, h 0, sum-two n (λ j. f (suc j)) (λ j. g (suc j)) (λ j. k (suc j)) (λ j. h (suc j)))
+
 -- one entry more
 pub sum-next : (f : ℕ → ℕ) (n : ℕ) → sum (tabulate (n + 1) f) ≡ sum (tabulate n f) + f n
 sum-next f n = ap (λ (z : ℕ). sum (tabulate z f)) (add-one n) ∙ ap sum (tabulate-snoc n f) ∙ sum-snoc (tabulate n f) (f n)

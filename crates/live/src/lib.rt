@@ -1,16 +1,17 @@
 // The live calls on a store's bytes. Each turns a store that is not sound down first, and then answers as the store's list does.
 use answers::refusal;
 use answers::store::Answer;
-use live_query::query;
-use live_query::search;
 use soundness::check;
 ghost use Rattle.store.specs.Plain.{Append, Count, Day, Free, Reach, Reading, Set};
 ghost use Rattle.store.specs.Call.{Called};
+ghost use Rattle.store.specs.Reading.{listIn};
+ghost use Rattle.coin_cost.specs.Cost.{TakesAtMost, cellsFor, gain};
 ghost use Rattle.answers.specs.Store.{told};
 
-// Appends the count of the next hour.
+// Appends the count of the next hour. For v coins it takes at most ceil(v / 40) cells, or eight if that is less.
 pub fn append(s: &mut [u8], v: u32) -> Answer
     ensures { λ r. ⌜ Called (Append v) (now (s .entry)) (told r) (now (s .exit)) ⌝ }
+    ensures { λ r. ⌜ TakesAtMost (cellsFor v) (told r) ⌝ }
 {
     if !check(s) {
         return Answer::Refused(refusal::UNSOUND);
@@ -18,9 +19,10 @@ pub fn append(s: &mut [u8], v: u32) -> Answer
     live_change::append(s, v)
 }
 
-// Sets the count of hour i, which is logged.
+// Sets the count of hour i, which is logged. What it takes goes by the coins that the hour gains, as in append.
 pub fn set(s: &mut [u8], i: u32, v: u32) -> Answer
     ensures { λ r. ⌜ Called (Set i v) (now (s .entry)) (told r) (now (s .exit)) ⌝ }
+    ensures { λ r. ⌜ TakesAtMost (cellsFor (gain (listIn (now (s .entry))) i v)) (told r) ⌝ }
 {
     if !check(s) {
         return Answer::Refused(refusal::UNSOUND);
@@ -35,7 +37,7 @@ pub fn count(s: &[u8], i: u32) -> Answer
     if !check(s) {
         return Answer::Refused(refusal::UNSOUND);
     }
-    query::count(s, i)
+    live_query::count(s, i)
 }
 
 // The reading at i: the sum of the counts before hour i.
@@ -45,7 +47,7 @@ pub fn reading(s: &[u8], i: u32) -> Answer
     if !check(s) {
         return Answer::Refused(refusal::UNSOUND);
     }
-    query::reading(s, i)
+    live_query::reading(s, i)
 }
 
 // The smallest i whose reading is p or more.
@@ -55,17 +57,17 @@ pub fn reach(s: &[u8], p: u32) -> Answer
     if !check(s) {
         return Answer::Refused(refusal::UNSOUND);
     }
-    search::reach(s, p)
+    live_search::reach(s, p)
 }
 
-// The sum of the counts of day d.
-pub fn day(s: &[u8], d: u32) -> Answer
-    ensures { λ r. ⌜ Called (Day d) (now (s .entry)) (told r) (now (s .exit)) ⌝ }
+// The sum of the counts of day d, where a list gives days their hours that have not 24.
+pub fn day(s: &[u8], d: u32, changes: &[u32]) -> Answer
+    ensures { λ r. ⌜ Called (Day d (now (changes .entry))) (now (s .entry)) (told r) (now (s .exit)) ⌝ }
 {
     if !check(s) {
         return Answer::Refused(refusal::UNSOUND);
     }
-    query::day(s, d)
+    live_day::day(s, d, changes)
 }
 
 // How many cells are free.
@@ -75,5 +77,5 @@ pub fn free(s: &[u8]) -> Answer
     if !check(s) {
         return Answer::Refused(refusal::UNSOUND);
     }
-    query::free(s)
+    live_query::free(s)
 }

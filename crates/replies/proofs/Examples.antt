@@ -7,8 +7,8 @@ use Rattle.store.specs.Plain.{change, need, next, page, step}
 use Rattle.session.specs.Ascii.{bytes}
 use Rattle.session.specs.Number.{isDigit, valueFrom, digitsOnly, number}
 use Rattle.session.specs.Line.{onFirst, splitOn, none, one, two, byLetter, byParts, command}
-use Rattle.session.specs.Lines.{closed, lines}
-use Rattle.session.specs.Printed.{decimalIn, printed}
+use Rattle.session_input.specs.Lines.{closed, lines}
+use Rattle.session_print.specs.Printed.{decimalIn, printed}
 use Rattle.replies.specs.Session.{output}
 use Rattle.replies.specs.PlainSession.{plainTurn, plainReplies, plainOutput}
 use Rattle.replies.proofs.SessionLaws.{session-is-plain}

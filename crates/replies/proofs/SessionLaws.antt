@@ -5,11 +5,10 @@ use mathlib.Core.List.{List, [], _∷_, map}
 use Prim.Native.Nat.{ℕ}
 use native.Mathlib.Omega.{arith}
 use lib.ListN.{length, replicate, length-replicate}
-use lib.Dec.{leb}
 use borrow.Author.Tests.{eq-eqb}
 use Rattle.lists.specs.Lists.{concat, every, pick}
 use Rattle.store.proofs.LimitLaws.{limits-hold}
-use Rattle.store.specs.Limits.{fits}
+use Rattle.store.specs.Limits.{fits, limitTests}
 use Rattle.store.specs.Plain.{Call, plainFresh}
 use Rattle.answers.specs.Store.{refused}
 use Rattle.store.specs.Layout.{Model, bytesOf, fresh, size}
@@ -20,11 +19,11 @@ use Rattle.store.proofs.SoundFacts.{facts}
 use Rattle.store.proofs.StepLaws.{after-good, after-plain}
 use Rattle.store.proofs.Whole.{call-good}
 use Rattle.session.specs.Line.{command}
-use Rattle.session.specs.Lines.{lines}
-use Rattle.session.specs.Printed.{printed}
+use Rattle.session_input.specs.Lines.{lines}
+use Rattle.session_print.specs.Printed.{printed}
 use Rattle.session.specs.declared.line.Command.{Command}
 use Rattle.session.specs.declared.line.Command.the-variants.{Fresh, Append, Set, Count, Reading, Reach, Day, Free, Unknown}
-use Rattle.session.specs.declared.output.Reply.{Reply}
+use Rattle.session_print.specs.declared.Reply.{Reply}
 use Rattle.replies.specs.Session.{replyTo, Turn, changes, asks, starts, renews, turn, replies, output}
 use Rattle.replies.specs.PlainSession.{Board, empty, holds, PlainTurn, plainChange, plainAsk, plainStart, plainTurn, plainReplies, plainOutput}
 
@@ -71,7 +70,7 @@ asks-agree c s b (store m g) = record {
 
 -- n, in a buffer of the right length
 limits : ℕ → ℕ → Bool
-limits P C = every (leb 1 P ∷ leb P 1024 ∷ leb 1 C ∷ leb C 1800 ∷ [])
+limits P C = every (limitTests P C)
 
 fits-limits : (P C : ℕ) → fits (replicate (size P C) 0) P C ≡ limits P C
 unfolding fits every limits
@@ -97,7 +96,7 @@ turn-agrees (Set i v) s b h = changes-agree (Call.Set i v) s b h
 turn-agrees (Count i) s b h = asks-agree (Call.Count i) s b h
 turn-agrees (Reading i) s b h = asks-agree (Call.Reading i) s b h
 turn-agrees (Reach p) s b h = asks-agree (Call.Reach p) s b h
-turn-agrees (Day d) s b h = asks-agree (Call.Day d) s b h
+turn-agrees (Day d) s b h = asks-agree (Call.Day d []) s b h
 turn-agrees Free s b h = asks-agree Call.Free s b h
 turn-agrees Unknown s b h = record { same = refl; shows = h }
 

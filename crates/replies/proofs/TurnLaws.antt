@@ -9,15 +9,15 @@ use lib.Seq.{take-at, length-take-le}
 use lib.Dec.{leb, eqb}
 use Rattle.lists.specs.Lists.{pick, every}
 use Rattle.lists.proofs.Parts.{take-smaller}
-use Rattle.store.specs.Limits.{fits}
+use Rattle.store.specs.Limits.{fits, limitTests, maxPages, maxCells}
 use Rattle.store.specs.Plain.{Call}
 use Rattle.answers.specs.Store.{Answer as Said, changed, answered, refused}
 use Rattle.store.specs.Layout.{size, bytesOf, fresh}
 use Rattle.store.specs.Call.{Called, Result, Started, call, freshCall}
 use Rattle.session.specs.declared.line.Command.{Command}
 use Rattle.session.specs.declared.line.Command.the-variants.{Fresh}
-use Rattle.session.specs.declared.output.Reply.{Reply}
-use Rattle.session.specs.declared.output.Reply.the-variants.{Done, Refused}
+use Rattle.session_print.specs.declared.Reply.{Reply}
+use Rattle.session_print.specs.declared.Reply.the-variants.{Done, Refused}
 use Rattle.replies.specs.declared.respond.Response.{Response}
 use Rattle.replies.specs.Session.{replyTo, Turn, changes, asks, starts, renews, turn}
 use Rattle.replies.specs.Code.Respond.{Responds}
@@ -63,7 +63,7 @@ leaves-it {c} {d} {s} {u} {n} {p} e f w =
 -- fresh goes by its buffer's length alone
 fits-same : (b d : List ℕ) (P C : ℕ) → length b ≡ length d → fits b P C ≡ fits d P C
 unfolding fits
-fits-same b d P C e = ap (λ (k : ℕ). every (leb 1 P ∷ leb P 1024 ∷ leb 1 C ∷ leb C 1800 ∷ eqb k (size P C) ∷ [])) e
+fits-same b d P C e = ap (λ (k : ℕ). every (limitTests P C ++ eqb k (size P C) ∷ [])) e
 
 second-fourth : (a b c d x : Bool) → (b && d) ≡ false → (a && (b && (c && (d && x)))) ≡ false
 second-fourth false b c d x e = refl
@@ -71,9 +71,9 @@ second-fourth true false c d x e = refl
 second-fourth true true false d x e = refl
 second-fourth true true true d x e = rw e
 
-fits-no : (b : List ℕ) (P C : ℕ) → (leb P 1024 && leb C 1800) ≡ false → fits b P C ≡ false
+fits-no : (b : List ℕ) (P C : ℕ) → (leb P maxPages && leb C maxCells) ≡ false → fits b P C ≡ false
 unfolding fits every
-fits-no b P C e = second-fourth (leb 1 P) (leb P 1024) (leb 1 C) (leb C 1800) (eqb (length b) (size P C) && true) e
+fits-no b P C e = second-fourth (leb 1 P) (leb P maxPages) (leb 1 C) (leb C maxCells) (eqb (length b) (size P C) && true) e
 
 fresh-yes : (b : List ℕ) (P C : ℕ) → fits b P C ≡ true → freshCall b P C ≡ record { answer = answered 0; bytes = bytesOf (fresh P C) }
 unfolding freshCall pick
@@ -84,12 +84,12 @@ unfolding freshCall pick
 fresh-no b P C e = rw e
 
 -- the buffer that the code takes, of n bytes, serves as one of the right length
-pub buffer : (b : List ℕ) (P C : ℕ) → length b ≡ pick (leb P 1024 && leb C 1800) (size P C) 0
+pub buffer : (b : List ℕ) (P C : ℕ) → length b ≡ pick (leb P maxPages && leb C maxCells) (size P C) 0
     → fits b P C ≡ fits (replicate (size P C) 0) P C
 unfolding pick
-buffer b P C h = go (leb P 1024 && leb C 1800) refl
+buffer b P C h = go (leb P maxPages && leb C maxCells) refl
   where
-    go : (t : Bool) → (leb P 1024 && leb C 1800) ≡ t → fits b P C ≡ fits (replicate (size P C) 0) P C
+    go : (t : Bool) → (leb P maxPages && leb C maxCells) ≡ t → fits b P C ≡ fits (replicate (size P C) 0) P C
     go true e = fits-same b (replicate (size P C) 0) P C (h ∙ rw e (sym (length-replicate (size P C) 0)))
     go false e = fits-no b P C e ∙ sym (fits-no (replicate (size P C) 0) P C e)
 
@@ -132,7 +132,7 @@ module _ (P C : ℕ) (s b : List ℕ) (same : fits b P C ≡ fits (replicate (si
       go false f = absurd (h (q ∙ ap (λ (r : Result). r .answer) (fresh-no b P C f)))
 
 -- n on the first n bytes of the buffer s
-module _ (P C : ℕ) (s : List ℕ) (u n : ℕ) (h : 63760 ≤ length s) (l : n ≡ pick (leb P 1024 && leb C 1800) (size P C) 0) (m : n ≤ 63760)
+module _ (P C : ℕ) (s : List ℕ) (u n : ℕ) (h : 63760 ≤ length s) (l : n ≡ pick (leb P maxPages && leb C maxCells) (size P C) 0) (m : n ≤ 63760)
     (a : Said) (t : List ℕ) (q : Started (take n s) P C a t) where
   serves : fits (take n s) P C ≡ fits (replicate (size P C) 0) P C
   serves = buffer (take n s) P C (length-take-le n s (omega arith) ∙ l)

@@ -1,16 +1,16 @@
 -- The same session on the plain list, which knows nothing of the store's bytes. Assumes nothing.
 use mathlib.Core.List.{List, [], _∷_, map}
 use Prim.Native.Nat.{ℕ}
-use lib.Dec.{leb}
 use Rattle.lists.specs.Lists.{concat, every, pick}
 use Rattle.store.specs.Plain.{Call, Plain, next, plainFresh, step}
+use Rattle.store.specs.Limits.{limitTests}
 use Rattle.session.specs.Line.{command}
-use Rattle.session.specs.Lines.{lines}
-use Rattle.session.specs.Printed.{printed}
+use Rattle.session_input.specs.Lines.{lines}
+use Rattle.session_print.specs.Printed.{printed}
 use Rattle.session.specs.declared.line.Command.{Command}
 use Rattle.session.specs.declared.line.Command.the-variants.{Fresh, Append, Set, Count, Reading, Reach, Day, Free, Unknown}
-use Rattle.session.specs.declared.output.Reply.{Reply}
-use Rattle.session.specs.declared.output.Reply.the-variants.{Done, Refused}
+use Rattle.session_print.specs.declared.Reply.{Reply}
+use Rattle.session_print.specs.declared.Reply.the-variants.{Done, Refused}
 use Rattle.replies.specs.Session.{replyTo}
 
 -- no list before n
@@ -34,7 +34,7 @@ plainAsk c (holds L) = record { reply = replyTo (step c L .answer); board = hold
 -- 'pages P from 1 to 1,024; cells C from 1 to 1,800', else n is refused 9 and changes nothing
 abbrev pub plainStart : ℕ → ℕ → Board → PlainTurn
 plainStart P C b =
-    pick (every (leb 1 P ∷ leb P 1024 ∷ leb 1 C ∷ leb C 1800 ∷ [])) (record { reply = Done; board = holds (plainFresh P C) })
+    pick (every (limitTests P C)) (record { reply = Done; board = holds (plainFresh P C) })
     (record { reply = Refused 9; board = b })
 
 unfoldable pub plainTurn : Command → Board → PlainTurn
@@ -44,7 +44,7 @@ plainTurn (Set i v) b = plainChange (Call.Set i v) b
 plainTurn (Count i) b = plainAsk (Call.Count i) b
 plainTurn (Reading i) b = plainAsk (Call.Reading i) b
 plainTurn (Reach p) b = plainAsk (Call.Reach p) b
-plainTurn (Day d) b = plainAsk (Call.Day d) b
+plainTurn (Day d) b = plainAsk (Call.Day d []) b
 plainTurn Free b = plainAsk Call.Free b
 plainTurn Unknown b = record { reply = Reply.Unknown; board = b }
 

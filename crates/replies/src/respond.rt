@@ -2,7 +2,7 @@
 use answers::store::Answer;
 use fresh::fresh;
 use session::Command;
-use session::Reply;
+use session_print::Reply;
 use store::header::Header;
 ghost use mathlib.Core.Bool.{_&&_};
 ghost use mathlib.Core.Path.{_≡_};
@@ -12,6 +12,7 @@ ghost use lib.Dec.{leb};
 ghost use Rattle.lists.specs.Lists.{pick};
 ghost use Rattle.answers.specs.Store.{told};
 ghost use Rattle.store.specs.Layout.{size};
+ghost use Rattle.store.specs.Limits.{maxCells, maxPages};
 ghost use Rattle.session.specs.declared.line.Command.the-variants.{Fresh};
 ghost use Rattle.replies.specs.Session.{replyTo};
 ghost use Rattle.replies.specs.Code.Respond.{Responds};
@@ -42,7 +43,7 @@ fn kept(used: usize, answer: Answer) -> Response
 
 // How many bytes a store of so many pages and cells has, 0 if no store has so many.
 fn size_of(pages: u32, cells: u32) -> usize
-    ensures { λ r. ⌜ r ≡ pick (leb pages 1024 && leb cells 1800) (size pages cells) 0 ⌝ }
+    ensures { λ r. ⌜ r ≡ pick (leb pages maxPages && leb cells maxCells) (size pages cells) 0 ⌝ }
     ensures { λ r. ⌜ r ≤ 63760 ⌝ }
 {
     let p = pages as usize;
@@ -87,7 +88,7 @@ pub fn respond(store: &mut [u8], used: usize, command: Command) -> Response
         Command::Count(i) => kept(n, live::count(&store[..n], i)),
         Command::Reading(i) => kept(n, live::reading(&store[..n], i)),
         Command::Reach(p) => kept(n, live::reach(&store[..n], p)),
-        Command::Day(d) => kept(n, live::day(&store[..n], d)),
+        Command::Day(d) => kept(n, live::day(&store[..n], d, &[])),
         Command::Free => kept(n, live::free(&store[..n])),
         Command::Unknown => Response {
             used: n,

@@ -7,12 +7,8 @@ use Rattle.lists.specs.Lists.{pick, every}
 use Rattle.session.specs.Ascii.{bytes}
 use Rattle.session.specs.Number.{isDigit, valueFrom, digitsOnly, number}
 use Rattle.session.specs.Line.{onFirst, splitOn, none, one, two, byLetter, byParts, command}
-use Rattle.session.specs.Lines.{closed, lines}
-use Rattle.session.specs.Printed.{decimalIn, printed}
 use Rattle.session.specs.declared.line.Command.{Command}
 use Rattle.session.specs.declared.line.Command.the-variants.{Fresh, Append, Set, Count, Reading, Reach, Day, Free, Unknown}
-use Rattle.session.specs.declared.output.Reply.{Reply}
-use Rattle.session.specs.declared.output.Reply.the-variants.{Number, Done, Refused}
 
 asked : List String → List Command
 asked texts = map (λ t. command (bytes t)) texts
@@ -49,16 +45,3 @@ refusals :
     ≡ replicate 23 Unknown
 unfolding asked pick every isDigit valueFrom digitsOnly number onFirst splitOn none one two byLetter byParts command
 refusals = refl
-
--- lines: none, an empty one, a last one without its line end
-cut :
-    map lines (bytes "" ∷ bytes "\n" ∷ bytes "f\n\nf" ∷ bytes "f\n" ∷ [])
-    ≡ [] ∷ (bytes "" ∷ []) ∷ (bytes "f" ∷ bytes "" ∷ bytes "f" ∷ []) ∷ (bytes "f" ∷ []) ∷ []
-unfolding pick onFirst splitOn closed lines
-cut = refl
-
-answers :
-    map printed (Number 0 ∷ Number 128 ∷ Number 4294967295 ∷ Done ∷ Refused 8 ∷ Refused 12 ∷ Reply.Unknown ∷ [])
-    ≡ bytes "0\n" ∷ bytes "128\n" ∷ bytes "4294967295\n" ∷ bytes "ok\n" ∷ bytes "refused 8\n" ∷ bytes "refused 12\n" ∷ bytes "line?\n" ∷ []
-unfolding pick decimalIn printed
-answers = refl

@@ -1,5 +1,5 @@
 -- A letter and its numbers. Assumes nothing.
-use mathlib.Core.Path.{_≡_, refl}
+use mathlib.Core.Path.{_≡_, refl, sym, _∙_}
 use mathlib.Core.Bool.{Bool, true, false}
 use mathlib.Core.List.{List, [], _∷_}
 use Prim.Native.Nat.{ℕ}
@@ -59,11 +59,19 @@ pub three : (n m l : Numeral) (ns : List Numeral) → Fails (n ∷ m ∷ l ∷ n
 unfolding none one two
 three n m l ns = record { no-none = λ c. refl; no-one = λ f. refl; no-two = λ f. refl }
 
-pub single-wrong : (l : ℕ) (n : Numeral) → n ≡ Wrong → byLetter l (n ∷ []) ≡ Unknown
-single-wrong l n e = rw e (fails l _ (wrong-first []))
+-- what a function answers that was given the numbers r and s: each is what its part says, and is told apart from the other variant
+pub single-wrong : (l : ℕ) {r n : Numeral} → r ≡ Wrong → r ≡ n → Unknown ≡ byLetter l (n ∷ [])
+single-wrong l w e = rw (sym e ∙ w) (sym (fails l _ (wrong-first [])))
 
-pub first-wrong : (l : ℕ) (n m : Numeral) → n ≡ Wrong → byLetter l (n ∷ m ∷ []) ≡ Unknown
-first-wrong l n m e = rw e (fails l _ (wrong-first (m ∷ [])))
+pub first-wrong : (l : ℕ) {r n : Numeral} (m : Numeral) → r ≡ Wrong → r ≡ n → Unknown ≡ byLetter l (n ∷ m ∷ [])
+first-wrong l m w e = rw (sym e ∙ w) (sym (fails l _ (wrong-first (m ∷ []))))
 
-pub second-wrong : (l : ℕ) (n m : Numeral) → m ≡ Wrong → byLetter l (n ∷ m ∷ []) ≡ Unknown
-second-wrong l n m e = rw e (fails l _ (wrong-second n))
+pub second-wrong : (l : ℕ) (n : Numeral) {r m : Numeral} → r ≡ Wrong → r ≡ m → Unknown ≡ byLetter l (n ∷ m ∷ [])
+second-wrong l n w e = rw (sym e ∙ w) (sym (fails l _ (wrong-second n)))
+
+pub of-one : (l : ℕ) {r n v : Numeral} {c : Command} → c ≡ byLetter l (v ∷ []) → r ≡ v → r ≡ n → c ≡ byLetter l (n ∷ [])
+of-one l c v n = cc
+
+pub of-two :
+    (l : ℕ) {r s n m v w : Numeral} {c : Command} → c ≡ byLetter l (v ∷ w ∷ []) → r ≡ v → r ≡ n → s ≡ w → s ≡ m → c ≡ byLetter l (n ∷ m ∷ [])
+of-two l c v n w m = cc

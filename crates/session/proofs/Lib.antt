@@ -3,7 +3,4 @@ pub mod DigitLaws
 pub mod LetterLaws
 pub mod SplitLaws
 pub mod LineLaws
-pub mod GatherLaws
-pub mod DecimalLaws
-pub mod PrintLaws
 pub mod Examples

@@ -2,5 +2,3 @@
 pub mod Ascii
 pub mod Number
 pub mod Line
-pub mod Lines
-pub mod Printed

@@ -1,13 +1,6 @@
-// The lines of the session program: what a line asks, how lines are gathered from the input, and how an answer is printed.
-mod input;
+// The lines of the session program: what a line asks.
 mod line;
 mod number;
-mod output;
 
-pub use input::Gathered;
-pub use input::finish;
-pub use input::gather;
 pub use line::Command;
 pub use line::parse;
-pub use output::Reply;
-pub use output::print;

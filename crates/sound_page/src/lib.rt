@@ -40,7 +40,7 @@ pub fn page_fits(code: &[u8], table: &[u8; 512], k: usize, s: u64, p: usize, hou
         return false;
     }
     let used = reserve::reserve_of(6, s);
-    if !tree_check::zero_bits(code, used, Header::BITS * k - used) {
+    if !tree_lowest::zero_bits(code, used, Header::BITS * k - used) {
         return false;
     }
     hours_fit(code, s, p, hours)

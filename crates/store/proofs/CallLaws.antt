@@ -68,7 +68,7 @@ changed-as c s t i v r e st w =
     (w .bytes ∙ sym (ap (λ (o : Outcome). bytesOf (settle (read s) o (o .answer))) st))
 
 -- ---- append
-with-end : (xs : List ℕ) (v : ℕ) → withHour xs (length xs) v ≡ xs ++ v ∷ []
+pub with-end : (xs : List ℕ) (v : ℕ) → withHour xs (length xs) v ≡ xs ++ v ∷ []
 unfolding withHour pick
 with-end xs v = rw (eq-eqb (length xs) (length xs) refl)
 
@@ -100,7 +100,7 @@ module _ {s : List ℕ} (v : ℕ) (e : sound s ≡ true) {H : Header} (h : Heads
       ∙ ap (λ (z : ℕ). change (read s .plain) (withHour (listIn s) z v)) i) w
 
 -- ---- set
-with-inside : (xs : List ℕ) (i v : ℕ) → i < length xs → withHour xs i v ≡ set xs i v
+pub with-inside : (xs : List ℕ) (i v : ℕ) → i < length xs → withHour xs i v ≡ set xs i v
 unfolding withHour pick
 with-inside xs i v l = rw (ne-eqb i (length xs) (λ e. omega (arith, e)))
 

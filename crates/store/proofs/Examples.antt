@@ -1,12 +1,10 @@
 -- Document 01's printed session on the plain list, computed. Assumes nothing.
 use mathlib.Core.Path.{_≡_, refl}
 use mathlib.Core.List.{List, [], _∷_}
-use Prim.Native.Nat.{ℕ, _+_, _*_}
-use native.Mathlib.Omega.{arith}
 use Rattle.reserve.specs.Reserve.{ceil, reserve}
 use Rattle.lists.specs.Lists.{least, pick, reached, sum, tabulate}
 use Rattle.store.specs.PageCode.{cells}
-use Rattle.store.specs.Plain.{Append, Call, Free, Reach, Reading, Set, change, dayStart, need, next, page}
+use Rattle.store.specs.Plain.{Append, Call, Free, Reach, Reading, Set, change, need, next, page}
 use Rattle.answers.specs.Store.{answered, changed, refused}
 use Rattle.store.specs.Plain.{plainAnswers, plainFresh, step}
 
@@ -30,7 +28,3 @@ unfoldable pub session-answers : plainAnswers session (plainFresh 1 2)
     ∷ []
 unfolding session plainAnswers next step change need page cells ceil reserve reached least tabulate sum pick
 session-answers = refl
-
--- 'reading at 24d + 24 minus reading at 24d'
-pub day-hours : (d : ℕ) → (dayStart d ≡ 24 * d) × (dayStart (d + 1) ≡ 24 * d + 24)
-day-hours d = (refl, omega arith)

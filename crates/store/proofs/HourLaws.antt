@@ -23,7 +23,7 @@ pub record With (xs ys : List ℕ) (i v : ℕ) : Type 0 where
   pub long : length ys ≡ max (length xs) (i + 1)
   pub total : sum ys + getD xs i 0 ≡ sum xs + v
 
-sum-set : (xs : List ℕ) (i v : ℕ) → i < length xs → sum (set xs i v) + getD xs i 0 ≡ sum xs + v
+pub sum-set : (xs : List ℕ) (i v : ℕ) → i < length xs → sum (set xs i v) + getD xs i 0 ≡ sum xs + v
 unfolding sum
 sum-set [] i v l = absurd (omega arith)
 sum-set (x ∷ xs) zero v l = omega arith

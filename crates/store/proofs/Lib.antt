@@ -36,6 +36,7 @@ pub mod Verdict
 pub mod ItemLaws
 -- the plain list and the calls
 pub mod StepLaws
+pub mod DayLaws
 pub mod CallLaws
 pub mod Orders
 pub mod Refusals

@@ -43,7 +43,7 @@ step-plainly (Set i v) L = refused-or L _ 7 _ (λ e. omega arith) (change-plainl
 step-plainly (Count i) L = refused-or L _ 7 _ (λ e. omega arith) refl
 step-plainly (Reading i) L = refused-or L _ 7 _ (λ e. omega arith) refl
 step-plainly (Reach p) L = refused-or L _ 8 _ (λ e. omega arith) refl
-step-plainly (Day d) L = refused-or L _ 7 _ (λ e. omega arith) refl
+step-plainly (Day d cs) L = refused-or L _ 16 _ (λ e. omega arith) (refused-or L _ 7 _ (λ e. omega arith) refl)
 step-plainly Free L = refl
 
 -- ---- the calls, on any bytes

@@ -2,7 +2,7 @@
 use mathlib.Core.Path.{_≡_, refl, subst}
 use mathlib.Core.Bool.{Bool, true, false}
 use mathlib.Core.List.{List, _∷_, [], _++_}
-use Prim.Native.Nat.{ℕ, _+_, _≤_}
+use Prim.Native.Nat.{ℕ, _≤_}
 use native.Mathlib.Omega.{arith}
 use lib.ListN.{length, set}
 use Rattle.lists.specs.Lists.{pick, sum}
@@ -11,7 +11,8 @@ use Rattle.lists.proofs.Sums.{sum-take-le}
 use Rattle.store.specs.Limits.{fits, maxCells}
 use Rattle.store.specs.Plain.{Append, Call, Count, Day, Free, Outcome, Plain, Reach, Reading, Set}
 use Rattle.answers.specs.Store.{Answer, answered, changed, refused}
-use Rattle.store.specs.Plain.{change, dayStart, need, refuse, step}
+use Rattle.days.specs.Days.{dayEnd}
+use Rattle.store.specs.Plain.{change, need, refuse, step}
 use Rattle.store.specs.Layout.{bytesOf, fresh}
 use Rattle.store.specs.Reading.{read}
 use Rattle.store.specs.Sound.{sound}
@@ -22,16 +23,16 @@ use Rattle.store.proofs.Keep.{spare-is}
 use Rattle.store.proofs.SoundFacts.{facts}
 use Rattle.store.proofs.StepLaws.{Change, change-is, done, over, short}
 
--- cells are no more than a store has, a number is no more than the total's limit, refusals are 1 to 12
+-- cells are no more than a store has, a number is no more than the total's limit, refusals are 1 to 20
 abbrev pub Small : Answer → Type 0
 Small (changed r f) = (r ≤ maxCells) × (f ≤ maxCells)
 Small (answered n) = n ≤ 4294967295
-Small (refused k) = (1 ≤ k) × (k ≤ 12)
+Small (refused k) = (1 ≤ k) × (k ≤ 20)
 
 -- ---- the plain list
 module _ (L : Plain) (few : L .cells ≤ maxCells) (hours : length (L .counts) ≤ 65536) (total : sum (L .counts) ≤ 4294967295)
     (enough : need (L .counts) (L .pages) ≤ L .cells) where
-  refused-or : (b : Bool) (k : ℕ) (o : Outcome) → 1 ≤ k → k ≤ 12 → Small (o .answer) → Small (pick b (refuse k L) o .answer)
+  refused-or : (b : Bool) (k : ℕ) (o : Outcome) → 1 ≤ k → k ≤ 20 → Small (o .answer) → Small (pick b (refuse k L) o .answer)
   unfolding pick
   refused-or true k o low high w = (low, high)
   refused-or false k o low high w = w
@@ -51,7 +52,9 @@ module _ (L : Plain) (few : L .cells ≤ maxCells) (hours : length (L .counts) �
   step-small (Count i) = refused-or _ 7 _ (omega arith) (omega arith) (omega (arith, getD-le (L .counts) i))
   step-small (Reading i) = refused-or _ 7 _ (omega arith) (omega arith) (omega (arith, sum-take-le i (L .counts)))
   step-small (Reach p) = refused-or _ 8 _ (omega arith) (omega arith) (omega (arith, reached-le p (L .counts)))
-  step-small (Day d) = refused-or _ 7 _ (omega arith) (omega arith) (omega (arith, sum-take-le (dayStart (d + 1)) (L .counts)))
+  step-small (Day d cs) =
+      refused-or _ 16 _ (omega arith) (omega arith)
+      (refused-or _ 7 _ (omega arith) (omega arith) (omega (arith, sum-take-le (dayEnd cs d) (L .counts))))
   step-small Free = omega arith
 
 -- ---- the calls, on any bytes

@@ -64,7 +64,7 @@ step-end (Set i v) L h = pick-end L _ _ _ (not-done 7) (λ e. change-end (omega 
 step-end (Count i) L h = pick-end L _ _ _ (not-done 7) (λ _. said _)
 step-end (Reading i) L h = pick-end L _ _ _ (not-done 7) (λ _. said _)
 step-end (Reach p) L h = pick-end L _ _ _ (not-done 8) (λ _. said _)
-step-end (Day d) L h = pick-end L _ _ _ (not-done 7) (λ _. said _)
+step-end (Day d cs) L h = pick-end L _ _ _ (not-done 16) (λ _. pick-end L _ _ _ (not-done 7) (λ _. said _))
 step-end Free L h = said _
 
 settle-good : (m : Model) {o : Outcome} → Good m → End (m .plain) o → Good (settle m o (o .answer))
@@ -105,7 +105,7 @@ module _ (f : Plain → ℕ) (h : (L : Plain) (ys : List ℕ) → f (relisted L 
   next-keeps (Count i) L = pick-keeps _ _ _ (f L) f refl refl
   next-keeps (Reading i) L = pick-keeps _ _ _ (f L) f refl refl
   next-keeps (Reach p) L = pick-keeps _ _ _ (f L) f refl refl
-  next-keeps (Day d) L = pick-keeps _ _ _ (f L) f refl refl
+  next-keeps (Day d cs) L = pick-keeps _ _ _ (f L) f refl (pick-keeps _ _ _ (f L) f refl refl)
   next-keeps Free L = refl
 
 pub next-pages : (c : Call) (L : Plain) → next c L .pages ≡ L .pages

@@ -1,11 +1,13 @@
--- Document 01, 'The plain list': its state, its calls, its refusals in order. It knows nothing of the store's bytes. Assumes nothing.
+-- Document 01, 'The plain list', with the day of document 02: its state, its calls, its refusals in order. It knows nothing of the store's bytes. Assumes nothing.
+use mathlib.Core.Bool.{not}
 use mathlib.Core.List.{List, [], _∷_, _++_}
 use Prim.Native.Nat.{ℕ, _+_, _-_, _*_}
 use lib.ListN.{length, getD, set}
 use lib.Dec.{leb, ltb}
-use Rattle.answers.specs.Refusals.{aboveTotal, cellsShort, logFull, notLogged, totalTooHigh}
+use Rattle.answers.specs.Refusals.{aboveTotal, cellsShort, changesWrong, logFull, notLogged, totalTooHigh}
 use Rattle.lists.specs.Lists.{tabulate, sum, pick, reading, reached}
 use Rattle.answers.specs.Store.{Answer, answered, changed, refused}
+use Rattle.days.specs.Days.{changesFit, dayEnd, dayStart}
 use Rattle.store.specs.PageCode.{cells}
 
 -- 'State: a list of counts, empty at first, and the P and C that fresh was given'
@@ -20,7 +22,8 @@ pub data Call : Type 0 where
   Count : ℕ → Call
   Reading : ℕ → Call
   Reach : ℕ → Call
-  Day : ℕ → Call
+  -- document 02, note 4: 'the plain list's day event takes the same pairs'
+  Day : (d : ℕ) (changes : List ℕ) → Call
   Free : Call
 
 -- the answer, and the list afterwards, whole
@@ -56,10 +59,6 @@ change L ys =
     pick (ltb 4294967295 (sum ys)) (refuse totalTooHigh L)
     (pick (ltb (L .cells) new) (refuse cellsShort L) (record { answer = changed (new - old) (old - new); list = relisted L ys }))
 
--- the hour at which day d begins
-abbrev pub dayStart : ℕ → ℕ
-dayStart d = 24 * d
-
 -- what each call answers, and the list afterwards: the refusals first, in document 01's order
 unfoldable pub step : Call → Plain → Outcome
 -- 'refused 11 if 64P hours are logged'
@@ -71,10 +70,11 @@ step (Count i) L = pick (leb (length (L .counts)) i) (refuse notLogged L) (tell 
 step (Reading i) L = pick (ltb (length (L .counts)) i) (refuse notLogged L) (tell (reading (L .counts) i) L)
 -- '8 if p is above the total'
 step (Reach p) L = pick (ltb (sum (L .counts)) p) (refuse aboveTotal L) (tell (reached p (L .counts)) L)
--- 'reading at 24d + 24 minus reading at 24d; 7 if 24d + 24 > N'
-step (Day d) L =
-    pick (ltb (length (L .counts)) (dayStart (d + 1))) (refuse notLogged L)
-    (tell (reading (L .counts) (dayStart (d + 1)) - reading (L .counts) (dayStart d)) L)
+-- the reading at the day's end minus that at its start; note 4: 'refusal 16 before its 7', '7 now stands for a day whose end is above N'
+step (Day d cs) L =
+    pick (not (changesFit cs)) (refuse changesWrong L)
+    (pick (ltb (length (L .counts)) (dayEnd cs d)) (refuse notLogged L)
+    (tell (reading (L .counts) (dayEnd cs d) - reading (L .counts) (dayStart cs d)) L))
 -- 'C - need'
 step Free L = tell (L .cells - need (L .counts) (L .pages)) L
 

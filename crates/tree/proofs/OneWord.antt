@@ -5,7 +5,7 @@ use Prim.Native.Nat.{ℕ, _+_, _-_, _/_, _%_, _^_, _≤_}
 use native.Mathlib.Omega.{arith}
 use Rattle.lists.specs.Lists.{part}
 use Rattle.bits.specs.Bits.{bits, value}
-use Rattle.bits.specs.Code.Front.{Front}
+use Rattle.bits_field.specs.Code.Front.{Front}
 use Rattle.bits.proofs.Laws.{length-bits}
 use Rattle.reserve.specs.Reserve.{digits, reserve}
 use Rattle.reserve.proofs.Exact.{digits-is, digits-le}

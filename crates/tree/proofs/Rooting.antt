@@ -9,7 +9,7 @@ use native.Mathlib.Omega.{arith}
 use lib.Dec.{leb}
 use Rattle.lists.specs.Lists.{part}
 use Rattle.bits.specs.Bits.{bits, value}
-use Rattle.bits.specs.Code.Front.{Front}
+use Rattle.bits_field.specs.Code.Front.{Front}
 use Rattle.bits.proofs.Laws.{length-bits}
 use Rattle.reserve.specs.Reserve.{digits, reserve}
 use Rattle.reserve.proofs.Exact.{digits-le}

@@ -1,5 +1,5 @@
 // The root of a tree: its left sum, and where its two subtrees start.
-use bits::front;
+use bits_field::front;
 use reserve::digits_of;
 use reserve::reserve_of;
 ghost use mathlib.Core.Bool.{true};
@@ -47,7 +47,7 @@ pub fn root(b: &[u8], at: usize, h: u32, s: u64) -> Split
     ensures { λ r. ⌜ Rooted (bits (now (b .entry))) at h s r ⌝ }
 {
     let t = digits_of(s);
-    node(at, h, s, t, bits::get_field(b, at, t))
+    node(at, h, s, t, bits_field::get_field(b, at, t))
 }
 
 // The same by shifts alone, which are fewer instructions: for a walk or a check, whose turns the processor foretells.

@@ -1,3 +1,2 @@
 -- Laws of the check's steps.
-pub mod Lowest
 pub mod CheckSteps

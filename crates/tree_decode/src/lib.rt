@@ -1,6 +1,6 @@
 // The counts of a tree that is some list's code. A recursion in which h falls, one level a call. It ends at a tree of zeros, at four counts,
 // whose bits come out of one load, or at one count where these do not fit a word. It reads over `&&[u8]`, a thin pointer.
-use bits::front;
+use bits_field::front;
 use reserve::digits_of;
 use tree::node::one_word;
 use tree::node::root_by_shifts;

@@ -1,7 +1,7 @@
 // The walk to a count by its index.
 use crate::damage::DAMAGED;
 use crate::pairs::one_pair;
-use bits::front;
+use bits_field::front;
 use lists::either;
 use reserve::digits_of;
 use tree::node::one_word;

@@ -1,5 +1,5 @@
 // The lowest two levels on a walk's way: four counts whose bits stand at the high end of a word, and one of their two pairs.
-use bits::front;
+use bits_field::front;
 use lists::either;
 use reserve::digits_of;
 ghost use Prim.Native.Nat.{_≤_};
@@ -15,7 +15,7 @@ pub struct Pair {
 
 // The left pair, or the right one, of four counts with sum s and left sum left, whose bits stand at the high end of w. The pair's left
 // count stands behind the left sum, and in the right pair behind the left pair's.
-pub(crate) fn one_pair(w: u64, s: u64, left: u64, right: bool) -> Pair
+pub fn one_pair(w: u64, s: u64, left: u64, right: bool) -> Pair
     requires { ⌜ (left ≤ s) × (digits s ≤ 19) ⌝ }
     ensures { λ r. ⌜ Entered w s left right r ⌝ }
 {

@@ -1,9 +1,9 @@
 // The code of a tree of counts, written into bits. The bits are made 0 first and each field is then added to them, so that left-over bits
 // need no thought and no reserve but a left half's is worked out.
-use bits::add_field;
-use bits::clear::clear_bits;
-use bits::put_field;
-use bits::word::joined;
+use bits_clear::clear_bits;
+use bits_field::add_field;
+use bits_field::put_field;
+use bits_word::joined;
 use reserve::digits_of;
 use reserve::reserve_of;
 use tree::sums::sum_of;

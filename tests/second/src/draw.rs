@@ -2,7 +2,7 @@
 //! drawn near the turning points of the state they will meet.
 
 use crate::days::{Changes, WRONG};
-use crate::function::{Function, CHANGED_DAYS};
+use crate::function::Function;
 use crate::plain::Plain;
 use crate::random::{count, Random, Size};
 use crate::store_bytes::{self, fits};
@@ -104,7 +104,6 @@ fn insert_or_strike(random: &mut Random, pages: u32, plain: &Plain, size: Size) 
 /// None, a wrong list, or one with changes on some of the first days.
 fn changes(random: &mut Random) -> Changes {
     match random.below(8) {
-        _ if !CHANGED_DAYS => Changes::NONE,
         0 | 1 => Changes::NONE,
         2 => Changes::of(random.pick(&WRONG)),
         _ => right_changes(random),

@@ -7,7 +7,7 @@
 //! lies outside the buffers.
 
 use crate::fence;
-use crate::function::{Function, CHANGED_DAYS};
+use crate::function::Function;
 use crate::lent::Lender;
 
 #[path = "../../exported.rs"]
@@ -74,14 +74,7 @@ impl Library {
 
     /// The list is only lent to read: that it stays is seen to here.
     pub fn day(&mut self, store: &mut [u8], day: u32, changes: &[u32]) -> i64 {
-        assert!(
-            CHANGED_DAYS || changes.is_empty(),
-            "the call takes no list yet"
-        );
         let (len, mut lent) = (store.len(), changes.to_vec());
-        #[cfg(not(feature = "changed-days"))]
-        let call = |at: [*mut u8; 2]| unsafe { c::hourlog_day(at[0], len, day) };
-        #[cfg(feature = "changed-days")]
         let call = |at: [*mut u8; 2]| unsafe {
             c::hourlog_day(at[0], len, day, at[1].cast(), changes.len())
         };

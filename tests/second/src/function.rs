@@ -1,9 +1,5 @@
 //! The library's functions: which of them it has, and what they may refuse.
 
-/// Whether the day call takes a list of changed days; else it is given the
-/// empty one.
-pub const CHANGED_DAYS: bool = cfg!(feature = "changed-days");
-
 #[derive(Clone, Copy, Debug, PartialEq, Eq)]
 pub enum Function {
     Fresh,
@@ -78,8 +74,8 @@ impl Function {
             Function::Set => &[3, 7, 10, 12],
             Function::Insert => &[3, 7, 10, 11, 12],
             Function::Strike => &[7, 10, 12],
-            Function::Day if CHANGED_DAYS => &[7, 10, 16],
-            Function::Count | Function::Reading | Function::Day => &[7, 10],
+            Function::Count | Function::Reading => &[7, 10],
+            Function::Day => &[7, 10, 16],
             Function::Reach => &[8, 10],
             Function::Free => &[10],
             Function::Freeze => &[1, 4, 10],

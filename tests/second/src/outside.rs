@@ -5,7 +5,7 @@
 use crate::book;
 use crate::fence::STEPPED_OUTSIDE;
 use crate::ffi::Library;
-use crate::function::{Function, CHANGED_DAYS};
+use crate::function::Function;
 use crate::image;
 use crate::lent::{Short, Side};
 use crate::store;
@@ -40,7 +40,7 @@ pub fn play() -> bool {
 fn shorts_of(function: Function) -> Vec<Short> {
     let elements: &[usize] = match function {
         Function::Freeze | Function::ImageFromBook | Function::ImageToBook => &[1, 1],
-        Function::Day if CHANGED_DAYS => &[1, 4],
+        Function::Day => &[1, 4],
         Function::ImageLength => &[4],
         Function::ImageWrite => &[4, 1],
         _ => &[1],
@@ -116,8 +116,7 @@ fn make(library: &mut Library, function: Function) -> i64 {
         Function::Count => library.count(&mut store, 0),
         Function::Reading => library.reading(&mut store, 1),
         Function::Reach => library.reach(&mut store, 1),
-        Function::Day if CHANGED_DAYS => library.day(&mut store, 0, &[3, 23, 4, 25]),
-        Function::Day => library.day(&mut store, 0, &[]),
+        Function::Day => library.day(&mut store, 0, &[3, 23, 4, 25]),
         Function::Free => library.free(&mut store),
         Function::Freeze => library.freeze(&mut store, E, &mut image),
         Function::ImageLength => library.image_length(&mut COUNTS.clone(), E),

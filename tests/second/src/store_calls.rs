@@ -3,7 +3,7 @@
 
 use crate::days::Changes;
 use crate::ffi::Library;
-use crate::function::{Function, CHANGED_DAYS};
+use crate::function::Function;
 use crate::image;
 use crate::plain::Plain;
 use crate::refusal::word;
@@ -59,7 +59,6 @@ impl Call {
         match self {
             Call::Insert(..) => Function::Insert.is_there(),
             Call::Strike(_) => Function::Strike.is_there(),
-            Call::Day(_, changes) => changes.is_empty() || CHANGED_DAYS,
             _ => true,
         }
     }

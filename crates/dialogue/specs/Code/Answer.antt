@@ -3,7 +3,7 @@ use mathlib.Core.List.{List, _++_}
 use mathlib.Core.Path.{_≡_}
 use Prim.Native.Nat.{ℕ, _+_, _≤_}
 use lib.ListN.{take}
-use Rattle.session.specs.Printed.{printed}
+use Rattle.session_print.specs.Printed.{printed}
 use Rattle.session.specs.declared.line.Command.{Command}
 use Rattle.replies.specs.Session.{turn}
 use Rattle.dialogue.specs.declared.Standing.{Standing}

@@ -8,11 +8,11 @@ use Rattle.hourlog.proofs.run.Statement.{statement}
 use Rattle.hourlog.proofs.run.Tie as tie
 
 abbrev Inv-loop : tie.InvT-loop
-Inv-loop store₀ line₀ chunk₀ out₀ place₀ turns₀ t11 store line chunk out place turns =
-    (length store ≡ length store₀) × (length line ≡ length line₀) × (length chunk ≡ length chunk₀) × (length out ≡ length out₀)
+Inv-loop store₀ out₀ line₀ chunk₀ place₀ turns₀ t11 store out line chunk place turns =
+    (length store ≡ length store₀) × (length out ≡ length out₀) × (length line ≡ length line₀) × (length chunk ≡ length chunk₀)
 
 abbrev μ-loop : tie.MeasureT-loop
-μ-loop store₀ line₀ chunk₀ out₀ place₀ turns₀ t11 store line chunk out place turns = turns
+μ-loop store₀ out₀ line₀ chunk₀ place₀ turns₀ t11 store out line chunk place turns = turns
 
 buffer-requires : tie.Need-buffer-requires Inv-loop μ-loop
 buffer-requires c κs = search needs
@@ -38,6 +38,9 @@ write-all-requires c κs = search needs
 same-length : tie.Need-same-length Inv-loop μ-loop
 same-length c = search needs
 
+same-length-2 : tie.Need-same-length-2 Inv-loop μ-loop
+same-length-2 c = search needs
+
 returns : tie.Need-returns Inv-loop μ-loop
 returns c = search needs
 
@@ -56,14 +59,11 @@ array-share-prefix-chunk c = search needs
 slice-aggregate-feed-2 : tie.Need-slice-aggregate-feed-2 Inv-loop μ-loop
 slice-aggregate-feed-2 c = search needs
 
-slice-aggregate-feed-3 : tie.Need-slice-aggregate-feed-3 Inv-loop μ-loop
-slice-aggregate-feed-3 c = search needs
-
 feed-requires : tie.Need-feed-requires Inv-loop μ-loop
 feed-requires c κs = search needs
 
-array-share-prefix-out : tie.Need-array-share-prefix-out Inv-loop μ-loop
-array-share-prefix-out c = search needs
+slice-reshare-prefix-write : tie.Need-slice-reshare-prefix-write Inv-loop μ-loop
+slice-reshare-prefix-write c = search needs
 
 slice-aggregate-write : tie.Need-slice-aggregate-write Inv-loop μ-loop
 slice-aggregate-write c = sym (length-take-le _ _ (omega arith))
@@ -71,8 +71,11 @@ slice-aggregate-write c = sym (length-take-le _ _ (omega arith))
 write-requires : tie.Need-write-requires Inv-loop μ-loop
 write-requires c κs = search needs
 
-same-length-2 : tie.Need-same-length-2 Inv-loop μ-loop
-same-length-2 c = search needs
+same-length-3 : tie.Need-same-length-3 Inv-loop μ-loop
+same-length-3 c = search needs
+
+same-length-4 : tie.Need-same-length-4 Inv-loop μ-loop
+same-length-4 c = search needs
 
 returns-2 : tie.Need-returns-2 Inv-loop μ-loop
 returns-2 c = search needs
@@ -89,14 +92,11 @@ loop-again c = (search needs, search needs, search needs, search needs)
 slice-aggregate-close : tie.Need-slice-aggregate-close Inv-loop μ-loop
 slice-aggregate-close c = search needs
 
-slice-aggregate-close-2 : tie.Need-slice-aggregate-close-2 Inv-loop μ-loop
-slice-aggregate-close-2 c = search needs
-
 close-requires : tie.Need-close-requires Inv-loop μ-loop
 close-requires c κs = search needs
 
-array-share-prefix-out-2 : tie.Need-array-share-prefix-out-2 Inv-loop μ-loop
-array-share-prefix-out-2 c = search needs
+slice-reshare-prefix-write-2 : tie.Need-slice-reshare-prefix-write-2 Inv-loop μ-loop
+slice-reshare-prefix-write-2 c = search needs
 
 slice-aggregate-write-2 : tie.Need-slice-aggregate-write-2 Inv-loop μ-loop
 slice-aggregate-write-2 c = sym (length-take-le _ _ (omega arith))
@@ -104,8 +104,11 @@ slice-aggregate-write-2 c = sym (length-take-le _ _ (omega arith))
 write-requires-2 : tie.Need-write-requires-2 Inv-loop μ-loop
 write-requires-2 c κs = search needs
 
-same-length-3 : tie.Need-same-length-3 Inv-loop μ-loop
-same-length-3 c = search needs
+same-length-5 : tie.Need-same-length-5 Inv-loop μ-loop
+same-length-5 c = search needs
+
+same-length-6 : tie.Need-same-length-6 Inv-loop μ-loop
+same-length-6 c = search needs
 
 returns-3 : tie.Need-returns-3 Inv-loop μ-loop
 returns-3 c = search needs
@@ -124,27 +127,28 @@ run-spec =
     slice-aggregate-write-all
     write-all-requires
     same-length
+    same-length-2
     returns
     slice-aggregate-count
     count-requires
     slice-aggregate-feed
     array-share-prefix-chunk
     slice-aggregate-feed-2
-    slice-aggregate-feed-3
     feed-requires
-    array-share-prefix-out
+    slice-reshare-prefix-write
     slice-aggregate-write
     write-requires
-    same-length-2
+    same-length-3
+    same-length-4
     returns-2
     sub-turns
     loop-less
     loop-again
     slice-aggregate-close
-    slice-aggregate-close-2
     close-requires
-    array-share-prefix-out-2
+    slice-reshare-prefix-write-2
     slice-aggregate-write-2
     write-requires-2
-    same-length-3
+    same-length-5
+    same-length-6
     returns-3)

@@ -4,8 +4,10 @@ use mathlib.Core.List.{List}
 use mathlib.Core.Path.{_≡_}
 use Prim.Native.Nat.{ℕ, _+_, _≤_}
 use Rattle.tree.specs.Code.Node.{Lies}
+use Rattle.image.specs.Code.Head.{Opened}
 use Rattle.image.specs.Query.{beforePassing, pageFine, passing}
 use Rattle.image.specs.Read.{beforeOf, eOf, lOf, rootOf, sOf, startOf, sumOf, treeAt, widthOf}
+use Rattle.image.specs.declared.head.Head.{Head}
 use Rattle.image.specs.declared.page.Root.{Root}
 use Rattle.image.specs.declared.page.Page.{Page}
 
@@ -20,6 +22,14 @@ pub record RootAt (s : List ℕ) (p : ℕ) (r : Root) : Type 0 where
 pub record BeforeAt (s : List ℕ) (p : ℕ) (r : Root) : Type 0 where
   pub ok-is : r .ok ≡ not (beforePassing s p)
   pub value-is : r .ok ≡ true → r .value ≡ beforeOf s p
+
+-- there is an image with this header and a page p of it whose root is own, the root before it being last
+pub record Rooted (h : Head) (own last : Root) : Type 0 where
+  pub s : List ℕ
+  pub p : ℕ
+  pub opened : Opened s h
+  pub own-at : RootAt s p own
+  pub last-at : BeforeAt s p last
 
 -- page p: whether it has no damage but in its tree, the root before it, its sum, and its tree, which lies in the bytes
 pub record PageAt (s : List ℕ) (p : ℕ) (r : Page) : Type 0 where

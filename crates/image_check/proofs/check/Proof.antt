@@ -9,7 +9,7 @@ use borrow.Author.Tests.{not-true, not-false}
 use Rattle.answers.specs.Image.{ruled}
 use Rattle.image.specs.Check.{headed}
 use Rattle.image.specs.Code.Head.{Opened, Opens}
-use Rattle.image_check.proofs.CheckSteps.{check-five, check-holds, check-six}
+use Rattle.image_test.proofs.CheckSteps.{check-five, check-holds, check-six}
 use Rattle.image_check.proofs.check.Statement.{statement}
 use Rattle.image_check.proofs.check.Tie as tie
 

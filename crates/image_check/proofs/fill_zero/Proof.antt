@@ -1,7 +1,7 @@
 -- `image_check::fill_zero` meets its contract. Assumes nothing.
 use mathlib.Core.Path.{_∙_}
 use native.Mathlib.Omega.{arith}
-use Rattle.image_check.proofs.CheckSteps.{fill-is}
+use Rattle.image_test.proofs.CheckSteps.{fill-is}
 use Rattle.image.proofs.HeadLaws.{bounds}
 use Rattle.image_check.proofs.fill_zero.Statement.{statement}
 use Rattle.image_check.proofs.fill_zero.Tie as tie

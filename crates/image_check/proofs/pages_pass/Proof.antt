@@ -4,8 +4,8 @@ use Prim.Native.Nat.{ℕ, _-_, _≤_}
 use native.Mathlib.Omega.{arith}
 use borrow.Author.Tests.{not-true, not-false}
 use Rattle.image.specs.Read.{pagesOf}
-use Rattle.image_check.specs.Code.Test.{pagesFrom}
-use Rattle.image_check.proofs.CheckSteps.{pages-done, pages-on, pages-short, pages-stop}
+use Rattle.image_test.specs.Code.Test.{pagesFrom}
+use Rattle.image_test.proofs.CheckSteps.{pages-done, pages-on, pages-short, pages-stop}
 use Rattle.image_check.proofs.pages_pass.Statement.{statement}
 use Rattle.image_check.proofs.pages_pass.Tie as tie
 

@@ -1,6 +1,6 @@
 -- `image_check::rest_zero` meets its contract. Assumes nothing.
 use native.Mathlib.Omega.{arith}
-use Rattle.image_check.proofs.CheckSteps.{rest-none, rest-some}
+use Rattle.image_test.proofs.CheckSteps.{rest-none, rest-some}
 use Rattle.image_check.proofs.rest_zero.Statement.{statement}
 use Rattle.image_check.proofs.rest_zero.Tie as tie
 

@@ -1,28 +1,19 @@
 -- `image_page::page_counts` meets its contract. Assumes nothing.
 use mathlib.Core.Path.{_≡_}
-use Prim.Native.Nat.{_+_, _*_}
 use native.Mathlib.Omega.{arith}
 use borrow.Author.Needs.{needs}
-use Rattle.image.specs.Read.{codeAt, widthOf}
-use Rattle.image_page.proofs.AcceptedPage.{Numbers, Page, accepted-page, decoded, head-code, head-width, room, sum-fits, tree-coded, tree-lies, tree-small}
+use Rattle.image.specs.Read.{widthOf}
+use Rattle.image_page.proofs.AcceptedPage.{Numbers, Page, accepted-page, decoded, head-width, room, sum-fits, tree-coded, tree-lies, tree-small}
 use Rattle.image_page.proofs.page_counts.Statement.{statement}
 use Rattle.image_page.proofs.page_counts.Tie as tie
 
 page : (c : tie.Start) → Page (c .args .s .now) (c .args .p)
 page c = accepted-page (c .args .s .now) (c .pre .0) (c .args .p) (c .pre .2)
 
-pages-of-requires : tie.Need-pages-of-requires
-pages-of-requires c κs =
-    let a = c .before .before in
-    omega (arith, page a .e-high, a .pre .1)
-
--- the header's numbers
+-- the width of a root
 module _ (c : tie.After-digits-of) where
   abbrev call : tie.Start
-  call = c .before .before .before .before
-
-  code-is : 8 * (16 + 4 * c .before .pages-of .result) ≡ codeAt (call .args .s .now)
-  code-is = head-code (call .pre .1) (c .before .pages-of .ensures .0)
+  call = c .before .before .before
 
   width-is : c .digits-of .result ≡ widthOf (call .args .s .now)
   width-is = head-width (call .pre .1) (c .digits-of .ensures)
@@ -33,25 +24,15 @@ module _ (c : tie.After-start-of) where
   top = c .before .before .before
 
   numbers : Numbers (call top .args .s .now) (call top .args .h) (call top .args .p) (c .before .before .root-of .result)
-      (c .before .root-before .result) (8 * (16 + 4 * top .before .pages-of .result)) (c .start-of .result) (top .digits-of .result)
+      (c .before .root-before .result) (c .start-of .result) (top .digits-of .result)
   numbers = record {
     page = page (call top);
     head = call top .pre .1;
     root-is = c .before .before .root-of .ensures;
     before-is = c .before .root-before .ensures;
-    code-is = code-is top;
     start-is = c .start-of .ensures;
     width-is = width-is top;
   }
-
-mul-code : tie.Need-mul-code
-mul-code c = search needs
-
-add-code : tie.Need-add-code
-add-code c = search needs
-
-mul-code-2 : tie.Need-mul-code-2
-mul-code-2 c = search needs
 
 digits-of-requires : tie.Need-digits-of-requires
 digits-of-requires c κs = search needs
@@ -59,34 +40,35 @@ digits-of-requires c κs = search needs
 root-of-requires : tie.Need-root-of-requires
 root-of-requires c κs =
     let a = call c in
-    (a .pre .0, a .pre .2, code-is c, width-is c)
+    (a .pre .0, a .pre .1, a .pre .2, width-is c)
 
 root-before-requires : tie.Need-root-before-requires
 root-before-requires c κs =
     let a = call (c .before) in
-    (a .pre .0, a .pre .2, code-is (c .before), width-is (c .before))
+    (a .pre .0, a .pre .1, a .pre .2, width-is (c .before))
 
 start-of-requires : tie.Need-start-of-requires
 start-of-requires c κs = search needs
 
 add-tree : tie.Need-add-tree
-add-tree c = omega (arith, tree-small (numbers c))
+add-tree c = omega (arith, tree-small (numbers (c .before)))
 
 cast-tree : tie.Need-cast-tree
 cast-tree c = search needs
 
 add-tree-2 : tie.Need-add-tree-2
-add-tree-2 c = omega (arith, tree-small (numbers c))
+add-tree-2 c = omega (arith, tree-small (numbers (c .before)))
 
 sub-decode : tie.Need-sub-decode
 sub-decode c =
-    let n = numbers c in
+    let n = numbers (c .before) in
     omega (arith, n .page .rises, n .root-is, n .before-is)
 
 decode-requires : tie.Need-decode-requires
 decode-requires c κs =
-    let n = numbers (c .before) in
-    (tree-lies n, tree-coded n, sum-fits n, room n _ (call (top (c .before)) .pre .3))
+    let d = c .before .before in
+    let n = numbers d in
+    (tree-lies n, tree-coded n, sum-fits n, room n _ (call (top d) .pre .3))
 
 same-length : tie.Need-same-length
 same-length c = search needs
@@ -94,16 +76,12 @@ same-length c = search needs
 returns : tie.Need-returns
 returns c =
     let d = c .before .before in
-    decoded (numbers (d .before .before)) _ _ (d .decode .ensures)
+    decoded (numbers (d .before .before .before)) _ _ (d .decode .ensures)
 
 pub page-counts-spec : {M : Type 1} → statement M
 page-counts-spec =
     tie.close
     (tie.spec
-    pages-of-requires
-    mul-code
-    add-code
-    mul-code-2
     digits-of-requires
     root-of-requires
     root-before-requires

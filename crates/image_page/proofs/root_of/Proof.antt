@@ -11,28 +11,28 @@ use Rattle.image_page.proofs.root_of.Statement.{statement}
 use Rattle.image_page.proofs.root_of.Tie as tie
 
 page : (c : tie.Start) → Page (c .args .s .now) (c .args .p)
-page c = accepted-page (c .args .s .now) (c .pre .0) (c .args .p) (c .pre .1)
+page c = accepted-page (c .args .s .now) (c .pre .0) (c .args .p) (c .pre .2)
 
 start-of-requires : tie.Need-start-of-requires
 start-of-requires c κs = search needs
 
 add-get-field : tie.Need-add-get-field
 add-get-field c =
-    let g = page (c .before .before) in
-    omega (arith, g .end-low, g .code-low, c .start-of .ensures)
+    let g = page (c .before .before .before) in
+    omega (arith, g .end-low, g .code-low, c .before .before .before .pre .1 .code-is, c .before .start-of .ensures)
 
 get-field-requires : tie.Need-get-field-requires
 get-field-requires c κs =
-    let g = page (c .before .before) in
-    let e = c .start-of .ensures in
-    omega (arith, g .end-low, g .code-low, g .end-in, g .narrow, g .entry-in)
+    let a = c .before .before .before in
+    let g = page a in
+    omega (arith, g .end-low, g .code-low, g .end-in, g .narrow, g .entry-in, a .pre .1 .code-is, c .before .start-of .ensures)
 
 returns : tie.Need-returns
 unfolding rootOf
 returns c =
-    let a = c .before .before .before in
+    let a = c .before .before .before .before in
     c .get-field .ensures
-    ∙ ap₂ (λ (x y : ℕ). value (part (bits (a .args .s .now)) x y)) (ap₂ _+_ (a .pre .2) (c .before .start-of .ensures)) (a .pre .3)
+    ∙ ap₂ (λ (x y : ℕ). value (part (bits (a .args .s .now)) x y)) (ap₂ _+_ (a .pre .1 .code-is) (c .before .before .start-of .ensures)) (a .pre .3)
 
 pub root-of-spec : {M : Type 1} → statement M
 root-of-spec = tie.close (tie.spec start-of-requires add-get-field get-field-requires returns)

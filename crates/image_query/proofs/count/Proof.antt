@@ -6,7 +6,8 @@ use borrow.Author.Needs.{needs}
 use Rattle.answers.specs.Image.{told}
 use Rattle.image.specs.Check.{headed}
 use Rattle.image.specs.Code.Head.{Opened, Opens}
-use Rattle.image_query.proofs.LookSteps.{count-five, count-found, count-seven}
+use Rattle.image.proofs.HeadLaws.{bounds}
+use Rattle.image_query.proofs.LookSteps.{count-five, count-found, count-seven, look-between, look-page}
 use Rattle.image_query.proofs.count.Statement.{statement}
 use Rattle.image_query.proofs.count.Tie as tie
 
@@ -35,16 +36,46 @@ returns-2 : tie.Need-returns-2
 unfolding told
 returns-2 c = count-seven (past (c .before .before .before)) _ (c .if1 .taken)
 
-look-requires : tie.Need-look-requires
-look-requires c κs = (past (c .before .before .before), omega (arith, c .if1 .left), omega arith)
+page-with-requires : tie.Need-page-with-requires
+page-with-requires c κs = bounds _ _ (past (c .before .before .before)) .e-high
+
+root-of-requires : tie.Need-root-of-requires
+root-of-requires c κs =
+    let l = c .before in
+    let o = past (l .before .before .before) in
+    (o, look-page _ _ o _ 0 (c .page-with .ensures) (l .if1 .left))
+
+root-before-requires : tie.Need-root-before-requires
+root-before-requires c κs =
+    let l = c .before .before in
+    let o = past (l .before .before .before) in
+    (o, look-page _ _ o _ 0 (c .before .page-with .ensures) (l .if1 .left))
+
+page-between-requires : tie.Need-page-between-requires
+page-between-requires c κs = record {
+  s = _;
+  p = _;
+  opened = past (c .before .before .before .before .before .before);
+  own-at = c .before .root-of .ensures;
+  last-at = c .root-before .ensures;
+}
+
+look-in-requires : tie.Need-look-in-requires
+look-in-requires c κs =
+    let t = c .before .before in
+    let o = past (t .before .before .before .before .before) in (
+      o,
+      look-between _ _ o _ 0 (t .before .page-with .ensures) (t .root-of .ensures) (c .before .root-before .ensures) (c .page-between .ensures),
+      omega arith,
+    )
 
 answer-of-requires : tie.Need-answer-of-requires
 answer-of-requires c κs = tt
 
 returns-3 : tie.Need-returns-3
 returns-3 c =
-    let l = c .before .before in
-    c .answer-of .ensures ∙ count-found (past (l .before .before .before)) _ (l .if1 .left) (c .before .look .ensures)
+    let l = c .before .before .before .before .before .before in
+    c .answer-of .ensures ∙ count-found (past (l .before .before .before)) _ (l .if1 .left) (c .before .look-in .ensures)
 
 pub count-spec : {M : Type 1} → statement M
 count-spec =
@@ -55,6 +86,10 @@ count-spec =
     enum-told
     returns
     returns-2
-    look-requires
+    page-with-requires
+    root-of-requires
+    root-before-requires
+    page-between-requires
+    look-in-requires
     answer-of-requires
     returns-3)

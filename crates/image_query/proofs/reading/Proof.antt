@@ -6,7 +6,8 @@ use borrow.Author.Needs.{needs}
 use Rattle.answers.specs.Image.{told}
 use Rattle.image.specs.Check.{headed}
 use Rattle.image.specs.Code.Head.{Opened, Opens}
-use Rattle.image_query.proofs.LookSteps.{reading-five, reading-found, reading-none, reading-seven}
+use Rattle.image.proofs.HeadLaws.{bounds}
+use Rattle.image_query.proofs.LookSteps.{look-between, look-page, reading-five, reading-found, reading-none, reading-seven}
 use Rattle.image_query.proofs.reading.Statement.{statement}
 use Rattle.image_query.proofs.reading.Tie as tie
 
@@ -39,20 +40,50 @@ returns-3 : tie.Need-returns-3
 unfolding told
 returns-3 c = reading-none (past (c .before .before .before .before)) _ (c .if2 .taken)
 
-sub-look : tie.Need-sub-look
-sub-look c = omega (arith, c .if2 .left)
+sub-hour : tie.Need-sub-hour
+sub-hour c = omega (arith, c .if2 .left)
 
-look-requires : tie.Need-look-requires
-look-requires c κs = (past (c .before .before .before .before), omega (arith, c .before .if1 .left, c .if2 .left), omega arith)
+page-with-requires : tie.Need-page-with-requires
+page-with-requires c κs = bounds _ _ (past (c .before .before .before .before)) .e-high
+
+root-of-requires : tie.Need-root-of-requires
+root-of-requires c κs =
+    let l = c .before in
+    let o = past (l .before .before .before .before) in
+    (o, look-page _ _ o _ 1 (c .page-with .ensures) (omega (arith, l .before .if1 .left, l .if2 .left)))
+
+root-before-requires : tie.Need-root-before-requires
+root-before-requires c κs =
+    let l = c .before .before in
+    let o = past (l .before .before .before .before) in
+    (o, look-page _ _ o _ 1 (c .before .page-with .ensures) (omega (arith, l .before .if1 .left, l .if2 .left)))
+
+page-between-requires : tie.Need-page-between-requires
+page-between-requires c κs = record {
+  s = _;
+  p = _;
+  opened = past (c .before .before .before .before .before .before .before);
+  own-at = c .before .root-of .ensures;
+  last-at = c .root-before .ensures;
+}
+
+look-in-requires : tie.Need-look-in-requires
+look-in-requires c κs =
+    let t = c .before .before in
+    let o = past (t .before .before .before .before .before .before) in (
+      o,
+      look-between _ _ o _ 1 (t .before .page-with .ensures) (t .root-of .ensures) (c .before .root-before .ensures) (c .page-between .ensures),
+      omega arith,
+    )
 
 answer-of-requires : tie.Need-answer-of-requires
 answer-of-requires c κs = tt
 
 returns-4 : tie.Need-returns-4
 returns-4 c =
-    let l = c .before .before in
+    let l = c .before .before .before .before .before .before in
     c .answer-of .ensures
-    ∙ reading-found (past (l .before .before .before .before)) _ (omega (arith, l .if2 .left)) (l .before .if1 .left) (c .before .look .ensures)
+    ∙ reading-found (past (l .before .before .before .before)) _ (omega (arith, l .if2 .left)) (l .before .if1 .left) (c .before .look-in .ensures)
 
 pub reading-spec : {M : Type 1} → statement M
 reading-spec =
@@ -64,7 +95,11 @@ reading-spec =
     returns
     returns-2
     returns-3
-    sub-look
-    look-requires
+    sub-hour
+    page-with-requires
+    root-of-requires
+    root-before-requires
+    page-between-requires
+    look-in-requires
     answer-of-requires
     returns-4)

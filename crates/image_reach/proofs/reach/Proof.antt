@@ -8,8 +8,8 @@ use Rattle.answers.specs.Image.{told, given}
 use Rattle.image.specs.Check.{headed}
 use Rattle.image.specs.Code.Head.{Opened, Opens}
 use Rattle.image.specs.Reach.{Reach}
-use Rattle.image_reach.proofs.SearchSteps.{reach-eight, reach-five}
-use Rattle.image_reach.proofs.ReachLaws.{reach-zero}
+use Rattle.image_find.proofs.SearchSteps.{reach-eight, reach-five}
+use Rattle.image_find.proofs.ReachLaws.{reach-zero}
 use Rattle.image_reach.proofs.reach.Statement.{statement}
 use Rattle.image_reach.proofs.reach.Tie as tie
 

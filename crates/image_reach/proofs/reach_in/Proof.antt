@@ -6,32 +6,56 @@ use native.Mathlib.Omega.{arith}
 use borrow.Author.Tests.{not-true, not-false}
 use Rattle.tree.specs.Code.Node.{Lies}
 use Rattle.answers.specs.Image.{told, given, refused}
+use Rattle.image.specs.Code.Head.{Opened}
+use Rattle.image.specs.Code.Page.{Rooted}
 use Rattle.image.specs.Reach.{Reach}
+use Rattle.image.specs.Read.{pagesOf}
 use Rattle.image.proofs.HeadLaws.{bounds}
-use Rattle.image_reach.proofs.SearchSteps.{AtPage, above, before-small, found-six, index, last-six, page-in, page-six}
+use Rattle.image_find.proofs.SearchSteps.{AtPage, above, before-small, found-six, index, last-six, page-in, page-six}
 use Rattle.image_reach.proofs.reach_in.Statement.{statement}
 use Rattle.image_reach.proofs.reach_in.Tie as tie
 
 -- ---- where the code stands
-abbrev entry : tie.After-page-of → tie.Start
-entry c = c .before .before .before .before
+abbrev looked : tie.After-page-between → tie.Else1
+looked c = c .before .before .before
 
-abbrev read : tie.Else2 → tie.After-page-of
+abbrev entry : tie.After-page-between → tie.Start
+entry c = looked c .before .before .before
+
+abbrev read : tie.Else2 → tie.After-page-between
 read c = c .before .before
 
 abbrev fine : tie.After-power → tie.Else2
 fine c = c .before .before .before .before
 
+-- the page that was found is one of the image's
+page-known : (c : tie.Else1) → let a = c .before .before .before in Opened (a .args .s .now) (a .args .h) × (a .args .at .lo < pagesOf (a .args .s .now))
+page-known c =
+    let a = c .before .before .before in
+    (a .pre .0, page-in (a .pre .2 .between (not-false (a .args .at .ok) (c .if1 .left))))
+
+-- its roots were read
+abbrev rooted : (c : tie.After-root-before) → Rooted (c .before .before .before .before .before .args .h) (c .before .root-of .result) (c .root-before .result)
+rooted c =
+    let a = c .before .before .before .before .before in
+    record { s = a .args .s .now; p = a .args .at .lo; opened = a .pre .0; own-at = c .before .root-of .ensures; last-at = c .root-before .ensures }
+
 -- the page that was found was read
-at-page : (c : tie.After-page-of) → AtPage (entry c .args .s .now) (entry c .args .h) (entry c .args .q) (entry c .args .at) (c .page-of .result)
+at-page : (c : tie.After-page-between) → AtPage (entry c .args .s .now) (entry c .args .h) (entry c .args .q) (entry c .args .at) (c .page-between .result)
 at-page c =
     let a = entry c in
-    let ok = not-false (a .args .at .ok) (c .before .if1 .left) in
-    record { opened = a .pre .0; within = a .pre .1; between = a .pre .2 .between ok; one = a .pre .2 .one ok; page = c .page-of .ensures }
+    let ok = not-false (a .args .at .ok) (looked c .if1 .left) in
+    record {
+      opened = a .pre .0;
+      within = a .pre .1;
+      between = a .pre .2 .between ok;
+      one = a .pre .2 .one ok;
+      page = c .page-between .ensures (rooted (c .before));
+    }
 
 -- and has no damage
-page-ok : (c : tie.Else2) → read c .page-of .result .ok ≡ true
-page-ok c = not-false (read c .page-of .result .ok) (c .if2 .left)
+page-ok : (c : tie.Else2) → read c .page-between .result .ok ≡ true
+page-ok c = not-false (read c .page-between .result .ok) (c .if2 .left)
 
 -- where the page's hours start
 first-small : (c : tie.After-power)
@@ -60,17 +84,20 @@ returns c =
     found-six (a .args .s .now) (a .args .h) (a .pre .0) (a .args .q) (a .pre .1)
     (a .pre .2 .damage (not-true (a .args .at .ok) (c .if1 .taken)))
 
-page-of-requires : tie.Need-page-of-requires
-page-of-requires c κs =
-    let a = c .before .before .before in
-    let ok = not-false (a .args .at .ok) (c .if1 .left) in
-    (a .pre .0, page-in (a .pre .2 .between ok))
+root-of-requires : tie.Need-root-of-requires
+root-of-requires c κs = page-known c
+
+root-before-requires : tie.Need-root-before-requires
+root-before-requires c κs = page-known (c .before)
+
+page-between-requires : tie.Need-page-between-requires
+page-between-requires c κs = rooted c
 
 returns-2 : tie.Need-returns-2
 unfolding told
 returns-2 c =
     let r = c .before .before in
-    page-six (at-page r) (not-true (r .page-of .result .ok) (c .if2 .taken))
+    page-six (at-page r) (not-true (r .page-between .result .ok) (c .if2 .taken))
 
 add-if3 : tie.Need-add-if3
 add-if3 c =
@@ -101,9 +128,9 @@ search-requires : tie.Need-search-requires
 search-requires c κs =
     let w = c .before in
     let e = fine w in
-    let r = read e .page-of in (
+    let r = read e .page-between in (
       subst (λ (h : ℕ). Lies (entry (read e) .args .s .now) (r .result .at) h (r .result .sum)) (sym (at-page (read e) .opened .head .e-is))
-          (r .ensures .lies (page-ok e)),
+          (at-page (read e) .page .lies (page-ok e)),
       omega (arith, first-small w),
     )
 
@@ -120,7 +147,9 @@ reach-in-spec =
     tie.close
     (tie.spec
     returns
-    page-of-requires
+    root-of-requires
+    root-before-requires
+    page-between-requires
     returns-2
     add-if3
     returns-3

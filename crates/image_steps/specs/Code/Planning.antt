@@ -7,7 +7,7 @@ use lib.ListN.{length}
 use Rattle.lists.specs.Lists.{reading, sum}
 use Rattle.reserve.specs.Reserve.{digits}
 use Rattle.image.specs.Calls.{lengthCall}
-use Rattle.image.specs.Image.{Limits, code, page, pages, start}
+use Rattle.image.specs.Image.{Limits, code, maxHours, page, pages, start, tableAt}
 use Rattle.answers.specs.Image.{refused}
 use Rattle.image_steps.specs.declared.plan.Layout.{Layout}
 use Rattle.image_steps.specs.declared.plan.Plan.{Plan}
@@ -29,7 +29,7 @@ pub record Passed (e : ℕ) (xs : List ℕ) (p total trees : ℕ) : Type 0 where
 pub record Drafted (e : ℕ) (xs : List ℕ) (r : Plan) : Type 0 where
   pub e-low : 2 ≤ e
   pub e-high : e ≤ 8
-  pub short : length xs ≤ 65536
+  pub short : length xs ≤ maxHours
   pub e-is : r .e ≡ e
   pub hours-are : r .hours ≡ length xs
   pub pages-are : r .pages ≡ pages e (length xs)
@@ -64,7 +64,7 @@ pub record Whole (r : Plan) : Type 0 where
 -- ---- a layout
 -- where the code starts among the bits of an image, behind the header and the table
 abbrev pub codeStart : ℕ → List ℕ → ℕ
-codeStart e xs = 8 * (16 + 4 * pages e (length xs))
+codeStart e xs = 8 * tableAt (pages e (length xs))
 
 -- the layout of the image of xs
 pub record LayoutOf (e : ℕ) (xs : List ℕ) (r : Layout) : Type 0 where

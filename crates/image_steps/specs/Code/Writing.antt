@@ -7,7 +7,7 @@ use lib.ListN.{length, getD}
 use Rattle.lists.specs.Lists.{concat, reading, splice, tabulate, window}
 use Rattle.bits.specs.Bits.{bits}
 use Rattle.bits.specs.Numbers.{little}
-use Rattle.image.specs.Image.{Limits, code, firstPages, header, image, page, start, table}
+use Rattle.image.specs.Image.{Limits, code, firstPages, header, image, maxHours, page, start, table}
 use Rattle.image_steps.specs.Code.Planning.{LayoutOf, codeStart}
 use Rattle.image_steps.specs.declared.plan.Layout.{Layout}
 use Rattle.image_steps.specs.declared.put.Place.{Place}
@@ -57,7 +57,7 @@ pub record Handed (r : Layout) (at : Place) (counts : List ℕ) (from : ℕ) (ou
   pub so-far : Laid xs first out r at
   pub more : at .page < r .pages
   pub counts-are : window counts from (2 ^ r .e) ≡ page (r .e) xs (at .page)
-  pub near : from ≤ 65536
+  pub near : from ≤ maxHours
 
 -- .. all of whose pages stand there
 pub record Filled (r : Layout) (out : List ℕ) : Type 0 where

@@ -2,6 +2,7 @@
 use native.Mathlib.Omega.{arith}
 use Rattle.store.proofs.SoundFacts.{facts}
 use Rattle.store.proofs.CallLaws.{append-11, append-asks, append-go}
+use Rattle.live_change.proofs.AppendTotal.{append-3}
 use borrow.Author.Needs.{needs}
 use Rattle.live_change.proofs.append.Statement.{statement}
 use Rattle.live_change.proofs.append.Tie as tie
@@ -20,23 +21,41 @@ returns c =
     let b = c .before .before .before .before .before .before in
     append-11 (b .args .v) (b .pre) (c .before .before .before .of .ensures) (c .if1 .taken)
 
-add-change-hour : tie.Need-add-change-hour
-add-change-hour c = search needs
+total-requires : tie.Need-total-requires
+total-requires c κs = search needs
 
-change-hour-requires : tie.Need-change-hour-requires
-change-hour-requires c κs =
+add-if2 : tie.Need-add-if2
+add-if2 c =
     let b = c .before .before .before .before .before .before .before .before in
-    let h = c .before .before .before .before .before .of .ensures in
-    (append-asks (b .args .v) (b .pre) h (c .before .before .if1 .left), omega (arith, h .hours-is))
+    omega (arith, c .total .ensures, facts (b .args .s .now) (b .pre) .total-fits, b .fits .v)
 
 same-length-2 : tie.Need-same-length-2
 same-length-2 c = search needs
 
 returns-2 : tie.Need-returns-2
 returns-2 c =
-    let b = c .before .before .before .before .before .before .before .before .before .before .before in
-    append-go (b .args .v) (b .pre) (c .before .before .before .before .before .before .before .before .of .ensures)
-    (c .before .before .before .before .before .if1 .left) (c .before .before .change-hour .ensures)
+    let e = c .before .before .before in
+    let b = e .before .before .before .before .before .before in
+    append-3 (b .args .v) (b .pre) (e .before .before .before .of .ensures) (e .if1 .left) (c .before .total .ensures) (c .if2 .taken)
+
+add-change-hour : tie.Need-add-change-hour
+add-change-hour c = search needs
+
+change-hour-requires : tie.Need-change-hour-requires
+change-hour-requires c κs =
+    let e = c .before .before .before .before .before in
+    let b = e .before .before .before .before .before .before in
+    let h = e .before .before .before .of .ensures in
+    (append-asks (b .args .v) (b .pre) h (e .if1 .left), omega (arith, h .hours-is))
+
+same-length-3 : tie.Need-same-length-3
+same-length-3 c = search needs
+
+returns-3 : tie.Need-returns-3
+returns-3 c =
+    let e = c .before .before .before .before .before .before .before .before in
+    let b = e .before .before .before .before .before .before in
+    append-go (b .args .v) (b .pre) (e .before .before .before .of .ensures) (e .if1 .left) (c .before .before .change-hour .ensures)
 
 pub append-spec : {M : Type 1} → statement M
 append-spec =
@@ -46,7 +65,11 @@ append-spec =
     mul-if1
     same-length
     returns
+    total-requires
+    add-if2
+    same-length-2
+    returns-2
     add-change-hour
     change-hour-requires
-    same-length-2
-    returns-2)
+    same-length-3
+    returns-3)

@@ -18,9 +18,9 @@ use Rattle.tree_check.proofs.+check_node.Lts-check_node as check-node-l
 use Rattle.reserve.proofs.digits_of.Reads as digits-of-reads
 use Rattle.reserve_table.proofs.reserve_by.Reads as reserve-by-reads
 use Rattle.tree_check.proofs.left_sum.Reads as left-sum-reads
-use Rattle.tree_check.proofs.low_levels.Reads as low-levels-reads
-use Rattle.tree_check.proofs.one_load.Reads as one-load-reads
-use Rattle.tree_check.proofs.zero_bits.Reads as zero-bits-reads
+use Rattle.tree_lowest.proofs.low_levels.Reads as low-levels-reads
+use Rattle.tree_lowest.proofs.one_load.Reads as one-load-reads
+use Rattle.tree_lowest.proofs.zero_bits.Reads as zero-bits-reads
 use Rattle.tree_check.proofs.+check_node.{statement}
 use Rattle.tree_check.proofs.+check_node.Tie.{close}
 

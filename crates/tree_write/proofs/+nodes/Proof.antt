@@ -14,7 +14,7 @@ use borrow.Fn.PlainCycle.{Measures, is, falls, and}
 use Rattle.tree_write.proofs.nodes.Reads as nodes
 use Rattle.tree_write.proofs.nodes.Kinds as nodes-kinds
 use Rattle.tree_write.proofs.+nodes.Lts-nodes as nodes-lts
-use Rattle.bits.proofs.add_field.Reads as add-field-reads
+use Rattle.bits_field.proofs.add_field.Reads as add-field-reads
 use Rattle.reserve.proofs.digits_of.Reads as digits-of-reads
 use Rattle.reserve.proofs.power.Reads as power-reads
 use Rattle.reserve.proofs.reserve_of.Reads as reserve-of-reads

@@ -2,6 +2,7 @@
 
 mod bags;
 mod books;
+mod coins;
 mod days;
 mod examples;
 mod image_damage;
@@ -14,7 +15,7 @@ mod store_damage;
 mod store_faults;
 mod stretches;
 
-use crate::function::{Function, CHANGED_DAYS};
+use crate::function::Function;
 use crate::run::{Outcome, Run};
 
 pub struct Suite {
@@ -29,14 +30,15 @@ pub fn all() -> impl Iterator<Item = &'static Suite> {
 }
 
 /// The quick ones first.
-static ALL: [Suite; 13] = [
+static ALL: [Suite; 14] = [
     suite("document 01's examples", examples::play),
+    suite("what more coins cost", coins::play),
     suite("named faults of images", image_faults::play),
     suite("named faults of stores", store_faults::play),
     suite("busiest stretches", stretches::play).if_there(Function::ImageBusiest.is_there()),
     suite("bags", bags::play).if_there(Function::ImageMatch.is_there()),
     suite("books", books::play),
-    suite("days with a clock change", days::play).if_there(CHANGED_DAYS),
+    suite("days with a clock change", days::play),
     suite("insert and strike", insert_strike::play).if_there(Function::Insert.is_there()),
     suite("lists of calls on small stores", sessions::play),
     suite("images", images::play),

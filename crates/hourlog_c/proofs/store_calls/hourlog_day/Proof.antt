@@ -12,7 +12,7 @@ of-store-requires : tie.Need-of-store-requires
 of-store-requires c κs = search needs
 
 returns : tie.Need-returns
-returns c = live-answers _ _ _ _ _ (λ (j : ℕ). c .before .before .shared-slice-known .given j .fits) (c .of-store .ensures) (c .before .day .ensures)
+returns c = live-answers _ _ _ _ _ (λ (j : ℕ). c .before .before .before .shared-slice-known .given j .fits) (c .of-store .ensures) (c .before .day .ensures)
 
 pub hourlog-day-spec : {M : Type 1} → statement M
 hourlog-day-spec = tie.close (tie.spec day-requires of-store-requires returns)

@@ -100,6 +100,9 @@ slice-reshare-prefix-day c = search needs
 slice-aggregate-day : tie.Need-slice-aggregate-day
 slice-aggregate-day c = front-long _ _ _ (c .before .before .before .before .smaller .ensures)
 
+slice-aggregate-day-2 : tie.Need-slice-aggregate-day-2
+slice-aggregate-day-2 c = search needs
+
 day-requires : tie.Need-day-requires
 day-requires c κs = search needs
 
@@ -140,7 +143,7 @@ unfolding turn
 returns-2 c =
     let r = c .before .before .before .append in
     changes-it (Call.Append _) (c .before .before .before .before .before .before .before .before .smaller .ensures)
-    (c .before .before .before .before .before .before .command2 .given .1) (c .kept .ensures) refl (r .ensures) (r .kept .0)
+    (c .before .before .before .before .before .before .command2 .given .1) (c .kept .ensures) refl (r .ensures .0) (r .kept .0)
 
 same-length-3 : tie.Need-same-length-3
 same-length-3 c = search needs
@@ -150,7 +153,7 @@ unfolding turn
 returns-3 c =
     let r = c .before .before .before .set in
     changes-it (Call.Set _ _) (c .before .before .before .before .before .before .before .before .smaller .ensures)
-    (c .before .before .before .before .before .before .command3 .given .1) (c .kept2 .ensures) refl (r .ensures) (r .kept .0)
+    (c .before .before .before .before .before .before .command3 .given .1) (c .kept2 .ensures) refl (r .ensures .0) (r .kept .0)
 
 same-length-4 : tie.Need-same-length-4
 same-length-4 c = search needs
@@ -185,8 +188,8 @@ same-length-7 c = search needs
 returns-7 : tie.Need-returns-7
 unfolding turn
 returns-7 c =
-    asks-it (Call.Day _) (c .before .before .before .before .before .before .smaller .ensures)
-    (c .before .before .before .before .command7 .given .1) (c .kept6 .ensures) refl (c .before .day .ensures .answer)
+    asks-it (Call.Day _ _) (c .before .before .before .before .before .before .before .smaller .ensures)
+    (c .before .before .before .before .before .command7 .given .1) (c .kept6 .ensures) refl (c .before .day .ensures .answer)
 
 same-length-8 : tie.Need-same-length-8
 same-length-8 c = search needs
@@ -237,6 +240,7 @@ respond-spec =
     enum-known-command-7
     slice-reshare-prefix-day
     slice-aggregate-day
+    slice-aggregate-day-2
     day-requires
     kept-requires-6
     enum-told

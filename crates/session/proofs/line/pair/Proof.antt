@@ -1,8 +1,5 @@
 -- `session::line::pair` meets its contract. Assumes nothing.
-use mathlib.Core.Path.{sym}
-use denote.Ref.{now}
-use Rattle.session.specs.Number.{number}
-use Rattle.session.proofs.LetterLaws.{first-wrong, second-wrong}
+use Rattle.session.proofs.LetterLaws.{first-wrong, second-wrong, of-two}
 use borrow.Author.Needs.{needs}
 use Rattle.session.proofs.line.pair.Statement.{statement}
 use Rattle.session.proofs.line.pair.Tie as tie
@@ -17,9 +14,7 @@ enum-told : tie.Need-enum-told
 enum-told c = search needs
 
 returns : tie.Need-returns
-returns c =
-    let a = c .before .before .before .before .before .args in
-    sym (first-wrong (a .letter) (number (a .part .now)) (number (a .other .now)) (cc))
+returns c = first-wrong _ _ (c .enum-told .given .1) (c .before .before .number .ensures)
 
 number-requires-2 : tie.Need-number-requires-2
 number-requires-2 c κs = search needs
@@ -31,15 +26,17 @@ enum-told-2 : tie.Need-enum-told-2
 enum-told-2 c = search needs
 
 returns-2 : tie.Need-returns-2
-returns-2 c =
-    let a = c .before .before .before .before .before .before .before .before .before .args in
-    sym (second-wrong (a .letter) (number (a .part .now)) (number (a .other .now)) (cc))
+returns-2 c = second-wrong _ _ (c .enum-told2 .given .1) (c .before .before .number2 .ensures)
 
 with-two-requires : tie.Need-with-two-requires
 with-two-requires c κs = search needs
 
 returns-3 : tie.Need-returns-3
-returns-3 c = cc
+returns-3 c =
+    let y = c .before .before in
+    let other = y .before .before in
+    let x = other .before .before in
+    of-two _ (c .with-two .ensures) (x .x .given .1) (x .before .before .number .ensures) (y .y .given .1) (other .number2 .ensures)
 
 pub pair-spec : {M : Type 1} → statement M
 pair-spec =

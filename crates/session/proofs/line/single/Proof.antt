@@ -1,8 +1,5 @@
 -- `session::line::single` meets its contract. Assumes nothing.
-use mathlib.Core.Path.{sym}
-use denote.Ref.{now}
-use Rattle.session.specs.Number.{number}
-use Rattle.session.proofs.LetterLaws.{single-wrong}
+use Rattle.session.proofs.LetterLaws.{single-wrong, of-one}
 use borrow.Author.Needs.{needs}
 use Rattle.session.proofs.line.single.Statement.{statement}
 use Rattle.session.proofs.line.single.Tie as tie
@@ -17,13 +14,15 @@ enum-told : tie.Need-enum-told
 enum-told c = search needs
 
 returns : tie.Need-returns
-returns c = sym (single-wrong (c .before .before .before .before .args .letter) (number (c .before .before .before .before .args .part .now)) (cc))
+returns c = single-wrong _ (c .enum-told .given .1) (c .before .before .number .ensures)
 
 with-one-requires : tie.Need-with-one-requires
 with-one-requires c κs = search needs
 
 returns-2 : tie.Need-returns-2
-returns-2 c = cc
+returns-2 c =
+    let x = c .before .before in
+    of-one _ (c .with-one .ensures) (x .x .given .1) (x .before .before .number .ensures)
 
 pub single-spec : {M : Type 1} → statement M
 single-spec =

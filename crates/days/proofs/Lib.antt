@@ -1,0 +1,4 @@
+-- Laws of the definitions.
+pub mod DayLaws
+pub mod Pairs
+pub mod Turns

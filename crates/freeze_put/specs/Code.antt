@@ -1,0 +1,2 @@
+-- What the functions of src/ hand one another.
+pub mod Steps

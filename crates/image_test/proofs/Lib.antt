@@ -1,0 +1,4 @@
+-- Laws of the crate.
+pub mod Passing
+pub mod TestLaws
+pub mod CheckSteps

@@ -1,0 +1,4 @@
+-- Laws of the crate.
+pub mod PageSums
+pub mod PageTree
+pub mod Questions

@@ -1,0 +1,4 @@
+-- Laws of the definitions.
+pub mod DecimalLaws
+pub mod PrintLaws
+pub mod Examples
