@@ -159,6 +159,11 @@ typedef uint64_t hourlog_size;
              : 16 + 30 * HOURLOG_AS(size_t, C) +                       \
                    8 * HOURLOG_IMAGE_PAGES(64 * HOURLOG_AS(size_t, P), e))
 
+/* A book of the old boards, in packed decimal: two bytes an hour, four digits,
+ * the high digit first, so that ten coins are 00 10 in hexadecimal. */
+#define HOURLOG_BOOK_COUNT_MAX 9999u
+#define HOURLOG_BOOK_LENGTH(hours) (2 * HOURLOG_AS(size_t, hours))
+
 /* Bytes of stack that suffice for freeze, and for every other call: as measured
  * on x86-64, with some room.  Recursion is never deeper than 8. */
 #define HOURLOG_FREEZE_STACK 12288u
@@ -190,11 +195,14 @@ typedef uint64_t hourlog_size;
  *       hour of the day (see THE CLOCK); append the refused count to it.  At 12
  *       a smaller count may still fit, and an hour without coins does; but no
  *       cell comes back unless a set makes some count smaller.
+ *   14  Read the book from the old board again: an odd number of bytes, or a
+ *       digit above 9, was never written by one.  No hour of it came over.
+ *   15  No old board could have held that hour: keep the image.
  */
 #define HOURLOG_REFUSED_PAGE_SIZE 1 /* e outside 2 to 8                        */
 #define HOURLOG_REFUSED_LIST 2      /* over 65,536 counts                      */
 #define HOURLOG_REFUSED_TOTAL 3     /* the total would pass 4,294,967,295      */
-#define HOURLOG_REFUSED_BUFFER 4    /* output buffer shorter than the image    */
+#define HOURLOG_REFUSED_BUFFER 4    /* output buffer too short: image or book  */
 #define HOURLOG_REFUSED_HEADER 5    /* image: header or byte length wrong      */
 #define HOURLOG_REFUSED_BODY 6      /* image: check, not the writer's bytes;   */
                                     /* queries, damage on the path they read   */
@@ -204,6 +212,8 @@ typedef uint64_t hourlog_size;
 #define HOURLOG_REFUSED_UNSOUND 10  /* these bytes are not a sound store       */
 #define HOURLOG_REFUSED_FULL 11     /* append: 64*P hours are logged           */
 #define HOURLOG_REFUSED_CELLS 12    /* more cells needed than the store has    */
+#define HOURLOG_REFUSED_BOOK 14     /* book: odd length, or a digit above 9    */
+#define HOURLOG_REFUSED_DIGITS 15   /* image to book: a count above 9999       */
 #define HOURLOG_REFUSED_CHANGES 16  /* day: the list of changes is wrong       */
 
 /* 1 if the call was refused, else 0. */
@@ -226,7 +236,7 @@ static inline const char *hourlog_refusal_text(int number)
     case HOURLOG_REFUSED_PAGE_SIZE: return "e must be 2 to 8";
     case HOURLOG_REFUSED_LIST: return "more than 65,536 counts";
     case HOURLOG_REFUSED_TOTAL: return "total would pass 4,294,967,295";
-    case HOURLOG_REFUSED_BUFFER: return "buffer too short for the image";
+    case HOURLOG_REFUSED_BUFFER: return "buffer too short";
     case HOURLOG_REFUSED_HEADER: return "not an image";
     case HOURLOG_REFUSED_BODY: return "image is damaged";
     case HOURLOG_REFUSED_HOUR: return "hour not logged";
@@ -235,6 +245,8 @@ static inline const char *hourlog_refusal_text(int number)
     case HOURLOG_REFUSED_UNSOUND: return "store is not sound";
     case HOURLOG_REFUSED_FULL: return "log is full";
     case HOURLOG_REFUSED_CELLS: return "no cells left";
+    case HOURLOG_REFUSED_BOOK: return "book is not packed decimal";
+    case HOURLOG_REFUSED_DIGITS: return "a count needs more than four digits";
     case HOURLOG_REFUSED_CHANGES: return "list of changed days is wrong";
     default: return "unknown refusal";
     }
@@ -401,6 +413,25 @@ int64_t hourlog_image_reading(const uint8_t *image, hourlog_size len, uint32_t h
  * with 6 it answers refusal 6 or some index from 0 to N: check first. */
 HOURLOG_MUST_USE
 int64_t hourlog_image_reach(const uint8_t *image, hourlog_size len, uint64_t figure);
+
+/* ---- old credit books --------------------------------------------------- */
+
+/* Writes the image of a book, pages of 2^e counts, and answers its length in
+ * bytes.  Bytes of the buffer beyond the image are left unchanged.
+ * HOURLOG_IMAGE_LENGTH_MAX(book_len / 2, e) bytes suffice for it.
+ * Refuses: 1, 14 (wherever in the book, and however long it is), 2, 4. */
+HOURLOG_MUST_USE
+int64_t hourlog_image_from_bcd(const uint8_t *book, hourlog_size book_len, uint32_t e,
+                               uint8_t *image, hourlog_size image_len);
+
+/* Writes the book of an image that check accepts, and answers its length in
+ * bytes, HOURLOG_BOOK_LENGTH(N).  Bytes of the buffer beyond the book are left
+ * unchanged.  Over and back, with the image's own e (its byte 1), the first
+ * bytes come again, from a book as from an image.
+ * Refuses: 5, 6 (both as check does), 15, 4. */
+HOURLOG_MUST_USE
+int64_t hourlog_image_to_bcd(const uint8_t *image, hourlog_size len,
+                             uint8_t *book, hourlog_size book_len);
 
 /* N, and the total, of an image that check accepted. */
 static inline uint32_t hourlog_checked_hours(int64_t answer)

@@ -43,7 +43,6 @@ extern "C" {
     pub fn hourlog_image_busiest(image: *const u8, len: usize, hours: u32) -> i64;
     #[cfg(feature = "match")]
     pub fn hourlog_image_match(image: *const u8, len: usize, figure: u64) -> i64;
-    #[cfg(feature = "books")]
     pub fn hourlog_image_from_bcd(
         book: *const u8,
         book_len: usize,
@@ -51,7 +50,6 @@ extern "C" {
         image: *mut u8,
         image_len: usize,
     ) -> i64;
-    #[cfg(feature = "books")]
     pub fn hourlog_image_to_bcd(
         image: *const u8,
         len: usize,

@@ -187,13 +187,34 @@ static void worked_chains()
     chains({1}, {3}, {2, 4});
 }
 
+// docs/FORMAT.md's book of three hours, 10, 1234 and 9999 coins, over and back; a buffer of a byte
+// less is refused, and so is a count of one coin more.
+static void worked_book()
+{
+    static_assert(HOURLOG_BOOK_LENGTH(3) == 6, "two bytes an hour");
+    const std::vector<uint8_t> book{0x00, 0x10, 0x12, 0x34, 0x99, 0x99};
+    std::vector<uint32_t> counts{10, 1234, HOURLOG_BOOK_COUNT_MAX};
+    std::vector<uint8_t> image(HOURLOG_IMAGE_LENGTH_MAX(3, 2)), written(image.size()), back(book.size());
+    const int64_t length = hourlog_image_from_bcd(book.data(), book.size(), 2, image.data(), image.size());
+    assert(!hourlog_is_refused(length));
+    assert(hourlog_image_write(counts.data(), counts.size(), 2, written.data(), written.size()) == length);
+    assert(image == written);
+    const auto bytes = static_cast<size_t>(length);
+    assert(hourlog_image_to_bcd(image.data(), bytes, back.data(), back.size()) == 6 && back == book);
+    assert(hourlog_image_to_bcd(image.data(), bytes, back.data(), 5) == -HOURLOG_REFUSED_BUFFER);
+    assert(hourlog_image_from_bcd(book.data(), 5, 2, image.data(), bytes) == -HOURLOG_REFUSED_BOOK);
+    counts[2]++;
+    const int64_t wide = hourlog_image_write(counts.data(), counts.size(), 2, image.data(), image.size());
+    assert(hourlog_image_to_bcd(image.data(), static_cast<size_t>(wide), nullptr, 0) == -HOURLOG_REFUSED_DIGITS);
+}
+
 // A text for every number: each its own, and one for all that there are not.
 static void texts()
 {
     const char *const unknown = hourlog_refusal_text(99);
     assert(hourlog_refusal_text(-1) == unknown);
     assert(std::strcmp(hourlog_refusal_text(0), "no refusal") == 0);
-    std::vector<int> numbers{HOURLOG_REFUSED_CHANGES};
+    std::vector<int> numbers{HOURLOG_REFUSED_BOOK, HOURLOG_REFUSED_DIGITS, HOURLOG_REFUSED_CHANGES};
     for (int k = 0; k <= HOURLOG_REFUSED_CELLS; k++) {
         numbers.push_back(k);
     }
@@ -220,6 +241,7 @@ static void null_with_length_0()
     assert(hourlog_image_count(nullptr, 0, 0) == -HOURLOG_REFUSED_HEADER);
     assert(hourlog_image_reading(nullptr, 0, 0) == -HOURLOG_REFUSED_HEADER);
     assert(hourlog_image_reach(nullptr, 0, 0) == -HOURLOG_REFUSED_HEADER);
+    assert(hourlog_image_to_bcd(nullptr, 0, nullptr, 0) == -HOURLOG_REFUSED_HEADER);
 
     // The calls with two buffers, either of them NULL and both. An image of no hours is its header.
     std::vector<uint8_t> store(HOURLOG_STORE_LENGTH(1, 2));
@@ -234,6 +256,9 @@ static void null_with_length_0()
         assert(hourlog_image_length(nullptr, 0, e) == 16);
         assert(hourlog_image_write(nullptr, 0, e, image.data(), 16) == 16);
         assert(hourlog_image_check(image.data(), 16) == 0);
+        assert(hourlog_image_from_bcd(nullptr, 0, e, image.data(), 16) == 16);
+        assert(hourlog_image_from_bcd(nullptr, 0, e, nullptr, 0) == -HOURLOG_REFUSED_BUFFER);
+        assert(hourlog_image_to_bcd(image.data(), 16, nullptr, 0) == 0);
         assert(hourlog_image_write(nullptr, 0, e, nullptr, 0) == -HOURLOG_REFUSED_BUFFER);
         assert(hourlog_image_write(counts.data(), counts.size(), e, nullptr, 0) ==
                -HOURLOG_REFUSED_BUFFER);
@@ -249,6 +274,7 @@ int main()
     bytes_of_a_store();
     worked_store();
     worked_chains();
+    worked_book();
     texts();
     null_with_length_0();
     std::vector<uint8_t> store(HOURLOG_STORE_LENGTH(1, 2));

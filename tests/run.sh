@@ -59,6 +59,28 @@ transcript() {
     echo "example ($1): transcript as expected"
 }
 
+# over_and_back PROGRAM: a book of five hours, ten coins in the first, 00 10; its
+# image, the book of that, its image again; then a digit of 10, and an image with a
+# count of 10,000 (e = 2, one page: 10,000 stands thrice in its code).
+over_and_back() {
+    way=$out/$1
+    printf '\000\020\001\143\000\000\231\231\000\020' >"$way.old"
+    printf '\000\012' >"$way.wrong"
+    printf '\001\002\000\000\001\000\000\000\020\047\000\000\066\000\000\000\000\000\000\000\234\102\161\011\304\000\000' >"$way.wide"
+    {
+        "$way" in "$way.old" 2 "$way.image"
+        "$way" out "$way.image" "$way.book"
+        "$way" in "$way.book" 2 "$way.again"
+        ! "$way" in "$way.wrong" 2 "$way.none"
+        ! "$way" out "$way.wide" "$way.none"
+    } >"$way.printed"
+    diff examples/book.expected "$way.printed"
+    cmp "$way.old" "$way.book"
+    cmp "$way.image" "$way.again"
+    test ! -e "$way.none"
+    echo "example ($1): over and back"
+}
+
 # build_second CARGO-FLAGS..: the comparison's program.
 build_second() {
     cargo build --quiet --offline --release --manifest-path tests/second/Cargo.toml "$@"
@@ -88,6 +110,10 @@ from_c() {
     done
     build board-c++17 "$HOURLOG_LIB" g++ -std=c++17 $strict -x c++ examples/board.c
     transcript board-c++17
+    build book-c99 "$HOURLOG_LIB" gcc -std=c99 $strict examples/book.c
+    over_and_back book-c99
+    build book-c++17 "$HOURLOG_LIB" g++ -std=c++17 $strict -x c++ examples/book.c
+    over_and_back book-c++17
     for standard in c++11 c++17; do
         build header-$standard "$HOURLOG_LIB" g++ -std=$standard $strict -Wold-style-cast tests/header.cpp
     done

@@ -19,6 +19,7 @@
 static uint8_t store[HOURLOG_STORE_LENGTH(HOURLOG_PAGES_MAX, HOURLOG_CELLS_MAX)];
 static uint32_t counts[HOURLOG_IMAGE_HOURS_MAX];
 static uint8_t image[HOURLOG_IMAGE_LENGTH_MAX(HOURLOG_IMAGE_HOURS_MAX, IMAGE_E)];
+static uint8_t book[HOURLOG_BOOK_LENGTH(HOURLOG_IMAGE_HOURS_MAX)];
 static size_t image_len;
 
 #define STORE store, sizeof store
@@ -42,6 +43,8 @@ static int64_t check(void) { return hourlog_image_check(IMAGE); }
 static int64_t image_count(void) { return hourlog_image_count(IMAGE, LAST); }
 static int64_t image_reading(void) { return hourlog_image_reading(IMAGE, LAST); }
 static int64_t image_reach(void) { return hourlog_image_reach(IMAGE, 5000000); }
+static int64_t to_bcd(void) { return hourlog_image_to_bcd(IMAGE, book, sizeof book); }
+static int64_t from_bcd(void) { return hourlog_image_from_bcd(book, sizeof book, IMAGE_E, image, sizeof image); }
 
 /* Freeze at every page size: which one takes most is not said anywhere. */
 static int64_t freeze(void)
@@ -75,6 +78,8 @@ static const struct measured all[] = {
     {"image count", image_count, HOURLOG_STACK},
     {"image reading", image_reading, HOURLOG_STACK},
     {"image reach", image_reach, HOURLOG_STACK},
+    {"image to bcd", to_bcd, HOURLOG_STACK},
+    {"image from bcd", from_bcd, HOURLOG_STACK},
     {"fresh", fresh, HOURLOG_STACK},
 };
 

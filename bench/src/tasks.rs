@@ -83,9 +83,6 @@ fn matches(counts: &[u32]) -> Vec<Task> {
 
 /// A book of the counts, as far as four digits hold them, over and back.
 fn books(counts: &[u32]) -> Vec<Task> {
-    if !cfg!(feature = "books") {
-        return Vec::new();
-    }
     let counts: Vec<u32> = counts.iter().map(|count| count % 10_000).collect();
     let image = image_of(&counts);
     let mut book = vec![0; 2 * counts.len()];

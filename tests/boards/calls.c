@@ -307,6 +307,47 @@ static void image_round(unsigned round)
     }
 }
 
+/* A book over and back: whole, with digits that are none, too short, into too
+ * little room.  The first buffer is lent to read, the second to write. */
+static void book_round(unsigned round)
+{
+    static uint8_t kept[HOURLOG_IMAGE_LENGTH_MAX(COUNTS_MAX, 2)];
+    uint32_t n = below(COUNTS_MAX + 1);
+    uint32_t e = 2 + round % 7;
+    first = lend(HOURLOG_BOOK_LENGTH(n), round % 2, round % 4);
+    second = lend(HOURLOG_IMAGE_LENGTH_MAX(n, e), 1 - (int)(round % 2), round % 4);
+    say("from bcd", first.length, e, 0, hourlog_image_from_bcd(first.at, first.length, e, second.at, second.length));
+    for (size_t k = 0; k < first.length; k++) {
+        uint32_t two = below(100);
+        first.at[k] = (uint8_t)(two / 10 * 16 + two % 10);
+    }
+    for (int k = 0; k < 4; k++) {
+        uint64_t other = length_near(first.length);
+        uint32_t size = any();
+        other = other > first.length ? first.length : other;
+        say("from bcd", other, size, 0, hourlog_image_from_bcd(first.at, other, size, second.at, second.length));
+        say("from bcd", other, e, 1, hourlog_image_from_bcd(first.at, other, e, second.at, second.length));
+    }
+    int64_t length = say("from bcd", first.length, e, 2, hourlog_image_from_bcd(first.at, first.length, e, second.at, UINT64_MAX));
+    say("from bcd", first.length, e, 3, hourlog_image_from_bcd(first.at, first.length, e, second.at, (uint64_t)length - 1));
+    for (size_t k = 0; k < (size_t)length; k++) {
+        kept[k] = second.at[k];
+    }
+    second = lend(first.length, 1 - (int)(round % 2), 0);
+    first = lend((size_t)length, round % 2, round % 4);
+    for (unsigned turn = 0; turn < 4; turn++) {
+        for (size_t k = 0; k < first.length; k++) {
+            first.at[k] = kept[k];
+        }
+        if (turn > 1) {
+            damage(first);
+        }
+        uint64_t room = turn == 0 ? second.length - (second.length > 0) : second.length;
+        say("to bcd", first.length, turn, 0, hourlog_image_to_bcd(first.at, first.length, second.at, room));
+        say("to bcd", first.length - 1, turn, 1, hourlog_image_to_bcd(first.at, first.length - 1, second.at, room));
+    }
+}
+
 /* As many counts as an image holds, and one more. */
 static void longest_list(void)
 {
@@ -334,6 +375,7 @@ int main(int argc, char **argv)
     for (unsigned round = 0; round < ROUNDS; round++) {
         store_round(round);
         image_round(round);
+        book_round(round);
     }
     longest_list();
     return 0;

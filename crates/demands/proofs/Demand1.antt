@@ -18,11 +18,17 @@ use Rattle.answers.specs.Image.{Reply, given, refused}
 use Rattle.image.proofs.CallLaws.{write-refused}
 use Rattle.freeze.specs.Freeze.{freezeCall}
 use Rattle.freeze.proofs.Freezing.{freeze-refused}
+use Rattle.book_in.specs.FromBook.{fromCall}
+use Rattle.book_in.proofs.FromLaws.{from-refused}
+use Rattle.book_out.specs.ToBook.{toCall}
+use Rattle.book_out.proofs.ToLaws.{to-refused}
 use Rattle.hourlog_c.specs.Public.{End, Ends, Fresh, Freeze, ImageCheck, ImageCount, ImageLength, ImageReach, ImageReading, ImageWrite, Live}
+use Rattle.hourlog_c.specs.Public.{ImageFromBcd, ImageToBcd}
 use Rattle.hourlog_c.specs.Public.{PublicCall, beside, lent, ofImage, ofStore, refusal, theCells, theNumber, theSums}
 use Rattle.hourlog_c.specs.ReadBack.{Reads}
 use Rattle.hourlog_c.proofs.RefusedTen.{image-refused, store-refused}
 use Rattle.demands.proofs.Refusals.{check-allowed, count-allowed, freeze-allowed, fresh-allowed, length-allowed, live-allowed, reach-allowed, reading-allowed, write-allowed}
+use Rattle.demands.proofs.Refusals.{from-allowed, to-allowed}
 use Rattle.demands.specs.Demand1.{Allowed, Demand1, Given, Refused, aNumber, cellsMoved, row}
 
 -- ---- all calls
@@ -36,6 +42,8 @@ allowed (ImageCheck i) a t d = subst (Allowed (row (ImageCheck i))) (sym (d .0))
 allowed (ImageCount i k) a t d = subst (Allowed (row (ImageCount i k))) (sym (d .0)) (count-allowed i k)
 allowed (ImageReading i k) a t d = subst (Allowed (row (ImageReading i k))) (sym (d .0)) (reading-allowed i k)
 allowed (ImageReach i p) a t d = subst (Allowed (row (ImageReach i p))) (sym (d .0 .2)) (reach-allowed i p (d .0 .0) (d .0 .1))
+allowed (ImageFromBcd b e i) a t d = subst (Allowed (row (ImageFromBcd b e i))) (sym (d .0)) (from-allowed b e i)
+allowed (ImageToBcd i b) a t d = subst (Allowed (row (ImageToBcd i b))) (sym (d .0)) (to-allowed i b)
 
 -- ---- there is an answer
 may-reach : (s : List ℕ) (p : ℕ) → (a : Reply) × Reach s p a
@@ -57,6 +65,8 @@ some (ImageCheck i) = (_, _, (refl, refl))
 some (ImageCount i k) = (_, _, (refl, refl))
 some (ImageReading i k) = (_, _, (refl, refl))
 some (ImageReach i p) = let r = may-reach i p in (ofImage (r .0), i ∷ [], ((r .0, r .1, refl), refl))
+some (ImageFromBcd b e i) = (_, _, (refl, refl))
+some (ImageToBcd i b) = (_, _, (refl, refl))
 
 -- ---- what stays
 keeps : (c : PublicCall) (k : ℕ) (t : List (List ℕ)) → Ends c (refusal k) t → t ≡ lent c
@@ -72,6 +82,10 @@ keeps (ImageCheck i) k t d = d .1
 keeps (ImageCount i j) k t d = d .1
 keeps (ImageReading i j) k t d = d .1
 keeps (ImageReach i p) k t d = d .1
+keeps (ImageFromBcd b e i) k t d =
+    d .1 ∙ ap (λ (z : List ℕ). b ∷ z ∷ []) (from-refused e b i k (image-refused (fromCall e b i .reply) k .0 (sym (d .0))))
+keeps (ImageToBcd i b) k t d =
+    d .1 ∙ ap (λ (z : List ℕ). i ∷ z ∷ []) (to-refused i b k (image-refused (toCall i b .reply) k .0 (sym (d .0))))
 
 -- a live call that gives a number
 number-keeps : (c : Call) (s : List ℕ) → row (Live c s) .gives ≡ aNumber → call c s .bytes ≡ s
@@ -107,6 +121,8 @@ question-keeps (ImageCheck i) a t q d = d .1
 question-keeps (ImageCount i k) a t q d = d .1
 question-keeps (ImageReading i k) a t q d = d .1
 question-keeps (ImageReach i p) a t q d = d .1
+question-keeps (ImageFromBcd b e i) a t q d = absurd (true≢false (sym q))
+question-keeps (ImageToBcd i b) a t q d = absurd (true≢false (sym q))
 
 -- ---- in words
 module _ (c : PublicCall) (w : ℕ) (t : List (List ℕ)) where

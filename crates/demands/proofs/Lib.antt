@@ -3,7 +3,7 @@ pub mod Slices
 pub mod Refusals
 pub mod Demand1
 pub mod Sentences1
-pub mod ListBack
+pub mod SentencesBooks
 pub mod Theorems
 pub mod Written
 pub mod ImageRanges

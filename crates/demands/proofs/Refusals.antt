@@ -6,6 +6,7 @@ use Prim.Native.Nat.{ℕ, zero, suc}
 use native.Mathlib.Omega.{arith}
 use lib.ListN.{length, drop, set}
 use lib.Dec.{leb, ltb}
+use borrow.Author.Tests.{leb-true}
 use Rattle.lists.specs.Lists.{occurrences, one, pick, reached}
 use Rattle.tree.specs.Read.{Found, damaged, found}
 use Rattle.store.specs.Plain.{Append, Call, Count, Day, Free, Outcome, Plain, Reach as ReachOf, Reading, Set}
@@ -18,17 +19,22 @@ use Rattle.store.specs.Limits.{fits}
 use Rattle.store.specs.Call.{Result, call, freshCall}
 use Rattle.store.proofs.CallLaws.{call-10, sound-call}
 use Rattle.store.proofs.StepLaws.{Change, change-is, done, over, short}
-use Rattle.image.specs.Calls.{lengthCall, put, putAfter, unwritten, writeCall}
+use Rattle.image.specs.Calls.{Wrote, lengthCall, put, putAfter, unwritten, writeCall}
 use Rattle.image.specs.Check.{accepted, check, headed}
-use Rattle.answers.specs.Image.{fails, holds, Reply, given, refused}
+use Rattle.answers.specs.Image.{Verdict, fails, holds, Reply, given, refused}
 use Rattle.image.specs.Image.{image}
 use Rattle.image.specs.Query.{count, look, reading, readingAt, theCount, theReading}
 use Rattle.image.specs.Reach.{Reach, above-total, any-index, damage, header-wrong, smallest}
 use Rattle.image.specs.Read.{listOf, nOf, sOf}
 use Rattle.freeze.specs.Freeze.{freezeCall}
 use Rattle.freeze.proofs.Freezing.{only-page-size}
+use Rattle.lists.proofs.Tests.{left, right}
+use Rattle.book.specs.Book.{bookOf, decimal, fourDigits, listOfBook}
+use Rattle.book_in.specs.FromBook.{fromCall}
+use Rattle.book_in.proofs.FromLaws.{only-long}
+use Rattle.book_out.specs.ToBook.{past, putBook, toCall}
 use Rattle.hourlog_c.specs.Public.{Fresh, Freeze, ImageCheck, ImageCount, ImageLength, ImageReach, ImageReading, ImageWrite, Live}
-use Rattle.hourlog_c.specs.Public.{ofCheck, ofImage, ofStore}
+use Rattle.hourlog_c.specs.Public.{ImageFromBcd, ImageToBcd, ofCheck, ofImage, ofStore}
 use Rattle.demands.specs.Demand1.{Allowed, Among, Row, aNumber, cellsMoved, row}
 
 -- ---- the live calls
@@ -171,3 +177,48 @@ reach-allowed s p _ (above-total h l) = omega arith
 reach-allowed s p _ (smallest e l) = refl
 reach-allowed s p _ (damage h l e) = omega arith
 reach-allowed s p _ (any-index h l e i m) = refl
+
+-- ---- books
+pub from-allowed : (b : List ℕ) (e : ℕ) (out : List ℕ) → Allowed (row (ImageFromBcd b e out)) (ofImage (fromCall e b out .reply))
+unfolding fromCall writeCall pick unwritten row occurrences one ofImage
+from-allowed b e out = go (leb 2 e && leb e 8) refl (decimal b) refl
+  where
+    xs : List ℕ
+    xs = listOfBook b
+
+    r : Row
+    r = row (ImageFromBcd b e out)
+
+    go : (t : Bool) → (leb 2 e && leb e 8) ≡ t → (u : Bool) → decimal b ≡ u
+        → Allowed r (ofImage (pick t (pick u (writeCall e xs out) (unwritten out 14)) (unwritten out 1) .reply))
+    go true p true q =
+        put-in r refl (omega arith) (lengthCall e xs) out (image e xs)
+        (subst (λ (a : Reply). Allowed r (ofImage a)) (sym
+        (only-long e b (leb-true 2 e (left (leb 2 e) (leb e 8) p)) (leb-true e 8 (right (leb 2 e) (leb e 8) p)) q))
+        (or-no r refl (leb (length xs) 65536) 2 (given (length (image e xs))) (omega arith) refl))
+    go true p false q = omega arith
+    go false p u q = omega arith
+
+book-allowed : (r : Row) → r .gives ≡ aNumber → Among 15 (r .refusals) → Among 4 (r .refusals) → (xs out : List ℕ)
+    → Allowed r (ofImage (putBook xs out .reply))
+unfolding putBook put pick unwritten ofImage
+book-allowed r g a c xs out = go (fourDigits xs) (leb (length (bookOf xs)) (length out))
+  where
+    done : Wrote
+    done = record { reply = given (length (bookOf xs)); bytes = bookOf xs ++ drop (length (bookOf xs)) out }
+
+    go : (t u : Bool) → Allowed r (ofImage (pick t (pick u done (unwritten out 4)) (unwritten out 15) .reply))
+    go true true = g
+    go true false = c
+    go false u = a
+
+pub to-allowed : (s out : List ℕ) → Allowed (row (ImageToBcd s out)) (ofImage (toCall s out .reply))
+unfolding toCall past unwritten row occurrences one ofImage ofCheck
+to-allowed s out = go (check s) (check-allowed s)
+  where
+    r : Row
+    r = row (ImageToBcd s out)
+
+    go : (v : Verdict) → Allowed (row (ImageCheck s)) (ofCheck v) → Allowed r (ofImage (past v (putBook (listOf s) out) out .reply))
+    go (holds n t) w = book-allowed r refl (omega arith) (omega arith) (listOf s) out
+    go (fails k) w = omega arith

@@ -221,7 +221,7 @@ store-cells (changed u v) t r e = cc
 store-cells (answered m) t r e = cc
 store-cells (turned k) t r e = cc
 
-image-number : (a : Reply) (n : ℕ) → theNumber n ≡ ofImage a → a ≡ given n
+pub image-number : (a : Reply) (n : ℕ) → theNumber n ≡ ofImage a → a ≡ given n
 unfolding ofImage
 image-number (given m) n e = cc
 image-number (refused k) n e = cc
@@ -233,7 +233,7 @@ check-sums (fails k) n s e = cc
 
 -- the word w is no refusal, and t is what was lent, afterwards
 module _ (w : ℕ) (l : w < 2 ^ 63) (t : List (List ℕ)) where
-  number : (c : PublicCall) → row c .gives ≡ aNumber → (a : Answers c w t) → demand-1 .above c w t a l .result ≡ theNumber w
+  pub number : (c : PublicCall) → row c .gives ≡ aNumber → (a : Answers c w t) → demand-1 .above c w t a l .result ≡ theNumber w
   number c g a = let G : Given c w t = demand-1 .above c w t a l in number-in g (G .result) w (G .kind) (G .reads)
 
   live-number : (c : Call) (s : List ℕ) → row (Live c s) .gives ≡ aNumber → Answers (Live c s) w t → call c s .answer ≡ answered w

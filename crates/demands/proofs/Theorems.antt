@@ -18,7 +18,7 @@ use Rattle.image.proofs.ReadLaws.{e-is, headed-image, n-is, s-is}
 use Rattle.image.proofs.Accepted.{accepted-only, length-list}
 use Rattle.image.proofs.HeadLaws.{never}
 use Rattle.image.proofs.QueryLaws.{look-is, reading-at}
-use Rattle.demands.proofs.ListBack.{accepted-image, list-is}
+use Rattle.image_back.proofs.ListBack.{accepted-image, list-is}
 
 -- ---- accepted exactly when there is a list whose image the bytes are
 pub accepted-if : (s : List ℕ) (e : ℕ) (xs : List ℕ) → IsImage s e xs → accepted s ≡ true

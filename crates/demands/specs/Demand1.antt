@@ -7,6 +7,7 @@ use Prim.Native.Nat.{ℕ, _+_, _^_, _≤_, _<_}
 use Rattle.lists.specs.Lists.{occurrences}
 use Rattle.store.specs.Plain.{Append, Count, Day, Free, Reach, Reading, Set}
 use Rattle.hourlog_c.specs.Public.{End, Ends, Fresh, Freeze, ImageCheck, ImageCount, ImageLength, ImageReach, ImageReading, ImageWrite, Live}
+use Rattle.hourlog_c.specs.Public.{ImageFromBcd, ImageToBcd}
 use Rattle.hourlog_c.specs.Public.{PublicCall, lent, refusal, theCells, theNumber, theSums}
 use Rattle.hourlog_c.specs.ReadBack.{Reads}
 use Rattle.hourlog_c.specs.Export.{Answers}
@@ -46,6 +47,8 @@ row (ImageCheck i) = record { refusals = 5 ∷ 6 ∷ []; gives = hoursAndTotal; 
 row (ImageCount i k) = record { refusals = 5 ∷ 7 ∷ 6 ∷ []; gives = aNumber; question = true }
 row (ImageReading i k) = record { refusals = 5 ∷ 7 ∷ 6 ∷ []; gives = aNumber; question = true }
 row (ImageReach i p) = record { refusals = 5 ∷ 8 ∷ 6 ∷ []; gives = aNumber; question = true }
+row (ImageFromBcd b e i) = record { refusals = 1 ∷ 14 ∷ 2 ∷ 4 ∷ []; gives = aNumber; question = false }
+row (ImageToBcd i b) = record { refusals = 5 ∷ 6 ∷ 15 ∷ 4 ∷ []; gives = aNumber; question = false }
 
 -- one of these numbers
 abbrev pub Among : ℕ → List ℕ → Type 0

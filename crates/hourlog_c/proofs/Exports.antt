@@ -29,7 +29,7 @@ use Rattle.hourlog_c.proofs.RefusedTen.{freeze-ten, live-ten}
 use Rattle.hourlog_c.proofs.WordLaws.{Small, small-reads}
 
 -- a small answer, and its word
-answers : (c : PublicCall) (w : ℕ) (t : List (List ℕ)) (a : End) → Ends c a t → Ten c a → Small a → w ≡ wordOf a → Answers c w t
+pub answers : (c : PublicCall) (w : ℕ) (t : List (List ℕ)) (a : End) → Ends c a t → Ten c a → Small a → w ≡ wordOf a → Answers c w t
 answers c w t a e n s q = record { answer = a; ends = e; ten = n; word = q; reads = subst (λ (z : ℕ). Reads a z) (sym q) (small-reads a s) }
 
 -- ---- every answer is small
@@ -39,7 +39,7 @@ small-store (changed t r) w = w
 small-store (answered n) w = w
 small-store (turned k) w = omega (arith, w .0, w .1)
 
-small-image : (r : Reply) → SmallReply r → Small (ofImage r)
+pub small-image : (r : Reply) → SmallReply r → Small (ofImage r)
 unfolding ofImage
 small-image (given n) w = w
 small-image (refused k) w = omega (arith, w .0, w .1)
@@ -83,7 +83,7 @@ fresh-answers b t P C w a e d =
     (small-store (freshCall b P C .answer) (fresh-small b P C)) (e ∙ ap (λ (z : Answer). wordOf (ofStore z)) (d .answer))
 
 -- ---- the image: what the code answers is r, which is to be the call's reply
-reply-word : (w : ℕ) (r q : Reply) → w ≡ wordOf (ofImage r) → r ≡ q → w ≡ wordOf (ofImage q)
+pub reply-word : (w : ℕ) (r q : Reply) → w ≡ wordOf (ofImage r) → r ≡ q → w ≡ wordOf (ofImage q)
 reply-word w r q e d = e ∙ ap (λ (z : Reply). wordOf (ofImage z)) d
 
 pub length-answers : (xs : List ℕ) (e w : ℕ) (r : Reply) → w ≡ wordOf (ofImage r) → r ≡ lengthCall e xs → Answers (ImageLength xs e) w (xs ∷ [])

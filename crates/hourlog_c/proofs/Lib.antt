@@ -2,3 +2,4 @@
 pub mod WordLaws
 pub mod RefusedTen
 pub mod Exports
+pub mod BookExports

@@ -1,4 +1,4 @@
--- Document 01's public calls: what each is given, which answers it may end in, and what it leaves of what it was lent. Assumes nothing.
+-- Document 01's public calls, and those of document 02's notes: what each is given, which answers it may end in, and what it leaves of what it was lent. Assumes nothing.
 use mathlib.Core.List.{List, [], _∷_}
 use mathlib.Core.Logic.{_↔_}
 use mathlib.Core.Path.{_≡_}
@@ -13,6 +13,8 @@ use Rattle.image.specs.Calls.{lengthCall, writeCall}
 use Rattle.image.specs.Query.{count, reading}
 use Rattle.image.specs.Reach.{Reach}
 use Rattle.freeze.specs.Freeze.{freezeCall}
+use Rattle.book_in.specs.FromBook.{fromCall}
+use Rattle.book_out.specs.ToBook.{toCall}
 
 -- a public call with its numbers and with the slices that it is lent; the live calls are seven
 pub data PublicCall : Type 0 where
@@ -25,6 +27,8 @@ pub data PublicCall : Type 0 where
   ImageCount : (image : List ℕ) (hour : ℕ) → PublicCall
   ImageReading : (image : List ℕ) (hour : ℕ) → PublicCall
   ImageReach : (image : List ℕ) (figure : ℕ) → PublicCall
+  ImageFromBcd : (book : List ℕ) (e : ℕ) (image : List ℕ) → PublicCall
+  ImageToBcd : (image book : List ℕ) → PublicCall
 
 -- what a live call is lent beside the store: day its list of changed days
 abbrev pub beside : Call → List (List ℕ)
@@ -47,6 +51,8 @@ lent (ImageCheck i) = i ∷ []
 lent (ImageCount i k) = i ∷ []
 lent (ImageReading i k) = i ∷ []
 lent (ImageReach i p) = i ∷ []
+lent (ImageFromBcd b e i) = b ∷ i ∷ []
+lent (ImageToBcd i b) = i ∷ b ∷ []
 
 -- what a call ends in: the number asked for, the cells taken and given back, N and S, or 'a refusal is its number alone'
 pub data End : Type 0 where
@@ -79,6 +85,8 @@ Ends (ImageCheck i) a t = (a ≡ ofCheck (check i)) × (t ≡ i ∷ [])
 Ends (ImageCount i k) a t = (a ≡ ofImage (count i k)) × (t ≡ i ∷ [])
 Ends (ImageReading i k) a t = (a ≡ ofImage (reading i k)) × (t ≡ i ∷ [])
 Ends (ImageReach i p) a t = ((r : Reply) × Reach i p r × (a ≡ ofImage r)) × (t ≡ i ∷ [])
+Ends (ImageFromBcd b e i) a t = (a ≡ ofImage (fromCall e b i .reply)) × (t ≡ b ∷ fromCall e b i .bytes ∷ [])
+Ends (ImageToBcd i b) a t = (a ≡ ofImage (toCall i b .reply)) × (t ≡ i ∷ toCall i b .bytes ∷ [])
 
 -- 'store, every other live call and freeze: 10, not sound', where a sound store is told clause by clause
 abbrev pub Ten : PublicCall → End → Type 0
@@ -91,3 +99,5 @@ Ten (ImageCheck i) a = Unit {0}
 Ten (ImageCount i k) a = Unit {0}
 Ten (ImageReading i k) a = Unit {0}
 Ten (ImageReach i p) a = Unit {0}
+Ten (ImageFromBcd b e i) a = Unit {0}
+Ten (ImageToBcd i b) a = Unit {0}

@@ -3,6 +3,7 @@ use crate::word::of_check;
 use crate::word::of_image;
 ghost use mathlib.Core.List.{[], _∷_};
 ghost use Rattle.hourlog_c.specs.Public.{Freeze, ImageCheck, ImageCount, ImageLength, ImageReach, ImageReading, ImageWrite};
+ghost use Rattle.hourlog_c.specs.Public.{ImageFromBcd, ImageToBcd};
 ghost use Rattle.hourlog_c.specs.Export.{Answers};
 
 #[no_mangle]
@@ -52,4 +53,18 @@ pub extern "C" fn hourlog_image_reach(image: &[u8], figure: u64) -> u64
     ensures { λ r. ⌜ Answers (ImageReach (now (image .entry)) figure) r (now (image .exit) ∷ []) ⌝ }
 {
     of_image(image_reach::reach(image, figure))
+}
+
+#[no_mangle]
+pub extern "C" fn hourlog_image_from_bcd(book: &[u8], e: u32, image: &mut [u8]) -> u64
+    ensures { λ r. ⌜ Answers (ImageFromBcd (now (book .entry)) e (now (image .entry))) r (now (book .exit) ∷ now (image .exit) ∷ []) ⌝ }
+{
+    of_image(book_in::from_bcd(book, e, image))
+}
+
+#[no_mangle]
+pub extern "C" fn hourlog_image_to_bcd(image: &[u8], book: &mut [u8]) -> u64
+    ensures { λ r. ⌜ Answers (ImageToBcd (now (image .entry)) (now (book .entry))) r (now (image .exit) ∷ now (book .exit) ∷ []) ⌝ }
+{
+    of_image(book_out::to_bcd(image, book))
 }

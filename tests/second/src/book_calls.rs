@@ -2,7 +2,6 @@
 
 use crate::book::{book_of_image, image_of_book};
 use crate::ffi::Library;
-use crate::function::Function;
 use crate::image_calls::{compare_output, rooms};
 use crate::refusal::Answer;
 use crate::store_calls::same_bytes;
@@ -30,9 +29,6 @@ pub fn compare_to_book(
     bytes: &[u8],
     list: &Answer<Vec<u64>>,
 ) -> Result<(), String> {
-    if !Function::ImageToBook.is_there() {
-        return Ok(());
-    }
     let book = book_of_image(list);
     let mut lent = bytes.to_vec();
     for room in rooms(&book) {

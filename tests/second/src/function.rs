@@ -61,7 +61,6 @@ impl Function {
             Function::Insert | Function::Strike => cfg!(feature = "insert-strike"),
             Function::ImageBusiest => cfg!(feature = "busiest"),
             Function::ImageMatch => cfg!(feature = "match"),
-            Function::ImageFromBook | Function::ImageToBook => cfg!(feature = "books"),
             _ => true,
         }
     }

@@ -37,7 +37,7 @@ static ALL: [Suite; 14] = [
     suite("named faults of stores", store_faults::play),
     suite("busiest stretches", stretches::play).if_there(Function::ImageBusiest.is_there()),
     suite("bags", bags::play).if_there(Function::ImageMatch.is_there()),
-    suite("books", books::play).if_there(Function::ImageToBook.is_there()),
+    suite("books", books::play),
     suite("days with a clock change", days::play),
     suite("insert and strike", insert_strike::play).if_there(Function::Insert.is_there()),
     suite("lists of calls on small stores", sessions::play),

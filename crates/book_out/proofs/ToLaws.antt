@@ -1,0 +1,68 @@
+-- The call's refusals. Assumes nothing.
+use mathlib.Core.Path.{_≡_, refl, sym, ap, ap₂, _∙_}
+use mathlib.Core.Bool.{Bool, true, false, _&&_}
+use mathlib.Core.List.{List, _++_}
+use Prim.Native.Nat.{ℕ, _*_, _≤_, _<_}
+use native.Mathlib.Omega.{arith}
+use lib.ListN.{length, drop}
+use lib.Dec.{leb}
+use borrow.Author.Tests.{le-leb, lt-leb}
+use Rattle.answers.specs.Image.{Verdict, fails, given, holds, refused, told}
+use Rattle.answers.specs.declared.image.Answer.the-variants.{Number, Refused}
+use Rattle.lists.specs.Lists.{pick, same, splice, sum}
+use Rattle.lists.proofs.Tests.{left}
+use Rattle.image.specs.Calls.{Wrote, put, unwritten}
+use Rattle.image.specs.Check.{accepted, check, headed}
+use Rattle.image.specs.Image.{image, maxTotal}
+use Rattle.image.specs.Read.{eOf, listOf}
+use Rattle.image.proofs.CallLaws.{put-refused}
+use Rattle.image_steps.specs.Wrote.{wrote}
+use Rattle.image_steps.proofs.Writing.{splice-front}
+use Rattle.book.specs.Book.{bookOf, fourDigits}
+use Rattle.book.proofs.BookLaws.{length-book}
+use Rattle.book_out.specs.ToBook.{past, putBook, toCall}
+
+-- ---- the tests, one after another
+pub to-fails : (s out : List ℕ) (k : ℕ) → check s ≡ fails k → wrote (Refused k) out ≡ toCall s out
+unfolding toCall past unwritten told
+to-fails s out k h = rw h
+
+headed-of : (s : List ℕ) → accepted s ≡ true → headed s ≡ true
+unfolding accepted
+headed-of s a = left (headed s) (leb (sum (listOf s)) maxTotal && same s (image (eOf s) (listOf s))) a
+
+pub to-past : (s out : List ℕ) → accepted s ≡ true → putBook (listOf s) out ≡ toCall s out
+unfolding toCall past check pick
+to-past s out a = rw (headed-of s a, a)
+
+pub book-15 : (xs out : List ℕ) → fourDigits xs ≡ false → wrote (Refused 15) out ≡ putBook xs out
+unfolding putBook pick unwritten told
+book-15 xs out h = rw h
+
+pub book-4 : (xs out : List ℕ) (n : ℕ) → fourDigits xs ≡ true → n ≡ 2 * length xs → length out < n → wrote (Refused 4) out ≡ putBook xs out
+unfolding putBook put pick unwritten told
+book-4 xs out n h q l = rw (h, lt-leb (length (bookOf xs)) (length out) (omega (arith, length-book xs)))
+
+pub book-put : (xs out now : List ℕ) (n : ℕ) → fourDigits xs ≡ true → n ≡ 2 * length xs → n ≤ length out → now ≡ splice out 0 (bookOf xs)
+    → wrote (Number n) now ≡ putBook xs out
+unfolding putBook put pick told
+book-put xs out now n h q l e =
+    rw (h, le-leb (length (bookOf xs)) (length out) (omega (arith, length-book xs)))
+    (ap₂ (λ (k : ℕ) (b : List ℕ). record { reply = given k; bytes = b }) (q ∙ sym (length-book xs)) (e ∙ splice-front out (bookOf xs)))
+
+-- 'A refusal is its number alone; no byte changes.'
+pub book-refused : (xs out : List ℕ) (k : ℕ) → putBook xs out .reply ≡ refused k → putBook xs out .bytes ≡ out
+unfolding putBook pick unwritten
+book-refused xs out k = go (fourDigits xs)
+  where
+    go : (t : Bool) → pick t (put out (bookOf xs)) (unwritten out 15) .reply ≡ refused k → pick t (put out (bookOf xs)) (unwritten out 15) .bytes ≡ out
+    go true q = put-refused out (bookOf xs) k q
+    go false q = refl
+
+pub to-refused : (s out : List ℕ) (k : ℕ) → toCall s out .reply ≡ refused k → toCall s out .bytes ≡ out
+unfolding toCall past unwritten
+to-refused s out k = go (check s)
+  where
+    go : (v : Verdict) → past v (putBook (listOf s) out) out .reply ≡ refused k → past v (putBook (listOf s) out) out .bytes ≡ out
+    go (holds n t) q = book-refused (listOf s) out k q
+    go (fails j) q = refl

@@ -1,0 +1,1 @@
+-- Definitions of the crate: none; its contracts are over those of book.

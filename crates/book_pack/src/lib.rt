@@ -1,0 +1,52 @@
+// Counts packed into a book: whether four digits hold each, and their bytes.
+ghost use mathlib.Core.Bool.{true};
+ghost use mathlib.Core.List.{List, [], _∷_};
+ghost use mathlib.Core.Path.{_≡_};
+ghost use Prim.Native.Nat.{_+_, _*_, _≤_, _<_};
+ghost use lib.ListN.{length, take};
+ghost use Rattle.lists.specs.Lists.{splice};
+ghost use Rattle.book.specs.Book.{bookOf, fourDigits, packedByte};
+
+// Whether four digits hold each of the first n counts: not refusal 15.
+pub fn is_narrow(counts: &[u32], n: usize) -> bool
+    requires { ⌜ n ≤ length (now counts) ⌝ }
+    ensures { λ r. ⌜ r ≡ fourDigits (take n (now (counts .entry))) ⌝ }
+{
+    let mut i = 0;
+    while i < n {
+        if 9999 < counts[i] {
+            return false;
+        }
+        i = i + 1;
+    }
+    true
+}
+
+// The byte with the two digits of a number.
+fn packed(n: u32) -> u8
+    requires { ⌜ n < 100 ⌝ }
+    ensures { λ r. ⌜ r ≡ packedByte n ⌝ }
+{
+    (16 * (n / 10) + n % 10) as u8
+}
+
+// Puts the four digits of a count into two bytes of a book.
+fn put_hour(book: &mut [u8], at: usize, count: u32)
+    requires { ⌜ (at + 1 < length (now book)) × (count ≤ 9999) ⌝ }
+    ensures { λ _. ⌜ now (book .exit) ≡ splice (now (book .entry)) at (bookOf (count ∷ [])) ⌝ }
+{
+    book[at] = packed(count / 100);
+    book[at + 1] = packed(count % 100);
+}
+
+// Puts the first n counts into a book, from hour from on.
+pub fn put_hours(book: &mut [u8], from: usize, counts: &[u32], n: usize)
+    requires { ⌜ (2 * (from + n) ≤ length (now book)) × (n ≤ length (now counts)) × (fourDigits (take n (now counts)) ≡ true) ⌝ }
+    ensures { λ _. ⌜ now (book .exit) ≡ splice (now (book .entry)) (2 * from) (bookOf (take n (now (counts .entry)))) ⌝ }
+{
+    let mut i = 0;
+    while i < n {
+        put_hour(book, 2 * (from + i), counts[i]);
+        i = i + 1;
+    }
+}

@@ -1,0 +1,3 @@
+-- The proof of the claim.
+pub mod Given
+pub mod Trips

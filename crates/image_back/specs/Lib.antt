@@ -1,0 +1,1 @@
+-- Definitions of the crate: none; its laws are over those of image.

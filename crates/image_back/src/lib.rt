@@ -1,0 +1,1 @@
+// An image read back is its list: laws alone, in proofs/.

@@ -1,0 +1,3 @@
+-- Definitions of the crate.
+pub mod Busiest
+pub mod Code

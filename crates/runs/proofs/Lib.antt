@@ -1,0 +1,4 @@
+-- Laws of the crate.
+pub mod PrefixSums
+pub mod BusiestLaws
+pub mod MatchLaws

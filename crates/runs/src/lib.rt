@@ -1,0 +1,1 @@
+// Runs of successive hours in a list: definitions and laws alone.
