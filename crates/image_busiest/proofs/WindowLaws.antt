@@ -6,7 +6,7 @@ use Prim.Native.Nat.{ℕ, _+_, _-_, _≤_, _<_}
 use native.Mathlib.Nat.{zero-add}
 use native.Mathlib.Decide.{decLe}
 use native.Mathlib.Omega.{arith}
-use lib.ListN.{length, getD, replicate}
+use lib.ListN.{length, getD}
 use lib.Dec.{ltb}
 use borrow.Author.Tests.{lt-ltb, le-ltb}
 use Rattle.lists.specs.Lists.{pick, reading, sum}
@@ -16,8 +16,7 @@ use Rattle.image.specs.Code.Head.{HeadOf}
 use Rattle.image.specs.Read.{listOf}
 use Rattle.image.specs.declared.head.Head.{Head}
 use Rattle.image.proofs.Accepted.{accepted-only, length-list}
-use Rattle.image_cursor.specs.Code.Cursor.{Ready, Turned}
-use Rattle.image_cursor.proofs.CursorLaws.{first, next}
+use Rattle.image_cursor.specs.Code.Cursor.{Ready}
 use Rattle.runs.specs.Code.{Best}
 use Rattle.runs.specs.Runs.{Busiest, runSum}
 use Rattle.runs.proofs.PrefixSums.{reading-next, run-reading}
@@ -47,14 +46,14 @@ module _ (s : List ℕ) (a : accepted s ≡ true) {h : Head} (o : HeadOf s h) wh
 
   -- the window moves
   pub moved : (k j t v w : ℕ) (front back : List ℕ) → j + k < h .hours → t ≡ runSum xs j k → v ≡ getD xs (j + k) 0 → w ≡ getD xs j 0
-      → Turned s (j + k) front → Turned s j back → Moved s k (j + 1) (t + v - w) front back
+      → Ready s (j + k + 1) front → Ready s (j + 1) back → Moved s k (j + 1) (t + v - w) front back
   moved k j t v w front back l e f g p q =
       let m = window-moves xs j k (omega (arith, hours)) in
       let z : j + k + 1 ≡ j + 1 + k = omega arith in
       record {
         sum-is = omega arith;
-        front-at = rw z at (next s (j + k) front p);
-        back-at = next s j back q;
+        front-at = rw z at p;
+        back-at = q;
       }
 
   pub moved-fits : (k j t v w : ℕ) → j + k < h .hours → t ≡ runSum xs j k → v ≡ getD xs (j + k) 0 → w ≡ getD xs j 0 → w ≤ t + v
@@ -69,11 +68,11 @@ module _ (s : List ℕ) (a : accepted s ≡ true) {h : Head} (o : HeadOf s h) wh
   found k j b l m n w = best-all xs k j (b .first) (b .sum) w (omega (arith, hours))
 
 -- the window at the list's start
-pub moved-first : (s : List ℕ) (k t : ℕ) (front : List ℕ) → t ≡ runSum (listOf s) 0 k → Ready s k front → Moved s k 0 t front (replicate 256 0)
-moved-first s k t front e r = record {
+pub moved-first : (s : List ℕ) (k t : ℕ) (front back : List ℕ) → t ≡ runSum (listOf s) 0 k → Ready s k front → Ready s 0 back → Moved s k 0 t front back
+moved-first s k t front back e r q = record {
   sum-is = e;
   front-at = rw zero-add r;
-  back-at = first s (replicate 256 0) refl;
+  back-at = q;
 }
 
 -- the better of two runs

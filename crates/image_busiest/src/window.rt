@@ -1,10 +1,10 @@
 // A window of k hours, moved along the hours of an accepted image: one place in the list at each of its ends.
 use image::head::Head;
 use image_cursor::cursor::count_at;
+use image_cursor::cursor::start;
 ghost use mathlib.Core.Bool.{true};
 ghost use mathlib.Core.Path.{_≡_};
 ghost use Prim.Native.Nat.{_+_, _≤_, _<_};
-ghost use lib.ListN.{length};
 ghost use Rattle.image.specs.Check.{accepted};
 ghost use Rattle.image.specs.Code.Head.{HeadOf};
 ghost use Rattle.image.specs.Read.{listOf};
@@ -18,9 +18,9 @@ pub struct Run {
     pub sum: u64,
 }
 
-// The sum of the first k hours, and then the place of hour k.
+// The sum of the first k hours; front comes to hour k.
 fn first_sum(s: &[u8], h: Head, k: u64, front: &mut [u32]) -> u64
-    requires { ⌜ (accepted (now s) ≡ true) × HeadOf (now s) h × (k ≤ h .hours) × (length (now front) ≡ 256) ⌝ }
+    requires { ⌜ (accepted (now s) ≡ true) × HeadOf (now s) h × (k ≤ h .hours) × Ready (now s) 0 (now front) ⌝ }
     ensures { λ r. ⌜ (r ≡ runSum (listOf (now (s .entry))) 0 k) × Ready (now (s .entry)) k (now (front .exit)) ⌝ }
 {
     let mut sum = 0;
@@ -60,6 +60,8 @@ pub(crate) fn best_run(s: &[u8], h: Head, k: u64) -> Run
 {
     let mut front = [0u32; 256];
     let mut back = [0u32; 256];
+    start(s, h, &mut front);
+    start(s, h, &mut back);
     let mut sum = first_sum(s, h, k, &mut front);
     let mut best = Run { first: 0, sum };
     let mut j = 0;

@@ -18,6 +18,18 @@ Inv-loop s h k front₀ back₀ sum₀ best₀ j₀ front back sum best j =
 abbrev μ-loop : tie.MeasureT-loop
 μ-loop s h k front₀ back₀ sum₀ best₀ j₀ front back sum best j = h .hours - j
 
+slice-aggregate-start : tie.Need-slice-aggregate-start Inv-loop μ-loop
+slice-aggregate-start c = search needs
+
+start-requires : tie.Need-start-requires Inv-loop μ-loop
+start-requires c κs = search needs
+
+slice-aggregate-start-2 : tie.Need-slice-aggregate-start-2 Inv-loop μ-loop
+slice-aggregate-start-2 c = search needs
+
+start-requires-2 : tie.Need-start-requires-2 Inv-loop μ-loop
+start-requires-2 c κs = search needs
+
 slice-aggregate-first-sum : tie.Need-slice-aggregate-first-sum Inv-loop μ-loop
 slice-aggregate-first-sum c = search needs
 
@@ -26,9 +38,12 @@ first-sum-requires c κs = search needs
 
 loop-holds : tie.Need-loop-holds Inv-loop μ-loop
 loop-holds c =
-    let a = c .before .before .before .before in
-    let e = c .before .first-sum .ensures in
-    (omega (arith, a .pre .2), moved-first _ _ _ _ (e .0) (e .1), rw (e .0) (best-first (listOf (a .args .s .now)) (a .args .k)))
+    let a = c .before .before .before .before .before .before .before .before .before .before in
+    let e = c .before .first-sum .ensures in (
+      omega (arith, a .pre .2),
+      moved-first _ _ _ _ _ (e .0) (e .1) (c .before .before .before .before .start2 .ensures),
+      rw (e .0) (best-first (listOf (a .args .s .now)) (a .args .k)),
+    )
 
 add-if1 : tie.Need-add-if1 Inv-loop μ-loop
 add-if1 c = search needs
@@ -41,8 +56,9 @@ slice-aggregate-next-sum-2 c = search needs
 
 next-sum-requires : tie.Need-next-sum-requires Inv-loop μ-loop
 next-sum-requires c κs =
-    let a = c .before .before .before .before .before .before .before .before .before in
-    let l = c .before .before .before .before .loop .inv in
+    let b = c .before .before .before .before in
+    let a = b .before .before .before .before .before .before .before .before .before .before .before in
+    let l = b .loop .inv in
     ((a .pre .0, a .pre .1, omega arith, l .1 .sum-is), (l .1 .front-at, l .1 .back-at))
 
 add-j : tie.Need-add-j Inv-loop μ-loop
@@ -62,8 +78,9 @@ loop-again c =
 
 returns : tie.Need-returns Inv-loop μ-loop
 returns c =
-    let a = c .before .before .before .before .before .before .before in
-    let l = c .before .before .loop in
+    let b = c .before .before in
+    let a = b .before .before .before .before .before .before .before .before .before .before .before in
+    let l = b .loop in
     found _ (a .pre .0) (a .pre .1) _ (l .j) (l .best) (a .pre .2) (l .inv .0) (omega arith) (l .inv .2)
 
 pub best-run-spec : {M : Type 1} → statement M
@@ -72,6 +89,10 @@ best-run-spec =
     (tie.spec
     Inv-loop
     μ-loop
+    slice-aggregate-start
+    start-requires
+    slice-aggregate-start-2
+    start-requires-2
     slice-aggregate-first-sum
     first-sum-requires
     loop-holds

@@ -5,7 +5,6 @@ use native.Mathlib.Omega.{arith}
 use borrow.Author.Needs.{needs}
 use Rattle.image.specs.Read.{listOf}
 use Rattle.image_cursor.specs.Code.Cursor.{Ready}
-use Rattle.image_cursor.proofs.CursorLaws.{first, next}
 use Rattle.runs.specs.Runs.{runSum}
 use Rattle.image_busiest.proofs.WindowLaws.{count-small, first-more, none, run-small}
 use Rattle.image_busiest.proofs.window.first_sum.Statement.{statement}
@@ -20,7 +19,7 @@ abbrev μ-loop : tie.MeasureT-loop
 loop-holds : tie.Need-loop-holds Inv-loop μ-loop
 loop-holds c =
     let a = c .before .before in
-    (omega arith, none (listOf (a .args .s .now)), first _ _ (a .pre .3))
+    (omega arith, none (listOf (a .args .s .now)), a .pre .3)
 
 count-at-requires : tie.Need-count-at-requires Inv-loop μ-loop
 count-at-requires c κs =
@@ -46,7 +45,7 @@ loop-again c =
     let a = c .before .before .before .before .before .before .before .before in
     let l = c .before .before .before .before .before .loop in
     let e = c .before .before .count-at .ensures in
-    (omega arith, first-more _ (a .pre .0) (a .pre .1) (l .i) _ _ (omega (arith, a .pre .2)) (l .inv .1) (e .0), next _ _ _ (e .1))
+    (omega arith, first-more _ (a .pre .0) (a .pre .1) (l .i) _ _ (omega (arith, a .pre .2)) (l .inv .1) (e .0), e .1)
 
 same-length : tie.Need-same-length Inv-loop μ-loop
 same-length c = search needs
