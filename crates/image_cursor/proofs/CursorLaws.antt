@@ -3,7 +3,7 @@ use mathlib.Core.Bool.{true}
 use mathlib.Core.List.{List, _++_}
 use mathlib.Core.Path.{_≡_, ap, sym, _∙_}
 use Prim.Native.Nat.{ℕ, zero, suc, _+_, _*_, _/_, _%_, _^_, _≤_, _<_}
-use native.Mathlib.Nat.{lt-of-mul-lt-mul-left, zero-div}
+use native.Mathlib.Nat.{lt-of-mul-lt-mul-left}
 use native.Mathlib.Decide.{ℕ-discrete, decLe}
 use native.Mathlib.Omega.{arith}
 use lib.ListN.{length, getD, take, drop, replicate, length-replicate}
@@ -43,29 +43,30 @@ module _ (s : List ℕ) (a : accepted s ≡ true) where
         page-is = λ h. ap (take (2 ^ eOf s)) e ∙ take-at p (drop (0 + length p) c) (2 ^ eOf s) k;
       }
 
--- the count of the hour
-count-is : (s : List ℕ) (i : ℕ) (c : List ℕ) → i < nOf s → Ready s i c → getD c (i % 2 ^ eOf s) 0 ≡ getD (listOf s) i 0
-count-is s i c h r =
+-- a count of the page, n hours behind hour i
+count-is : (s : List ℕ) (i n : ℕ) (c : List ℕ) → i < nOf s → i % 2 ^ eOf s + n < 2 ^ eOf s → Ready s i c
+    → getD c (i % 2 ^ eOf s + n) 0 ≡ getD (listOf s) (i + n) 0
+count-is s i n c h l r =
     let m : ℕ = 2 ^ eOf s in
-    let j : ℕ = i % m in
-    let l : j < m = hour-low (eOf s) i in
+    let j : ℕ = i % m + n in
+    let e : m * (i / m) + j ≡ i + n = omega (arith, hour-split (eOf s) i) in
     sym (getD-take m c j 0 l) ∙ ap (λ (z : List ℕ). getD z j 0) (r .page-is h) ∙ getD-page (eOf s) (listOf s) (i / m) j l
-    ∙ ap (λ (z : ℕ). getD (listOf s) z 0) (hour-split (eOf s) i)
+    ∙ ap (λ (z : ℕ). getD (listOf s) z 0) e
 
 -- an hour behind another in its page
-same-page : (e i : ℕ) → 1 ≤ (i + 1) % 2 ^ e → i / 2 ^ e ≡ (i + 1) / 2 ^ e
-same-page e i l =
+same-page : (e i n : ℕ) → i % 2 ^ e + n ≤ 2 ^ e → 1 ≤ (i + n) % 2 ^ e → i / 2 ^ e ≡ (i + n) / 2 ^ e
+same-page e i n h l =
     let m : ℕ = 2 ^ e in
     let u : m * (i / m) + i % m ≡ i = hour-split e i in
-    let v : m * ((i + 1) / m) + (i + 1) % m ≡ i + 1 = hour-split e (i + 1) in
-    let x : i / m < (i + 1) / m + 1 = lt-of-mul-lt-mul-left m (omega (arith, hour-low e (i + 1))) in
-    let y : (i + 1) / m < i / m + 1 = lt-of-mul-lt-mul-left m (omega (arith, hour-low e i)) in
+    let v : m * ((i + n) / m) + (i + n) % m ≡ i + n = hour-split e (i + n) in
+    let x : i / m < (i + n) / m + 1 = lt-of-mul-lt-mul-left m (omega (arith, hour-low e (i + n))) in
+    let y : (i + n) / m < i / m + 1 = lt-of-mul-lt-mul-left m (omega arith) in
     omega arith
 
-stays : (s : List ℕ) (i : ℕ) (c : List ℕ) → 1 ≤ (i + 1) % 2 ^ eOf s → i < nOf s → Ready s i c → Ready s (i + 1) c
-stays s i c l h r = record {
+stays : (s : List ℕ) (i n : ℕ) (c : List ℕ) → i % 2 ^ eOf s + n ≤ 2 ^ eOf s → 1 ≤ (i + n) % 2 ^ eOf s → i < nOf s → Ready s i c → Ready s (i + n) c
+stays s i n c f l h r = record {
   long = r .long;
-  page-is = λ g. r .page-is h ∙ ap (page (eOf s) (listOf s)) (same-page (eOf s) i l);
+  page-is = λ g. r .page-is h ∙ ap (page (eOf s) (listOf s)) (same-page (eOf s) i n f l);
 }
 
 above : (k : ℕ) → (k ≡ 0 → ⊥) → 1 ≤ k
@@ -83,20 +84,22 @@ module _ (s : List ℕ) {h : Head} (o : HeadOf s h) where
   pub ready-read : accepted s ≡ true → (i : ℕ) (c d : List ℕ) → length c ≡ 256 → d ≡ splice c 0 (page (eOf s) (listOf s) (i / 2 ^ h .e)) → Ready s i d
   ready-read a i c d l q = read-by s a i c d l (q ∙ ap (λ (z : ℕ). splice c 0 (page (eOf s) (listOf s) (i / 2 ^ z))) (o .e-is))
 
-  -- page 0, and hour 0
-  pub first-in : 0 < h .hours → 0 < pagesOf s
-  first-in l = rw (zero-div (2 ^ h .e)) at (page-in 0 l)
+  pub ready-stays : (i n j : ℕ) (c : List ℕ) → j ≡ (i + n) % 2 ^ h .e → (j ≡ 0 → ⊥) → i < h .hours → i % 2 ^ h .e + n ≤ 2 ^ h .e → Ready s i c
+      → Ready s (i + n) c
+  ready-stays i n j c q f l g r =
+      stays s i n c (rw (o .e-is) at g) (rw (q ∙ ap (λ (z : ℕ). (i + n) % 2 ^ z) (o .e-is)) at (above j f)) (omega (arith, o .hours-is)) r
 
-  pub ready-first : accepted s ≡ true → (c d : List ℕ) → length c ≡ 256 → d ≡ splice c 0 (page (eOf s) (listOf s) 0) → Ready s 0 d
-  ready-first a c d l q = read-by s a 0 c d l (rw (zero-div (2 ^ eOf s)) q)
+  pub small : accepted s ≡ true → h .e ≤ 8
+  small a = omega (arith, o .e-is, low s a)
 
-  -- j is the place of an hour in its page
-  pub ready-stays : (i j : ℕ) (c : List ℕ) → j ≡ (i + 1) % 2 ^ h .e → (j ≡ 0 → ⊥) → i < h .hours → Ready s i c → Ready s (i + 1) c
-  ready-stays i j c q n l r =
-      stays s i c (rw (q ∙ ap (λ (z : ℕ). (i + 1) % 2 ^ z) (o .e-is)) at (above j n)) (omega (arith, o .hours-is)) r
+  pub page-small : accepted s ≡ true → 2 ^ h .e ≤ 256
+  page-small a = pow-mono {i = h .e} {j = 8} (small a)
 
-  pub place-in : accepted s ≡ true → (i j : ℕ) → j ≡ i % 2 ^ h .e → j < 256
-  place-in a i j q = rw (q ∙ ap (λ (z : ℕ). i % 2 ^ z) (o .e-is)) (omega (arith, hour-low (eOf s) i, fits s a))
+  pub place-in : accepted s ≡ true → (i n : ℕ) → i % 2 ^ h .e + n < 2 ^ h .e → i % 2 ^ h .e + n < 256
+  place-in a i n l = omega (arith, page-small a)
 
-  pub count-of : (i j : ℕ) (c : List ℕ) → j ≡ i % 2 ^ h .e → i < h .hours → Ready s i c → getD c j 0 ≡ getD (listOf s) i 0
-  count-of i j c q l r = rw (q ∙ ap (λ (z : ℕ). i % 2 ^ z) (o .e-is)) (count-is s i c (omega (arith, o .hours-is)) r)
+  pub count-of : (i n j : ℕ) (c : List ℕ) → j ≡ i % 2 ^ h .e + n → i < h .hours → j < 2 ^ h .e → Ready s i c → getD c j 0 ≡ getD (listOf s) (i + n) 0
+  count-of i n j c q l g r =
+      let e : j ≡ i % 2 ^ eOf s + n = q ∙ ap (λ (z : ℕ). i % 2 ^ z + n) (o .e-is) in
+      let f : j < 2 ^ eOf s = rw (o .e-is) at g in
+      rw e (count-is s i n c (omega (arith, o .hours-is)) (rw e at f) r)

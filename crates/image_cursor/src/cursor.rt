@@ -1,49 +1,44 @@
-// The counts of an accepted image in their order, with one page of them in a lent array: the page of the hour that comes next.
+// An accepted image read along its hours, page by page, with one page of counts in a lent array.
 use bits::word::low_bits;
 use image::head::Head;
 use image_page::page_counts;
+use reserve::power;
 ghost use mathlib.Core.Bool.{true};
 ghost use mathlib.Core.Path.{_≡_};
-ghost use Prim.Native.Nat.{_+_, _<_};
-ghost use lib.ListN.{getD, length};
+ghost use Prim.Native.Nat.{_+_, _%_, _^_, _≤_, _<_};
+ghost use lib.ListN.{length};
 ghost use Rattle.image.specs.Check.{accepted};
 ghost use Rattle.image.specs.Code.Head.{HeadOf};
-ghost use Rattle.image.specs.Read.{listOf};
 ghost use Rattle.image_cursor.specs.Code.Cursor.{Ready};
 
-// Before hour 0 of the image s, whose header is h.
-pub fn start(s: &[u8], h: Head, counts: &mut [u32])
-    requires { ⌜ (accepted (now s) ≡ true) × HeadOf (now s) h × (length (now counts) ≡ 256) ⌝ }
-    ensures { λ _. ⌜ Ready (now (s .entry)) 0 (now (counts .exit)) ⌝ }
+// How many hours the page of hour i has from hour i on: pages have 2^e.
+pub fn room(e: u32, i: u64) -> u64
+    requires { ⌜ e ≤ 8 ⌝ }
+    ensures { λ r. ⌜ r + i % 2 ^ e ≡ 2 ^ e ⌝ }
 {
-    if h.hours == 0 {
-        return;
-    }
-    page_counts(s, h, 0, counts);
+    power(e) - low_bits(i, e)
 }
 
-// From hour i on to the next, which may be the first of a page.
-fn turn(s: &[u8], h: Head, i: u64, counts: &mut [u32])
-    requires { ⌜ (accepted (now s) ≡ true) × HeadOf (now s) h × (i < h .hours) × Ready (now s) i (now counts) ⌝ }
-    ensures { λ _. ⌜ Ready (now (s .entry)) (i + 1) (now (counts .exit)) ⌝ }
+// Reads the page of hour i of the image s, whose header is h, if this hour is logged.
+pub fn read_page(s: &[u8], h: Head, i: u64, counts: &mut [u32])
+    requires { ⌜ (accepted (now s) ≡ true) × HeadOf (now s) h × (length (now counts) ≡ 256) ⌝ }
+    ensures { λ _. ⌜ Ready (now (s .entry)) i (now (counts .exit)) ⌝ }
 {
-    let next = i + 1;
+    if h.hours <= i {
+        return;
+    }
+    page_counts(s, h, (i >> h.e) as usize, counts);
+}
+
+// From hour i, whose page is in counts, n hours on: no further than to the first hour of the next page, which is then read.
+pub fn turn(s: &[u8], h: Head, i: u64, n: u64, counts: &mut [u32])
+    requires { ⌜ (accepted (now s) ≡ true) × HeadOf (now s) h × Ready (now s) i (now counts) ⌝ }
+    requires { ⌜ (i < h .hours) × (i % 2 ^ h .e + n ≤ 2 ^ h .e) ⌝ }
+    ensures { λ _. ⌜ Ready (now (s .entry)) (i + n) (now (counts .exit)) ⌝ }
+{
+    let next = i + n;
     if low_bits(next, h.e) != 0 {
         return;
     }
-    if h.hours <= next {
-        return;
-    }
-    page_counts(s, h, (next >> h.e) as usize, counts);
-}
-
-// The count of hour i, and on to the next hour.
-pub fn count_at(s: &[u8], h: Head, i: u64, counts: &mut [u32]) -> u64
-    requires { ⌜ (accepted (now s) ≡ true) × HeadOf (now s) h × (i < h .hours) × Ready (now s) i (now counts) ⌝ }
-    ensures { λ r. ⌜ (r ≡ getD (listOf (now (s .entry))) i 0) × Ready (now (s .entry)) (i + 1) (now (counts .exit)) ⌝ }
-{
-    let j = low_bits(i, h.e) as usize;
-    let count = counts[j] as u64;
-    turn(s, h, i, counts);
-    count
+    read_page(s, h, next, counts);
 }
