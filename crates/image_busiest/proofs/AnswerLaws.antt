@@ -1,20 +1,23 @@
 -- The call has an answer on any bytes, and one alone. Assumes nothing.
 use mathlib.Core.Bool.{Bool, true, false}
 use mathlib.Core.List.{List}
-use mathlib.Core.Logic.{_⊎_, inl, inr}
+use mathlib.Core.Logic.{_⊎_, inl, inr, ⊎-elim}
 use mathlib.Core.Path.{_≡_, refl, sym, ap, _∙_}
-use Prim.Native.Nat.{ℕ, _≤_, _<_}
+use Prim.Native.Nat.{ℕ, _+_, _≤_, _<_}
 use native.Mathlib.Decide.{decLe}
 use native.Mathlib.Omega.{arith}
 use lib.ListN.{length}
 use Rattle.answers.specs.Image.{fails}
 use Rattle.answers.specs.declared.image.Stretch.{Stretch}
 use Rattle.answers.specs.declared.image.Stretch.the-variants.{Run, Refused}
+use Rattle.lists.proofs.Sums.{sum-take-le}
 use Rattle.image.specs.Check.{accepted, check}
 use Rattle.image.specs.Read.{listOf}
-use Rattle.image_cursor.proofs.AccessLaws.{accepted-or, not-both, one-refusal}
+use Rattle.image.proofs.Accepted.{accepted-only}
+use Rattle.image_cursor.proofs.AccessLaws.{accepted-or, five-or-six, not-both, one-refusal}
 use Rattle.runs.specs.Runs.{Busiest}
 use Rattle.runs.proofs.BusiestLaws.{one-busiest, some-busiest}
+use Rattle.runs.proofs.PrefixSums.{run-reading}
 use Rattle.image_busiest.specs.Busiest.{BusiestCall, no-such-run, not-accepted, the-run}
 
 pub some-answer : (s : List ℕ) (k : ℕ) → (a : Stretch) × BusiestCall s k a
@@ -45,3 +48,17 @@ one-answer s k _ _ (the-run a l f t b) (no-such-run c o) = absurd (outside (list
 one-answer s k _ _ (the-run a l f t b) (the-run c m g u d) =
     let e = one-busiest (listOf s) k f g t u b d in
     ap (λ (z : ℕ). Run z t) (e .0) ∙ ap (Run g) (e .1)
+
+-- how large it is: refusals are 5, 6 and 13
+abbrev pub Small : Stretch → Type 0
+Small (Run f t) = (f ≤ 65536) × (t < 1099511627776)
+Small (Refused j) = (1 ≤ j) × (j ≤ 13)
+
+pub small-answer : (s : List ℕ) (k : ℕ) (a : Stretch) → BusiestCall s k a → Small a
+small-answer s k _ (not-accepted j p) = ⊎-elim (λ (e : j ≡ 5). omega arith) (λ (e : j ≡ 6). omega arith) (five-or-six s j p)
+small-answer s k _ (no-such-run a o) = omega arith
+small-answer s k _ (the-run a l f t b) =
+    let m = accepted-only s a .limits in (
+      omega (arith, b .inside, m .hours),
+      omega (arith, b .total-is, run-reading (listOf s) f k, sum-take-le (f + k) (listOf s), m .total),
+    )
