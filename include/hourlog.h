@@ -86,7 +86,7 @@ extern "C" {
 /* Of this header.  MAJOR rises where a call takes or answers something else
  * than before, MINOR where something is added.  For #if: 1000*MAJOR + MINOR. */
 #define HOURLOG_VERSION_MAJOR 2
-#define HOURLOG_VERSION_MINOR 1
+#define HOURLOG_VERSION_MINOR 0
 #define HOURLOG_VERSION (1000 * HOURLOG_VERSION_MAJOR + HOURLOG_VERSION_MINOR)
 
 /* Of the bytes: what byte 0 of a store, and of an image, says. */

@@ -18,17 +18,18 @@ use Rattle.answers.specs.Image.{Reply, given, refused}
 use Rattle.image.proofs.CallLaws.{write-refused}
 use Rattle.freeze.specs.Freeze.{freezeCall}
 use Rattle.freeze.proofs.Freezing.{freeze-refused}
+use Rattle.image_busiest.proofs.AnswerLaws.{some-answer}
 use Rattle.book_in.specs.FromBook.{fromCall}
 use Rattle.book_in.proofs.FromLaws.{from-refused}
 use Rattle.book_out.specs.ToBook.{toCall}
 use Rattle.book_out.proofs.ToLaws.{to-refused}
-use Rattle.hourlog_c.specs.Public.{End, Ends, Fresh, Freeze, ImageCheck, ImageCount, ImageLength, ImageReach, ImageReading, ImageWrite, Live}
-use Rattle.hourlog_c.specs.Public.{ImageFromBcd, ImageToBcd}
-use Rattle.hourlog_c.specs.Public.{PublicCall, beside, lent, ofImage, ofStore, refusal, theCells, theNumber, theSums}
+use Rattle.hourlog_c.specs.Public.{End, Ends, Fresh, Freeze, ImageBusiest, ImageCheck, ImageCount, ImageFromBcd, ImageLength, ImageReach, ImageReading}
+use Rattle.hourlog_c.specs.Public.{ImageToBcd, ImageWrite, Live}
+use Rattle.hourlog_c.specs.Public.{PublicCall, beside, lent, ofImage, ofStore, ofStretch, refusal, theCells, theNumber, theRun, theSums}
 use Rattle.hourlog_c.specs.ReadBack.{Reads}
 use Rattle.hourlog_c.proofs.RefusedTen.{image-refused, store-refused}
-use Rattle.demands.proofs.Refusals.{check-allowed, count-allowed, freeze-allowed, fresh-allowed, length-allowed, live-allowed, reach-allowed, reading-allowed, write-allowed}
-use Rattle.demands.proofs.Refusals.{from-allowed, to-allowed}
+use Rattle.demands.proofs.Refusals.{busiest-allowed, check-allowed, count-allowed, freeze-allowed, fresh-allowed, from-allowed, length-allowed, live-allowed, reach-allowed}
+use Rattle.demands.proofs.Refusals.{reading-allowed, to-allowed, write-allowed}
 use Rattle.demands.specs.Demand1.{Allowed, Demand1, Given, Refused, aNumber, cellsMoved, row}
 
 -- ---- all calls
@@ -42,6 +43,7 @@ allowed (ImageCheck i) a t d = subst (Allowed (row (ImageCheck i))) (sym (d .0))
 allowed (ImageCount i k) a t d = subst (Allowed (row (ImageCount i k))) (sym (d .0)) (count-allowed i k)
 allowed (ImageReading i k) a t d = subst (Allowed (row (ImageReading i k))) (sym (d .0)) (reading-allowed i k)
 allowed (ImageReach i p) a t d = subst (Allowed (row (ImageReach i p))) (sym (d .0 .2)) (reach-allowed i p (d .0 .0) (d .0 .1))
+allowed (ImageBusiest i k) a t d = subst (Allowed (row (ImageBusiest i k))) (sym (d .0 .2)) (busiest-allowed i k (d .0 .0) (d .0 .1))
 allowed (ImageFromBcd b e i) a t d = subst (Allowed (row (ImageFromBcd b e i))) (sym (d .0)) (from-allowed b e i)
 allowed (ImageToBcd i b) a t d = subst (Allowed (row (ImageToBcd i b))) (sym (d .0)) (to-allowed i b)
 
@@ -65,6 +67,7 @@ some (ImageCheck i) = (_, _, (refl, refl))
 some (ImageCount i k) = (_, _, (refl, refl))
 some (ImageReading i k) = (_, _, (refl, refl))
 some (ImageReach i p) = let r = may-reach i p in (ofImage (r .0), i ∷ [], ((r .0, r .1, refl), refl))
+some (ImageBusiest i k) = let r = some-answer i k in (ofStretch (r .0), i ∷ [], ((r .0, r .1, refl), refl))
 some (ImageFromBcd b e i) = (_, _, (refl, refl))
 some (ImageToBcd i b) = (_, _, (refl, refl))
 
@@ -82,6 +85,7 @@ keeps (ImageCheck i) k t d = d .1
 keeps (ImageCount i j) k t d = d .1
 keeps (ImageReading i j) k t d = d .1
 keeps (ImageReach i p) k t d = d .1
+keeps (ImageBusiest i n) k t d = d .1
 keeps (ImageFromBcd b e i) k t d =
     d .1 ∙ ap (λ (z : List ℕ). b ∷ z ∷ []) (from-refused e b i k (image-refused (fromCall e b i .reply) k .0 (sym (d .0))))
 keeps (ImageToBcd i b) k t d =
@@ -121,6 +125,7 @@ question-keeps (ImageCheck i) a t q d = d .1
 question-keeps (ImageCount i k) a t q d = d .1
 question-keeps (ImageReading i k) a t q d = d .1
 question-keeps (ImageReach i p) a t q d = d .1
+question-keeps (ImageBusiest i k) a t q d = d .1
 question-keeps (ImageFromBcd b e i) a t q d = absurd (true≢false (sym q))
 question-keeps (ImageToBcd i b) a t q d = absurd (true≢false (sym q))
 
@@ -130,6 +135,7 @@ module _ (c : PublicCall) (w : ℕ) (t : List (List ℕ)) where
   is-below (theNumber n) d r l = absurd (omega (arith, r .0))
   is-below (theCells u v) d r l = absurd (omega (arith, r .0))
   is-below (theSums n s) d r l = absurd (omega (arith, r .0))
+  is-below (theRun f s) d r l = absurd (omega (arith, r .0))
   is-below (refusal k) d r l =
       record { number = k; numbered = allowed c (refusal k) t d; minus = omega (arith, r .word, r .refusal); kept = keeps c k t d }
 
@@ -137,6 +143,7 @@ module _ (c : PublicCall) (w : ℕ) (t : List (List ℕ)) where
   is-above (theNumber n) d r l = record { result = theNumber n; kind = allowed c (theNumber n) t d; ends = d; reads = r }
   is-above (theCells u v) d r l = record { result = theCells u v; kind = allowed c (theCells u v) t d; ends = d; reads = r }
   is-above (theSums n s) d r l = record { result = theSums n s; kind = allowed c (theSums n s) t d; ends = d; reads = r }
+  is-above (theRun f s) d r l = record { result = theRun f s; kind = allowed c (theRun f s) t d; ends = d; reads = r }
   is-above (refusal k) d r l = absurd (omega (arith, r .sign))
 
 pub demand-1 : Demand1

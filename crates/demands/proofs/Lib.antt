@@ -12,3 +12,4 @@ pub mod Sentences2
 pub mod Samples
 pub mod Demand3
 pub mod Sentences3
+pub mod Note1

@@ -2,6 +2,7 @@
 use mathlib.Core.Path.{_≡_, refl, sym, subst}
 use mathlib.Core.Bool.{Bool, true, false, _&&_}
 use mathlib.Core.List.{List, [], _∷_, _++_}
+use mathlib.Core.Logic.{⊎-elim}
 use Prim.Native.Nat.{ℕ, zero, suc}
 use native.Mathlib.Omega.{arith}
 use lib.ListN.{length, drop, set}
@@ -29,12 +30,15 @@ use Rattle.image.specs.Read.{listOf, nOf, sOf}
 use Rattle.freeze.specs.Freeze.{freezeCall}
 use Rattle.freeze.proofs.Freezing.{only-page-size}
 use Rattle.lists.proofs.Tests.{left, right}
+use Rattle.answers.specs.declared.image.Stretch.{Stretch}
+use Rattle.image_cursor.proofs.AccessLaws.{five-or-six}
+use Rattle.image_busiest.specs.Busiest.{BusiestCall, no-such-run, not-accepted, the-run}
 use Rattle.book.specs.Book.{bookOf, decimal, fourDigits, listOfBook}
 use Rattle.book_in.specs.FromBook.{fromCall}
 use Rattle.book_in.proofs.FromLaws.{only-long}
 use Rattle.book_out.specs.ToBook.{past, putBook, toCall}
-use Rattle.hourlog_c.specs.Public.{Fresh, Freeze, ImageCheck, ImageCount, ImageLength, ImageReach, ImageReading, ImageWrite, Live}
-use Rattle.hourlog_c.specs.Public.{ImageFromBcd, ImageToBcd, ofCheck, ofImage, ofStore}
+use Rattle.hourlog_c.specs.Public.{Fresh, Freeze, ImageBusiest, ImageCheck, ImageCount, ImageFromBcd, ImageLength, ImageReach, ImageReading, ImageToBcd, ImageWrite, Live}
+use Rattle.hourlog_c.specs.Public.{ofCheck, ofImage, ofStore, ofStretch}
 use Rattle.demands.specs.Demand1.{Allowed, Among, Row, aNumber, cellsMoved, row}
 
 -- ---- the live calls
@@ -177,6 +181,16 @@ reach-allowed s p _ (above-total h l) = omega arith
 reach-allowed s p _ (smallest e l) = refl
 reach-allowed s p _ (damage h l e) = omega arith
 reach-allowed s p _ (any-index h l e i m) = refl
+
+-- ---- on an image that must be accepted: 5 and 6 of the check
+pub check-among : (s : List ℕ) (j : ℕ) (ks : List ℕ) → check s ≡ fails j → Among 5 ks → Among 6 ks → Among j ks
+check-among s j ks p a b = ⊎-elim (λ (e : j ≡ 5). rw e a) (λ (e : j ≡ 6). rw e b) (five-or-six s j p)
+
+pub busiest-allowed : (s : List ℕ) (k : ℕ) (a : Stretch) → BusiestCall s k a → Allowed (row (ImageBusiest s k)) (ofStretch a)
+unfolding row occurrences one ofStretch
+busiest-allowed s k _ (not-accepted j p) = check-among s j (5 ∷ 6 ∷ 13 ∷ []) p (omega arith) (omega arith)
+busiest-allowed s k _ (no-such-run a o) = omega arith
+busiest-allowed s k _ (the-run a l f t b) = refl
 
 -- ---- books
 pub from-allowed : (b : List ℕ) (e : ℕ) (out : List ℕ) → Allowed (row (ImageFromBcd b e out)) (ofImage (fromCall e b out .reply))

@@ -17,12 +17,15 @@ use Rattle.answers.specs.Image.{Verdict, fails, holds, Reply, given, refused}
 use Rattle.image.specs.Query.{count, reading}
 use Rattle.image.specs.Reach.{Reach}
 use Rattle.freeze.specs.Freeze.{freezeCall}
-use Rattle.hourlog_c.specs.Public.{End, Ends, Fresh, Freeze, ImageCheck, ImageCount, ImageLength, ImageReach, ImageReading, ImageWrite, Live}
-use Rattle.hourlog_c.specs.Public.{PublicCall, beside, lent, ofCheck, ofImage, ofStore, refusal, theCells, theNumber, theSums}
-use Rattle.hourlog_c.specs.ReadBack.{Reads, checkedHours, checkedTotal, returned, taken}
+use Rattle.answers.specs.declared.image.Stretch.{Stretch}
+use Rattle.answers.specs.declared.image.Stretch.the-variants.{Run, Refused as NoStretch}
+use Rattle.image_busiest.specs.Busiest.{BusiestCall}
+use Rattle.hourlog_c.specs.Public.{End, Ends, Fresh, Freeze, ImageBusiest, ImageCheck, ImageCount, ImageLength, ImageReach, ImageReading, ImageWrite, Live}
+use Rattle.hourlog_c.specs.Public.{PublicCall, beside, lent, ofCheck, ofImage, ofStore, ofStretch, refusal, theCells, theNumber, theRun, theSums}
+use Rattle.hourlog_c.specs.ReadBack.{Reads, busiestFirst, busiestSum, checkedHours, checkedTotal, returned, taken}
 use Rattle.hourlog_c.specs.Export.{Answers}
 use Rattle.hourlog_c.proofs.RefusedTen.{image-refused, store-refused}
-use Rattle.demands.specs.Demand1.{Among, Gives, Given, Kind, aNumber, cellsMoved, hoursAndTotal, row}
+use Rattle.demands.specs.Demand1.{Among, Gives, Given, Kind, aNumber, cellsMoved, firstAndSum, hoursAndTotal, row}
 use Rattle.demands.proofs.Demand1.{demand-1}
 use Rattle.demands.proofs.Slices.{same-second, same-slice}
 
@@ -128,6 +131,11 @@ module _ (s : List ℕ) (k : ℕ) where
   unfolding row ofImage
   image-reach-refused p q = demand-1 .allowed (ImageReach s p) (refusal k) (s ∷ []) ((refused k, q, refl), refl)
 
+  -- document 02, note 1: 'It refuses after 5 and 6 with 13'
+  pub busiest-refused : (n : ℕ) → BusiestCall s n (NoStretch k) → Among k (5 ∷ 6 ∷ 13 ∷ [])
+  unfolding row ofStretch
+  busiest-refused n q = demand-1 .allowed (ImageBusiest s n) (refusal k) (s ∷ []) ((NoStretch k, q, refl), refl)
+
 -- ---- a question changes no byte
 module _ (s : List ℕ) where
   asks : (c : Call) → row (Live c s) .question ≡ true → call c s .bytes ≡ s
@@ -174,6 +182,10 @@ module _ (s : List ℕ) (a : End) (t : List (List ℕ)) where
   unfolding row
   image-reach-asks p = demand-1 .question-keeps (ImageReach s p) a t refl
 
+  pub busiest-asks : (k : ℕ) → Ends (ImageBusiest s k) a t → t ≡ s ∷ []
+  unfolding row
+  busiest-asks k = demand-1 .question-keeps (ImageBusiest s k) a t refl
+
 -- ---- what C gets. A word of 2^63 or above is minus one of the call's refusals, and then no lent byte changed
 pub minus-refusal : (c : PublicCall) (w : ℕ) (t : List (List ℕ)) → Answers c w t → 2 ^ 63 ≤ w → Among (2 ^ 64 - w) (row c .refusals) × (t ≡ lent c)
 minus-refusal c w t a l =
@@ -182,32 +194,33 @@ minus-refusal c w t a l =
     (rw e (r .numbered), r .kept)
 
 -- any other is the answer. What each kind of answer is read as
-not-cells : aNumber ≡ cellsMoved → ⊥
-not-cells e = let z : _≡_ {A = ℕ} 0 1 = cc in omega arith
-
-not-sums : aNumber ≡ hoursAndTotal → ⊥
-not-sums e = let z : _≡_ {A = ℕ} 0 1 = cc in omega arith
-
-cells-not-sums : cellsMoved ≡ hoursAndTotal → ⊥
-cells-not-sums e = let z : _≡_ {A = ℕ} 0 1 = cc in omega arith
-
 number-in : {K : Kind} → K ≡ aNumber → (a : End) (w : ℕ) → Gives K a → Reads a w → a ≡ theNumber w
 number-in g (theNumber n) w k r = ap theNumber (sym (r .1))
-number-in g (theCells u v) w k r = absurd (not-cells (sym g ∙ k))
-number-in g (theSums n s) w k r = absurd (not-sums (sym g ∙ k))
+number-in g (theCells u v) w k r = let z : _≡_ {A = ℕ} 0 1 = cc in absurd (omega arith)
+number-in g (theSums n s) w k r = let z : _≡_ {A = ℕ} 0 1 = cc in absurd (omega arith)
+number-in g (theRun f s) w k r = let z : _≡_ {A = ℕ} 0 1 = cc in absurd (omega arith)
 number-in g (refusal j) w k r = absurd k
 
 cells-in : {K : Kind} → K ≡ cellsMoved → (a : End) (w : ℕ) → Gives K a → Reads a w → a ≡ theCells (taken w) (returned w)
-cells-in g (theNumber n) w k r = absurd (not-cells (sym k ∙ g))
+cells-in g (theNumber n) w k r = let z : _≡_ {A = ℕ} 0 1 = cc in absurd (omega arith)
 cells-in g (theCells u v) w k r = let x = r .1 in let y = r .2 in cc
-cells-in g (theSums n s) w k r = absurd (cells-not-sums (sym g ∙ k))
+cells-in g (theSums n s) w k r = let z : _≡_ {A = ℕ} 0 1 = cc in absurd (omega arith)
+cells-in g (theRun f s) w k r = let z : _≡_ {A = ℕ} 0 1 = cc in absurd (omega arith)
 cells-in g (refusal j) w k r = absurd k
 
 sums-in : {K : Kind} → K ≡ hoursAndTotal → (a : End) (w : ℕ) → Gives K a → Reads a w → a ≡ theSums (checkedHours w) (checkedTotal w)
-sums-in g (theNumber n) w k r = absurd (not-sums (sym k ∙ g))
-sums-in g (theCells u v) w k r = absurd (cells-not-sums (sym k ∙ g))
+sums-in g (theNumber n) w k r = let z : _≡_ {A = ℕ} 0 1 = cc in absurd (omega arith)
+sums-in g (theCells u v) w k r = let z : _≡_ {A = ℕ} 0 1 = cc in absurd (omega arith)
 sums-in g (theSums n s) w k r = let x = r .1 in let y = r .2 in cc
+sums-in g (theRun f s) w k r = let z : _≡_ {A = ℕ} 0 1 = cc in absurd (omega arith)
 sums-in g (refusal j) w k r = absurd k
+
+run-in : {K : Kind} → K ≡ firstAndSum → (a : End) (w : ℕ) → Gives K a → Reads a w → a ≡ theRun (busiestFirst w) (busiestSum w)
+run-in g (theNumber n) w k r = let z : _≡_ {A = ℕ} 0 1 = cc in absurd (omega arith)
+run-in g (theCells u v) w k r = let z : _≡_ {A = ℕ} 0 1 = cc in absurd (omega arith)
+run-in g (theSums n s) w k r = let z : _≡_ {A = ℕ} 0 1 = cc in absurd (omega arith)
+run-in g (theRun f s) w k r = let x = r .1 in let y = r .2 in cc
+run-in g (refusal j) w k r = absurd k
 
 store-number : (a : Answer) (n : ℕ) → theNumber n ≡ ofStore a → a ≡ answered n
 unfolding ofStore
@@ -230,6 +243,11 @@ check-sums : (v : Verdict) (n s : ℕ) → theSums n s ≡ ofCheck v → v ≡ h
 unfolding ofCheck
 check-sums (holds m u) n s e = cc
 check-sums (fails k) n s e = cc
+
+stretch-run : (a : Stretch) (f s : ℕ) → theRun f s ≡ ofStretch a → a ≡ Run f s
+unfolding ofStretch
+stretch-run (Run g u) f s e = cc
+stretch-run (NoStretch k) f s e = cc
 
 -- the word w is no refusal, and t is what was lent, afterwards
 module _ (w : ℕ) (l : w < 2 ^ 63) (t : List (List ℕ)) where
@@ -329,19 +347,33 @@ module _ (w : ℕ) (l : w < 2 ^ 63) (t : List (List ℕ)) where
       let G : Given (ImageReach s p) w t = demand-1 .above (ImageReach s p) w t a l in
       subst (Reach s p) (image-number (G .ends .0 .0) w (sym (number (ImageReach s p) refl a) ∙ G .ends .0 .2)) (G .ends .0 .1)
 
+  -- document 02, note 1: 'its first hour and its sum'
+  pub busiest-word : (s : List ℕ) (k : ℕ) → Answers (ImageBusiest s k) w t → BusiestCall s k (Run (busiestFirst w) (busiestSum w))
+  unfolding row
+  busiest-word s k a =
+      let G : Given (ImageBusiest s k) w t = demand-1 .above (ImageBusiest s k) w t a l in
+      subst (BusiestCall s k)
+      (stretch-run (G .ends .0 .0) (busiestFirst w) (busiestSum w) (sym (run-in refl (G .result) w (G .kind) (G .reads)) ∙ G .ends .0 .2))
+      (G .ends .0 .1)
+
 -- ---- 'store, every other live call and freeze: 10, not sound', soundness being told clause by clause: from the exports' promise itself
-ten-in : (a : End) (w : ℕ) → Reads a w → (w ≡ 2 ^ 64 - 10) ↔ (a ≡ refusal 10)
-ten-in (theNumber n) w r = (λ (q : w ≡ 2 ^ 64 - 10). absurd (omega (arith, r .0)), λ q. let z : _≡_ {A = ℕ} 0 1 = cc in absurd (omega arith))
-ten-in (theCells u v) w r = (λ (q : w ≡ 2 ^ 64 - 10). absurd (omega (arith, r .0)), λ q. let z : _≡_ {A = ℕ} 0 1 = cc in absurd (omega arith))
-ten-in (theSums n s) w r = (λ (q : w ≡ 2 ^ 64 - 10). absurd (omega (arith, r .0)), λ q. let z : _≡_ {A = ℕ} 0 1 = cc in absurd (omega arith))
-ten-in (refusal k) w r = (
-  λ (q : w ≡ 2 ^ 64 - 10). ap refusal (omega (arith, r .refusal)),
-  λ q. let z : k ≡ 10 = cc in omega (arith, r .word, r .refusal),
+no-minus : (w k : ℕ) → k ≤ 20 → w < 2 ^ 63 → w ≡ 2 ^ 64 - k → ⊥
+no-minus w k h l e = omega arith
+
+-- C gets minus k exactly where the answer is refusal k
+pub minus-in : (k : ℕ) → 1 ≤ k → k ≤ 20 → (a : End) (w : ℕ) → Reads a w → (w ≡ 2 ^ 64 - k) ↔ (a ≡ refusal k)
+minus-in k g h (theNumber n) w r = (λ q. absurd (no-minus w k h (r .0) q), λ q. let z : _≡_ {A = ℕ} 0 1 = cc in absurd (omega arith))
+minus-in k g h (theCells u v) w r = (λ q. absurd (no-minus w k h (r .0) q), λ q. let z : _≡_ {A = ℕ} 0 1 = cc in absurd (omega arith))
+minus-in k g h (theSums n s) w r = (λ q. absurd (no-minus w k h (r .0) q), λ q. let z : _≡_ {A = ℕ} 0 1 = cc in absurd (omega arith))
+minus-in k g h (theRun f s) w r = (λ q. absurd (no-minus w k h (r .0) q), λ q. let z : _≡_ {A = ℕ} 0 1 = cc in absurd (omega arith))
+minus-in k g h (refusal j) w r = (
+  λ (q : w ≡ 2 ^ 64 - k). ap refusal (omega (arith, r .refusal)),
+  λ q. let z : j ≡ k = cc in omega (arith, r .word, r .refusal),
 )
 
 pub live-unsound : (c : Call) (s : List ℕ) (w : ℕ) (t : List (List ℕ)) → Answers (Live c s) w t → (w ≡ 2 ^ 64 - 10) ↔ (Items s → ⊥)
-live-unsound c s w t a = Iff·trans (ten-in (a .answer) w (a .reads)) (a .ten)
+live-unsound c s w t a = Iff·trans (minus-in 10 (omega arith) (omega arith) (a .answer) w (a .reads)) (a .ten)
 
 pub freeze-unsound : (s : List ℕ) (e : ℕ) (out : List ℕ) (w : ℕ) (t : List (List ℕ)) → Answers (Freeze s e out) w t
     → (w ≡ 2 ^ 64 - 10) ↔ (Items s → ⊥)
-freeze-unsound s e out w t a = Iff·trans (ten-in (a .answer) w (a .reads)) (a .ten)
+freeze-unsound s e out w t a = Iff·trans (minus-in 10 (omega arith) (omega arith) (a .answer) w (a .reads)) (a .ten)

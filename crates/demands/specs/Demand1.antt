@@ -6,26 +6,28 @@ use mathlib.Core.Path.{_≡_}
 use Prim.Native.Nat.{ℕ, _+_, _^_, _≤_, _<_}
 use Rattle.lists.specs.Lists.{occurrences}
 use Rattle.store.specs.Plain.{Append, Count, Day, Free, Reach, Reading, Set}
-use Rattle.hourlog_c.specs.Public.{End, Ends, Fresh, Freeze, ImageCheck, ImageCount, ImageLength, ImageReach, ImageReading, ImageWrite, Live}
-use Rattle.hourlog_c.specs.Public.{ImageFromBcd, ImageToBcd}
-use Rattle.hourlog_c.specs.Public.{PublicCall, lent, refusal, theCells, theNumber, theSums}
+use Rattle.hourlog_c.specs.Public.{End, Ends, Fresh, Freeze, ImageBusiest, ImageCheck, ImageCount, ImageFromBcd, ImageLength, ImageReach, ImageReading}
+use Rattle.hourlog_c.specs.Public.{ImageToBcd, ImageWrite, Live}
+use Rattle.hourlog_c.specs.Public.{PublicCall, lent, refusal, theCells, theNumber, theRun, theSums}
 use Rattle.hourlog_c.specs.ReadBack.{Reads}
 use Rattle.hourlog_c.specs.Export.{Answers}
 
--- what a call gives that is not refused: a number, the cells taken and given back, N and S
+-- what a call gives that is not refused: a number, the cells taken and given back, N and S, a run's first hour and its sum
 pub data Kind : Type 0 where
   aNumber : Kind
   cellsMoved : Kind
   hoursAndTotal : Kind
+  firstAndSum : Kind
 
 abbrev pub Gives : Kind → End → Type 0
 Gives k (theNumber n) = k ≡ aNumber
 Gives k (theCells t r) = k ≡ cellsMoved
 Gives k (theSums n s) = k ≡ hoursAndTotal
+Gives k (theRun f s) = k ≡ firstAndSum
 Gives k (refusal j) = ⊥
 
--- A call's row of the table 'Where a call is turned down': its refusals in the table's order; what it gives else; whether it is a
--- question, which changes nothing
+-- A call's row of the table 'Where a call is turned down', or what its note in document 02 says of it: its refusals in their order; what it
+-- gives else; whether it is a question, which changes nothing
 pub record Row : Type 0 where
   pub refusals : List ℕ
   pub gives : Kind
@@ -47,6 +49,7 @@ row (ImageCheck i) = record { refusals = 5 ∷ 6 ∷ []; gives = hoursAndTotal; 
 row (ImageCount i k) = record { refusals = 5 ∷ 7 ∷ 6 ∷ []; gives = aNumber; question = true }
 row (ImageReading i k) = record { refusals = 5 ∷ 7 ∷ 6 ∷ []; gives = aNumber; question = true }
 row (ImageReach i p) = record { refusals = 5 ∷ 8 ∷ 6 ∷ []; gives = aNumber; question = true }
+row (ImageBusiest i k) = record { refusals = 5 ∷ 6 ∷ 13 ∷ []; gives = firstAndSum; question = true }
 row (ImageFromBcd b e i) = record { refusals = 1 ∷ 14 ∷ 2 ∷ 4 ∷ []; gives = aNumber; question = false }
 row (ImageToBcd i b) = record { refusals = 5 ∷ 6 ∷ 15 ∷ 4 ∷ []; gives = aNumber; question = false }
 
@@ -59,6 +62,7 @@ abbrev pub Allowed : Row → End → Type 0
 Allowed r (theNumber n) = Gives (r .gives) (theNumber n)
 Allowed r (theCells t u) = Gives (r .gives) (theCells t u)
 Allowed r (theSums n s) = Gives (r .gives) (theSums n s)
+Allowed r (theRun f s) = Gives (r .gives) (theRun f s)
 Allowed r (refusal k) = Among k (r .refusals)
 
 -- C gets the word w, below zero as a signed number of 64 bits: minus one of the call's refusals, and nothing that was lent has changed

@@ -20,8 +20,12 @@ use Rattle.image.specs.Query.{count, reading}
 use Rattle.image.specs.Reach.{Reach}
 use Rattle.image.proofs.Sizes.{Small as SmallReply, SmallVerdict, check-small, count-small, length-small, reach-small, reading-small, write-small}
 use Rattle.freeze.specs.Freeze.{freezeCall}
-use Rattle.hourlog_c.specs.Public.{End, Ends, Fresh, Freeze, ImageCheck, ImageCount, ImageLength, ImageReach, ImageReading, ImageWrite, Live}
-use Rattle.hourlog_c.specs.Public.{PublicCall, Ten, beside, ofCheck, ofImage, ofStore}
+use Rattle.answers.specs.declared.image.Stretch.{Stretch}
+use Rattle.answers.specs.declared.image.Stretch.the-variants.{Run, Refused as NoStretch}
+use Rattle.image_busiest.specs.Busiest.{BusiestCall}
+use Rattle.image_busiest.proofs.AnswerLaws.{Small as SmallStretch, small-answer}
+use Rattle.hourlog_c.specs.Public.{End, Ends, Fresh, Freeze, ImageBusiest, ImageCheck, ImageCount, ImageLength, ImageReach, ImageReading, ImageWrite, Live}
+use Rattle.hourlog_c.specs.Public.{PublicCall, Ten, beside, ofCheck, ofImage, ofStore, ofStretch}
 use Rattle.hourlog_c.specs.Words.{wordOf}
 use Rattle.hourlog_c.specs.ReadBack.{Reads}
 use Rattle.hourlog_c.specs.Export.{Answers, Costs}
@@ -37,17 +41,22 @@ small-store : (a : Answer) → SmallAnswer a → Small (ofStore a)
 unfolding ofStore
 small-store (changed t r) w = w
 small-store (answered n) w = w
-small-store (turned k) w = omega (arith, w .0, w .1)
+small-store (turned k) w = (w .0, omega (arith, w .1))
 
 pub small-image : (r : Reply) → SmallReply r → Small (ofImage r)
 unfolding ofImage
 small-image (given n) w = w
-small-image (refused k) w = omega (arith, w .0, w .1)
+small-image (refused k) w = (w .0, omega (arith, w .1))
 
 small-check : (v : Verdict) → SmallVerdict v → Small (ofCheck v)
 unfolding ofCheck
 small-check (holds n s) w = w
-small-check (fails k) w = omega (arith, w .0, w .1)
+small-check (fails k) w = (w .0, omega (arith, w .1))
+
+small-stretch : (a : Stretch) → SmallStretch a → Small (ofStretch a)
+unfolding ofStretch
+small-stretch (Run f s) w = w
+small-stretch (NoStretch k) w = (w .0, omega (arith, w .1))
 
 freeze-small : (e : ℕ) (s out : List ℕ) → SmallReply (freezeCall e s out .reply)
 unfolding freezeCall pick unwritten
@@ -125,3 +134,8 @@ reading-answers s i w r bytes q d =
 pub reach-answers : (s : List ℕ) (p w : ℕ) (r : Reply) → w ≡ wordOf (ofImage r) → Reach s p r → Answers (ImageReach s p) w (s ∷ [])
 reach-answers s p w r q d =
     answers (ImageReach s p) w (s ∷ []) (ofImage r) ((r, d, refl), refl) tt (small-image r (reach-small s p r d)) q
+
+-- the answer that busiest has
+pub busiest-answers : (s : List ℕ) (k w : ℕ) (r : Stretch) → w ≡ wordOf (ofStretch r) → BusiestCall s k r → Answers (ImageBusiest s k) w (s ∷ [])
+busiest-answers s k w r q d =
+    answers (ImageBusiest s k) w (s ∷ []) (ofStretch r) ((r, d, refl), refl) tt (small-stretch r (small-answer s k r d)) q

@@ -3,7 +3,7 @@ use mathlib.Core.Path.{_≡_, refl, _∙_}
 use Prim.Native.Nat.{ℕ, _+_, _*_, _%_, _^_, _≤_, _<_}
 use native.Mathlib.Nat.{mod-eq-of-lt}
 use native.Mathlib.Omega.{arith}
-use Rattle.hourlog_c.specs.Public.{End, refusal, theCells, theNumber, theSums}
+use Rattle.hourlog_c.specs.Public.{End, refusal, theCells, theNumber, theRun, theSums}
 use Rattle.hourlog_c.specs.Words.{minus, pair, wordOf}
 use Rattle.hourlog_c.specs.ReadBack.{Reads}
 
@@ -28,6 +28,7 @@ abbrev pub Small : End → Type 0
 Small (theNumber n) = n ≤ 4294967295
 Small (theCells t r) = (t ≤ 1800) × (r ≤ 1800)
 Small (theSums n s) = (n ≤ 65536) × (s ≤ 4294967295)
+Small (theRun f s) = (f ≤ 65536) × (s < 1099511627776)
 Small (refusal k) = (1 ≤ k) × (k ≤ 20)
 
 pub small-reads : (a : End) → Small a → Reads a (wordOf a)
@@ -38,5 +39,8 @@ small-reads (theCells t r) w =
     rw e (omega (arith, w .0, w .1), omega (arith, w .0, w .1), omega (arith, w .0, w .1))
 small-reads (theSums n s) w =
     let e : pair 40 s n ≡ s + n * 2 ^ 40 = pair-exact 40 s n (omega (arith, w .0, w .1)) in
+    rw e (omega (arith, w .0, w .1), omega (arith, w .0, w .1), omega (arith, w .0, w .1))
+small-reads (theRun f s) w =
+    let e : pair 40 s f ≡ s + f * 2 ^ 40 = pair-exact 40 s f (omega (arith, w .0, w .1)) in
     rw e (omega (arith, w .0, w .1), omega (arith, w .0, w .1), omega (arith, w .0, w .1))
 small-reads (refusal k) w = record { sign = omega (arith, w .0, w .1); word = omega (arith, w .0, w .1); refusal = omega (arith, w .0, w .1) }

@@ -1,4 +1,5 @@
--- Document 01's public calls, and those of document 02's notes: what each is given, which answers it may end in, and what it leaves of what it was lent. Assumes nothing.
+-- The public calls of document 01 and of document 02's notes: what each is given, which answers it may end in, and what it leaves of what it
+-- was lent. Assumes nothing.
 use mathlib.Core.List.{List, [], _∷_}
 use mathlib.Core.Logic.{_↔_}
 use mathlib.Core.Path.{_≡_}
@@ -12,7 +13,10 @@ use Rattle.image.specs.Check.{check}
 use Rattle.image.specs.Calls.{lengthCall, writeCall}
 use Rattle.image.specs.Query.{count, reading}
 use Rattle.image.specs.Reach.{Reach}
+use Rattle.image_busiest.specs.Busiest.{BusiestCall}
 use Rattle.freeze.specs.Freeze.{freezeCall}
+use Rattle.answers.specs.declared.image.Stretch.{Stretch}
+use Rattle.answers.specs.declared.image.Stretch.the-variants.{Run, Refused as NoStretch}
 use Rattle.book_in.specs.FromBook.{fromCall}
 use Rattle.book_out.specs.ToBook.{toCall}
 
@@ -27,6 +31,7 @@ pub data PublicCall : Type 0 where
   ImageCount : (image : List ℕ) (hour : ℕ) → PublicCall
   ImageReading : (image : List ℕ) (hour : ℕ) → PublicCall
   ImageReach : (image : List ℕ) (figure : ℕ) → PublicCall
+  ImageBusiest : (image : List ℕ) (hours : ℕ) → PublicCall
   ImageFromBcd : (book : List ℕ) (e : ℕ) (image : List ℕ) → PublicCall
   ImageToBcd : (image book : List ℕ) → PublicCall
 
@@ -51,14 +56,17 @@ lent (ImageCheck i) = i ∷ []
 lent (ImageCount i k) = i ∷ []
 lent (ImageReading i k) = i ∷ []
 lent (ImageReach i p) = i ∷ []
+lent (ImageBusiest i k) = i ∷ []
 lent (ImageFromBcd b e i) = b ∷ i ∷ []
 lent (ImageToBcd i b) = i ∷ b ∷ []
 
--- what a call ends in: the number asked for, the cells taken and given back, N and S, or 'a refusal is its number alone'
+-- what a call ends in: the number asked for, the cells taken and given back, N and S, a run's first hour and its sum, or 'a refusal is its
+-- number alone'
 pub data End : Type 0 where
   theNumber : ℕ → End
   theCells : (taken returned : ℕ) → End
   theSums : (hours total : ℕ) → End
+  theRun : (first total : ℕ) → End
   refusal : ℕ → End
 
 unfoldable pub ofStore : Answer → End
@@ -74,7 +82,12 @@ unfoldable pub ofCheck : Verdict → End
 ofCheck (holds n s) = theSums n s
 ofCheck (fails k) = refusal k
 
--- The call may end in the answer a, and what it was lent is afterwards t. Reach alone may end in one of several answers
+unfoldable pub ofStretch : Stretch → End
+ofStretch (Run f s) = theRun f s
+ofStretch (NoStretch k) = refusal k
+
+-- The call may end in the answer a, and what it was lent is afterwards t. Reach alone may end in one of several answers; a call on runs of
+-- hours has one, though its definition speaks of all runs and computes none
 abbrev pub Ends : PublicCall → End → List (List ℕ) → Type 0
 Ends (Fresh s P C) a t = (a ≡ ofStore (freshCall s P C .answer)) × (t ≡ freshCall s P C .bytes ∷ [])
 Ends (Live c s) a t = (a ≡ ofStore (call c s .answer)) × (t ≡ call c s .bytes ∷ beside c)
@@ -85,6 +98,7 @@ Ends (ImageCheck i) a t = (a ≡ ofCheck (check i)) × (t ≡ i ∷ [])
 Ends (ImageCount i k) a t = (a ≡ ofImage (count i k)) × (t ≡ i ∷ [])
 Ends (ImageReading i k) a t = (a ≡ ofImage (reading i k)) × (t ≡ i ∷ [])
 Ends (ImageReach i p) a t = ((r : Reply) × Reach i p r × (a ≡ ofImage r)) × (t ≡ i ∷ [])
+Ends (ImageBusiest i k) a t = ((r : Stretch) × BusiestCall i k r × (a ≡ ofStretch r)) × (t ≡ i ∷ [])
 Ends (ImageFromBcd b e i) a t = (a ≡ ofImage (fromCall e b i .reply)) × (t ≡ b ∷ fromCall e b i .bytes ∷ [])
 Ends (ImageToBcd i b) a t = (a ≡ ofImage (toCall i b .reply)) × (t ≡ i ∷ toCall i b .bytes ∷ [])
 
@@ -99,5 +113,6 @@ Ten (ImageCheck i) a = Unit {0}
 Ten (ImageCount i k) a = Unit {0}
 Ten (ImageReading i k) a = Unit {0}
 Ten (ImageReach i p) a = Unit {0}
+Ten (ImageBusiest i k) a = Unit {0}
 Ten (ImageFromBcd b e i) a = Unit {0}
 Ten (ImageToBcd i b) a = Unit {0}

@@ -1,7 +1,7 @@
 -- What C reads in a word, by the functions of include/hourlog.h. Assumes nothing.
 use mathlib.Core.Path.{_≡_}
 use Prim.Native.Nat.{ℕ, _-_, _/_, _%_, _^_, _≤_, _<_}
-use Rattle.hourlog_c.specs.Public.{End, refusal, theCells, theNumber, theSums}
+use Rattle.hourlog_c.specs.Public.{End, refusal, theCells, theNumber, theRun, theSums}
 
 -- as a signed number of 64 bits: zero or above; or below zero, and then minus k
 abbrev pub Above : ℕ → Type 0
@@ -26,9 +26,17 @@ checkedTotal w = w % 2 ^ 40
 abbrev pub checkedHours : ℕ → ℕ
 checkedHours w = w / 2 ^ 40 % 2 ^ 32
 
+-- hourlog_busiest_sum and hourlog_busiest_first
+abbrev pub busiestSum : ℕ → ℕ
+busiestSum w = w % 2 ^ 40
+
+abbrev pub busiestFirst : ℕ → ℕ
+busiestFirst w = w / 2 ^ 40 % 2 ^ 32
+
 -- in the word w C reads this answer
 abbrev pub Reads : End → ℕ → Type 0
 Reads (theNumber n) w = Above w × (w ≡ n)
 Reads (theCells t r) w = Above w × (taken w ≡ t) × (returned w ≡ r)
 Reads (theSums n s) w = Above w × (checkedHours w ≡ n) × (checkedTotal w ≡ s)
+Reads (theRun f s) w = Above w × (busiestFirst w ≡ f) × (busiestSum w ≡ s)
 Reads (refusal k) w = Below w k

@@ -1,9 +1,10 @@
 // The frozen image, for C. Each contract states what every lent slice is afterwards, also of those that are lent to read only.
 use crate::word::of_check;
 use crate::word::of_image;
+use crate::word::of_stretch;
 ghost use mathlib.Core.List.{[], _∷_};
-ghost use Rattle.hourlog_c.specs.Public.{Freeze, ImageCheck, ImageCount, ImageLength, ImageReach, ImageReading, ImageWrite};
-ghost use Rattle.hourlog_c.specs.Public.{ImageFromBcd, ImageToBcd};
+ghost use Rattle.hourlog_c.specs.Public.{Freeze, ImageBusiest, ImageCheck, ImageCount, ImageFromBcd, ImageLength, ImageReach, ImageReading};
+ghost use Rattle.hourlog_c.specs.Public.{ImageToBcd, ImageWrite};
 ghost use Rattle.hourlog_c.specs.Export.{Answers};
 
 #[no_mangle]
@@ -53,6 +54,13 @@ pub extern "C" fn hourlog_image_reach(image: &[u8], figure: u64) -> u64
     ensures { λ r. ⌜ Answers (ImageReach (now (image .entry)) figure) r (now (image .exit) ∷ []) ⌝ }
 {
     of_image(image_reach::reach(image, figure))
+}
+
+#[no_mangle]
+pub extern "C" fn hourlog_image_busiest(image: &[u8], hours: u32) -> u64
+    ensures { λ r. ⌜ Answers (ImageBusiest (now (image .entry)) hours) r (now (image .exit) ∷ []) ⌝ }
+{
+    of_stretch(image_busiest::busiest(image, hours))
 }
 
 #[no_mangle]

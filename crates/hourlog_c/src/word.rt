@@ -5,7 +5,7 @@ ghost use mathlib.Core.Path.{_≡_};
 ghost use Prim.Native.Nat.{_<_};
 ghost use Rattle.answers.specs.Store.{told};
 ghost use Rattle.answers.specs.Image.{told as replied, ruled};
-ghost use Rattle.hourlog_c.specs.Public.{ofCheck, ofImage, ofStore};
+ghost use Rattle.hourlog_c.specs.Public.{ofCheck, ofImage, ofStore, ofStretch};
 ghost use Rattle.hourlog_c.specs.Words.{minus as minusWord, pair as pairWord, wordOf};
 
 fn minus(k: u32) -> u64
@@ -46,5 +46,14 @@ pub(crate) fn of_check(v: answers::image::Verdict) -> u64
     match v {
         answers::image::Verdict::Holds(hours, total) => pair(40, total, hours),
         answers::image::Verdict::Refused(k) => minus(k),
+    }
+}
+
+pub(crate) fn of_stretch(a: answers::image::Stretch) -> u64
+    ensures { λ r. ⌜ r ≡ wordOf (ofStretch a) ⌝ }
+{
+    match a {
+        answers::image::Stretch::Run(first, total) => pair(40, total, first),
+        answers::image::Stretch::Refused(k) => minus(k),
     }
 }

@@ -1,2 +1,4 @@
 -- Laws of the crate.
+pub mod ReadingLaws
 pub mod WindowLaws
+pub mod AnswerLaws

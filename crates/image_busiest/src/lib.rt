@@ -1,7 +1,7 @@
 // The busiest stretch of an image: the run of so many hours that holds the most coins.
 mod window;
 
-use crate::window::best_run;
+use crate::window::best_window;
 use answers::image::Stretch;
 use answers::refusal;
 use image::head::Head;
@@ -24,8 +24,8 @@ fn among(s: &[u8], h: Head, k: u64) -> Stretch
     if h.hours < k {
         return Stretch::Refused(refusal::STRETCH);
     }
-    let run = best_run(s, h, k);
-    Stretch::Run(run.first, run.sum)
+    let w = best_window(s, h, k);
+    Stretch::Run(w.best, w.most)
 }
 
 // The run of exactly k successive hours with the largest sum, the earliest on a tie: its first hour and its sum.

@@ -1,72 +1,112 @@
-// A window of k hours, moved along the hours of an accepted image: one place in the list at each of its ends.
+// A window of k hours, moved along the hours of an accepted image, so many hours at a time that neither end leaves its page.
+use answers::image::Answer;
+use bits::word::low_bits;
 use image::head::Head;
-use image_cursor::cursor::count_at;
+use image_cursor::cursor::read_page;
+use image_cursor::cursor::room;
+use image_cursor::cursor::turn;
+use lists::smaller;
 ghost use mathlib.Core.Bool.{true};
 ghost use mathlib.Core.Path.{_≡_};
-ghost use Prim.Native.Nat.{_+_, _≤_, _<_};
+ghost use Prim.Native.Nat.{_+_, _^_, _≤_, _<_};
 ghost use lib.ListN.{length};
 ghost use Rattle.image.specs.Check.{accepted};
 ghost use Rattle.image.specs.Code.Head.{HeadOf};
 ghost use Rattle.image.specs.Read.{listOf};
 ghost use Rattle.image_cursor.specs.Code.Cursor.{Ready};
 ghost use Rattle.runs.specs.Runs.{Busiest, runSum};
-ghost use Rattle.image_busiest.specs.Code.{Moved, better as betterOf};
+ghost use Rattle.image_busiest.specs.Code.{Along, Looked, later};
 
-// A run: its first hour, and its sum.
-pub struct Run {
+// A window on its way: its first hour and its sum; and the best of the windows so far, its first hour and its sum.
+pub struct Window {
     pub first: u64,
     pub sum: u64,
+    pub best: u64,
+    pub most: u64,
 }
 
-// The sum of the first k hours, and then the place of hour k.
-fn first_sum(s: &[u8], h: Head, k: u64, front: &mut [u32]) -> u64
-    requires { ⌜ (accepted (now s) ≡ true) × HeadOf (now s) h × (k ≤ h .hours) × (length (now front) ≡ 256) ⌝ }
-    ensures { λ r. ⌜ (r ≡ runSum (listOf (now (s .entry))) 0 k) × Ready (now (s .entry)) k (now (front .exit)) ⌝ }
+// The window one hour later, where one count comes in and one goes out. On a tie the earlier one stays the best.
+fn moved(w: Window, more: u64, less: u64) -> Window
+    requires { ⌜ (w .first < 4294967296) × (w .sum + more < 2 ^ 64) × (less ≤ w .sum + more) ⌝ }
+    ensures { λ r. ⌜ r ≡ later w more less ⌝ }
 {
-    let mut sum = 0;
+    let first = w.first + 1;
+    let sum = w.sum + more - less;
+    if w.most < sum {
+        return Window {
+            first,
+            sum,
+            best: first,
+            most: sum,
+        };
+    }
+    Window {
+        first,
+        sum,
+        best: w.best,
+        most: w.most,
+    }
+}
+
+// How far the window from hour j on moves at a time: to the end of a page at one of its ends, or of the list.
+fn stride(h: Head, k: u64, j: u64) -> usize
+    requires { ⌜ (h .e ≤ 8) × (h .hours < 4294967296) × (j + k < h .hours) ⌝ }
+    ensures { λ r. ⌜ Along h k j r ⌝ }
+{
+    let n = smaller(room(h.e, j + k) as usize, room(h.e, j) as usize);
+    smaller(n, (h.hours - (j + k)) as usize)
+}
+
+// The window n hours later: front has the page of the hour behind it, back that of its first hour.
+fn slide(s: &[u8], h: Head, k: u64, at: Window, n: usize, front: &[u32], back: &[u32]) -> Window
+    requires { ⌜ (accepted (now s) ≡ true) × HeadOf (now s) h × Looked (now s) k at × Along h k (at .first) n ⌝ }
+    requires { ⌜ Ready (now s) (at .first + k) (now front) × Ready (now s) (at .first) (now back) ⌝ }
+    ensures { λ r. ⌜ Looked (now (s .entry)) k r × (r .first ≡ at .first + n) ⌝ }
+{
+    let f = low_bits(at.first + k, h.e) as usize;
+    let b = low_bits(at.first, h.e) as usize;
+    let mut w = at;
     let mut i = 0;
-    while i < k {
-        sum = sum + count_at(s, h, i, front);
+    while i < n {
+        w = moved(w, front[f + i] as u64, back[b + i] as u64);
         i = i + 1;
     }
-    sum
+    w
 }
 
-// The sum of the run from hour j + 1 on, from that of the run from hour j on: the hour behind that run comes in, its first one goes out.
-fn next_sum(s: &[u8], h: Head, k: u64, j: u64, sum: u64, front: &mut [u32], back: &mut [u32]) -> u64
-    requires { ⌜ (accepted (now s) ≡ true) × HeadOf (now s) h × (j + k < h .hours) × (sum ≡ runSum (listOf (now s)) j k) ⌝ }
-    requires { ⌜ Ready (now s) (j + k) (now front) × Ready (now s) j (now back) ⌝ }
-    ensures { λ r. ⌜ Moved (now (s .entry)) k (j + 1) r (now (front .exit)) (now (back .exit)) ⌝ }
+// The sum of the first k hours, which is the reading at k: an accepted image refuses it nowhere.
+fn first_sum(s: &[u8], k: u64) -> u64
+    requires { ⌜ (accepted (now s) ≡ true) × (k ≤ length (listOf (now s))) ⌝ }
+    ensures { λ r. ⌜ r ≡ runSum (listOf (now (s .entry))) 0 k ⌝ }
 {
-    let more = count_at(s, h, j + k, front);
-    let less = count_at(s, h, j, back);
-    sum + more - less
-}
-
-// The better of the best run so far and the run from hour j on: on a tie the earlier one.
-fn better(best: Run, j: u64, sum: u64) -> Run
-    ensures { λ r. ⌜ r ≡ betterOf best j sum ⌝ }
-{
-    if best.sum < sum {
-        return Run { first: j, sum };
+    match image_query::reading(s, k) {
+        Answer::Number(sum) => sum,
+        Answer::Refused(_) => 0,
     }
-    best
 }
 
-// The busiest run of k hours.
-pub(crate) fn best_run(s: &[u8], h: Head, k: u64) -> Run
+// The busiest window of k hours.
+pub(crate) fn best_window(s: &[u8], h: Head, k: u64) -> Window
     requires { ⌜ (accepted (now s) ≡ true) × HeadOf (now s) h × (k ≤ h .hours) ⌝ }
-    ensures { λ r. ⌜ Busiest (listOf (now (s .entry))) k (r .first) (r .sum) ⌝ }
+    ensures { λ r. ⌜ Busiest (listOf (now (s .entry))) k (r .best) (r .most) ⌝ }
 {
     let mut front = [0u32; 256];
     let mut back = [0u32; 256];
-    let mut sum = first_sum(s, h, k, &mut front);
-    let mut best = Run { first: 0, sum };
-    let mut j = 0;
-    while j + k < h.hours {
-        sum = next_sum(s, h, k, j, sum, &mut front, &mut back);
-        j = j + 1;
-        best = better(best, j, sum);
+    read_page(s, h, k, &mut front);
+    read_page(s, h, 0, &mut back);
+    let sum = first_sum(s, k);
+    let mut at = Window {
+        first: 0,
+        sum,
+        best: 0,
+        most: sum,
+    };
+    while at.first + k < h.hours {
+        let n = stride(h, k, at.first);
+        let next = slide(s, h, k, at, n, &front, &back);
+        turn(s, h, at.first + k, n as u64, &mut front);
+        turn(s, h, at.first, n as u64, &mut back);
+        at = next;
     }
-    best
+    at
 }

@@ -1,37 +1,34 @@
 -- `image_cursor::cursor::turn` meets its contract. Assumes nothing.
 use native.Mathlib.Omega.{arith}
 use borrow.Author.Needs.{needs}
-use Rattle.image_cursor.proofs.CursorLaws.{low, page-in, turned-kept, turned-read}
+use Rattle.image_cursor.proofs.CursorLaws.{page-small, ready-stays, small}
 use Rattle.image_cursor.proofs.cursor.turn.Statement.{statement}
 use Rattle.image_cursor.proofs.cursor.turn.Tie as tie
 
+add-next : tie.Need-add-next
+add-next c =
+    let a = c .before .before in
+    record { fits = omega (arith, a .pre .0 .1 .hours-small, a .pre .1 .0, a .pre .1 .1, page-small _ (a .pre .0 .1) (a .pre .0 .0)) }
+
+low-bits-requires : tie.Need-low-bits-requires
+low-bits-requires c κs =
+    let a = c .before .before in
+    omega (arith, small _ (a .pre .0 .1) (a .pre .0 .0))
+
 returns : tie.Need-returns
 returns c =
-    let a = c .before .before .before in
-    turned-kept _ (a .args .i) (a .args .j) (a .pre .3) _ (c .if1 .taken) (a .pre .4)
-
-cast-page-counts : tie.Need-cast-page-counts
-cast-page-counts c = search needs
-
-shr-page-counts : tie.Need-shr-page-counts
-shr-page-counts c =
     let a = c .before .before .before .before in
-    omega (arith, a .pre .1 .e-is, low _ (a .pre .0))
+    ready-stays _ (a .pre .0 .1) (a .args .i) (a .args .n) _ _ (c .before .low-bits .ensures) (c .if1 .taken) (a .pre .1 .0) (a .pre .1 .1) (a .pre .0 .2)
 
-page-counts-requires : tie.Need-page-counts-requires
-page-counts-requires c κs =
-    let a = c .before .before .before .before .before in
-    (a .pre .0, a .pre .1, page-in _ (a .args .i) (a .pre .1) (a .pre .2), omega (arith, a .pre .4 .long))
+read-page-requires : tie.Need-read-page-requires
+read-page-requires c κs = search needs
 
 same-length : tie.Need-same-length
 same-length c = search needs
 
 returns-2 : tie.Need-returns-2
-returns-2 c =
-    let a = c .before .before .before .before .before .before .before .before in
-    turned-read _ (a .args .i) (a .pre .1) (a .pre .0) _ _ (a .pre .4 .long) (c .before .before .page-counts .ensures)
+returns-2 c = search needs
 
 pub turn-spec : {M : Type 1} → statement M
 turn-spec =
-    tie.close
-    (tie.spec returns cast-page-counts shr-page-counts page-counts-requires same-length returns-2)
+    tie.close (tie.spec add-next low-bits-requires returns read-page-requires same-length returns-2)

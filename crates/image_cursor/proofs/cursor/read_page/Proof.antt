@@ -1,0 +1,39 @@
+-- `image_cursor::cursor::read_page` meets its contract. Assumes nothing.
+use native.Mathlib.Omega.{arith}
+use borrow.Author.Needs.{needs}
+use Rattle.image_cursor.proofs.CursorLaws.{page-in, ready-end, ready-read, small}
+use Rattle.image_cursor.proofs.cursor.read_page.Statement.{statement}
+use Rattle.image_cursor.proofs.cursor.read_page.Tie as tie
+
+returns : tie.Need-returns
+returns c =
+    let a = c .before .before .before .before in
+    ready-end _ (a .pre .1) (a .args .i) _ (c .if1 .taken) (a .pre .2)
+
+cast-page-counts : tie.Need-cast-page-counts
+cast-page-counts c = search needs
+
+shr-page-counts : tie.Need-shr-page-counts
+shr-page-counts c =
+    let a = c .before .before .before .before .before in
+    omega (arith, small _ (a .pre .1) (a .pre .0))
+
+page-counts-requires : tie.Need-page-counts-requires
+page-counts-requires c κs =
+    let e = c .before .before in
+    let a = e .before .before .before .before in
+    (a .pre .0, a .pre .1, page-in _ (a .pre .1) (a .args .i) (e .if1 .left), omega (arith, a .pre .2))
+
+same-length : tie.Need-same-length
+same-length c = search needs
+
+returns-2 : tie.Need-returns-2
+returns-2 c =
+    let p = c .before .before in
+    let a = p .before .before .before .before .before .before .before in
+    ready-read _ (a .pre .1) (a .pre .0) (a .args .i) _ _ (a .pre .2) (p .page-counts .ensures)
+
+pub read-page-spec : {M : Type 1} → statement M
+read-page-spec =
+    tie.close
+    (tie.spec returns cast-page-counts shr-page-counts page-counts-requires same-length returns-2)
