@@ -52,6 +52,7 @@
  * third of a millisecond on a desktop, in one of 1,024.  An image is written
  * and checked in time that grows with its hours; its count and reading take the
  * same few hundred instructions whatever its length, reach about twice as many.
+ * The busiest stretch takes about three times as long as check.
  * Threads and interrupts: any number of calls may run at once, unless one of
  * them changes a buffer that another is lent.
  * Power: a call is not atomic.  Cut off within fresh, append or set, it may
@@ -78,7 +79,7 @@ extern "C" {
 /* Of this header.  MAJOR rises where a call takes or answers something else
  * than before, MINOR where something is added.  For #if: 1000*MAJOR + MINOR. */
 #define HOURLOG_VERSION_MAJOR 1
-#define HOURLOG_VERSION_MINOR 0
+#define HOURLOG_VERSION_MINOR 1
 #define HOURLOG_VERSION (1000 * HOURLOG_VERSION_MAJOR + HOURLOG_VERSION_MINOR)
 
 /* Of the bytes: what byte 0 of a store, and of an image, says. */
@@ -162,7 +163,7 @@ typedef uint64_t hourlog_size;
  * hourlog_refusal(answer) with them, never the answer itself.
  *
  * What to do at one:
- *   1, 2, 4, 7, 8, 9  The arguments do not fit: a matter for the program.  At 4
+ *   1, 2, 4, 7, 8, 9, 13  The arguments do not fit: a matter for the program.  At 4
  *       the macros above say what length suffices, for freeze and for write;
  *       for write hourlog_image_length says the exact one.
  *   3   Nobody pays that much: look at the coin counter.  The refused hour is
@@ -193,6 +194,7 @@ typedef uint64_t hourlog_size;
 #define HOURLOG_REFUSED_UNSOUND 10  /* these bytes are not a sound store       */
 #define HOURLOG_REFUSED_FULL 11     /* append: 64*P hours are logged           */
 #define HOURLOG_REFUSED_CELLS 12    /* more cells needed than the store has    */
+#define HOURLOG_REFUSED_STRETCH 13  /* busiest: no hours, or more than N       */
 
 /* 1 if the call was refused, else 0. */
 static inline int hourlog_is_refused(int64_t answer)
@@ -223,6 +225,7 @@ static inline const char *hourlog_refusal_text(int number)
     case HOURLOG_REFUSED_UNSOUND: return "store is not sound";
     case HOURLOG_REFUSED_FULL: return "log is full";
     case HOURLOG_REFUSED_CELLS: return "no cells left";
+    case HOURLOG_REFUSED_STRETCH: return "not so many hours logged";
     default: return "unknown refusal";
     }
 }
@@ -382,6 +385,13 @@ int64_t hourlog_image_reading(const uint8_t *image, hourlog_size len, uint32_t h
 HOURLOG_MUST_USE
 int64_t hourlog_image_reach(const uint8_t *image, hourlog_size len, uint64_t figure);
 
+/* The run of exactly so many successive hours that holds the most coins, of all
+ * such runs the earliest where several hold as many.  Answers its first hour and
+ * its sum as a pair (see hourlog_busiest_first, hourlog_busiest_sum).  It checks
+ * the whole image first.  Refuses: 5, 6 as check does, 13 (hours is 0 or > N). */
+HOURLOG_MUST_USE
+int64_t hourlog_image_busiest(const uint8_t *image, hourlog_size len, uint32_t hours);
+
 /* N, and the total, of an image that check accepted. */
 static inline uint32_t hourlog_checked_hours(int64_t answer)
 {
@@ -389,6 +399,17 @@ static inline uint32_t hourlog_checked_hours(int64_t answer)
 }
 
 static inline uint64_t hourlog_checked_total(int64_t answer)
+{
+    return HOURLOG_AS(uint64_t, answer) & 0xFFFFFFFFFFu;
+}
+
+/* The first hour, and the sum, of the busiest stretch. */
+static inline uint32_t hourlog_busiest_first(int64_t answer)
+{
+    return HOURLOG_AS(uint32_t, HOURLOG_AS(uint64_t, answer) >> 40);
+}
+
+static inline uint64_t hourlog_busiest_sum(int64_t answer)
 {
     return HOURLOG_AS(uint64_t, answer) & 0xFFFFFFFFFFu;
 }

@@ -33,7 +33,7 @@ static ALL: [Suite; 13] = [
     suite("document 01's examples", examples::play),
     suite("named faults of images", image_faults::play),
     suite("named faults of stores", store_faults::play),
-    suite("busiest stretches", stretches::play).if_there(Function::ImageBusiest.is_there()),
+    suite("busiest stretches", stretches::play),
     suite("bags", bags::play).if_there(Function::ImageMatch.is_there()),
     suite("books", books::play).if_there(Function::ImageToBook.is_there()),
     suite("days with a clock change", days::play).if_there(CHANGED_DAYS),
