@@ -60,6 +60,7 @@
  * third of a millisecond on a desktop, in one of 1,024.  An image is written
  * and checked in time that grows with its hours; its count and reading take the
  * same few hundred instructions whatever its length, reach about twice as many.
+ * The busiest stretch takes about three times as long as check.
  * Threads and interrupts: any number of calls may run at once, unless one of
  * them changes a buffer that another is lent.
  * Power: a call is not atomic.  Cut off within fresh, append or set, it may
@@ -176,7 +177,7 @@ typedef uint64_t hourlog_size;
  * hourlog_refusal(answer) with them, never the answer itself.
  *
  * What to do at one:
- *   1, 2, 4, 7, 8, 9  The arguments do not fit: a matter for the program.  At 4
+ *   1, 2, 4, 7, 8, 9, 13  The arguments do not fit: a matter for the program.  At 4
  *       the macros above say what length suffices, for freeze and for write;
  *       for write hourlog_image_length says the exact one.
  *   16  The list of changes is none (see THE CLOCK): set it right.  The log is
@@ -212,6 +213,7 @@ typedef uint64_t hourlog_size;
 #define HOURLOG_REFUSED_UNSOUND 10  /* these bytes are not a sound store       */
 #define HOURLOG_REFUSED_FULL 11     /* append: 64*P hours are logged           */
 #define HOURLOG_REFUSED_CELLS 12    /* more cells needed than the store has    */
+#define HOURLOG_REFUSED_STRETCH 13  /* busiest: no hours, or more than N       */
 #define HOURLOG_REFUSED_BOOK 14     /* book: odd length, or a digit above 9    */
 #define HOURLOG_REFUSED_DIGITS 15   /* image to book: a count above 9999       */
 #define HOURLOG_REFUSED_CHANGES 16  /* day: the list of changes is wrong       */
@@ -245,6 +247,7 @@ static inline const char *hourlog_refusal_text(int number)
     case HOURLOG_REFUSED_UNSOUND: return "store is not sound";
     case HOURLOG_REFUSED_FULL: return "log is full";
     case HOURLOG_REFUSED_CELLS: return "no cells left";
+    case HOURLOG_REFUSED_STRETCH: return "not so many hours logged";
     case HOURLOG_REFUSED_BOOK: return "book is not packed decimal";
     case HOURLOG_REFUSED_DIGITS: return "a count needs more than four digits";
     case HOURLOG_REFUSED_CHANGES: return "list of changed days is wrong";
@@ -414,6 +417,13 @@ int64_t hourlog_image_reading(const uint8_t *image, hourlog_size len, uint32_t h
 HOURLOG_MUST_USE
 int64_t hourlog_image_reach(const uint8_t *image, hourlog_size len, uint64_t figure);
 
+/* The run of exactly so many successive hours that holds the most coins, of all
+ * such runs the earliest where several hold as many.  Answers its first hour and
+ * its sum as a pair (see hourlog_busiest_first, hourlog_busiest_sum).  It checks
+ * the whole image first.  Refuses: 5, 6 as check does, 13 (hours is 0 or > N). */
+HOURLOG_MUST_USE
+int64_t hourlog_image_busiest(const uint8_t *image, hourlog_size len, uint32_t hours);
+
 /* ---- old credit books --------------------------------------------------- */
 
 /* Writes the image of a book, pages of 2^e counts, and answers its length in
@@ -440,6 +450,17 @@ static inline uint32_t hourlog_checked_hours(int64_t answer)
 }
 
 static inline uint64_t hourlog_checked_total(int64_t answer)
+{
+    return HOURLOG_AS(uint64_t, answer) & 0xFFFFFFFFFFu;
+}
+
+/* The first hour, and the sum, of the busiest stretch. */
+static inline uint32_t hourlog_busiest_first(int64_t answer)
+{
+    return HOURLOG_AS(uint32_t, HOURLOG_AS(uint64_t, answer) >> 40);
+}
+
+static inline uint64_t hourlog_busiest_sum(int64_t answer)
 {
     return HOURLOG_AS(uint64_t, answer) & 0xFFFFFFFFFFu;
 }

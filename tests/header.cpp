@@ -214,7 +214,7 @@ static void texts()
     const char *const unknown = hourlog_refusal_text(99);
     assert(hourlog_refusal_text(-1) == unknown);
     assert(std::strcmp(hourlog_refusal_text(0), "no refusal") == 0);
-    std::vector<int> numbers{HOURLOG_REFUSED_BOOK, HOURLOG_REFUSED_DIGITS, HOURLOG_REFUSED_CHANGES};
+    std::vector<int> numbers{HOURLOG_REFUSED_STRETCH, HOURLOG_REFUSED_BOOK, HOURLOG_REFUSED_DIGITS, HOURLOG_REFUSED_CHANGES};
     for (int k = 0; k <= HOURLOG_REFUSED_CELLS; k++) {
         numbers.push_back(k);
     }
@@ -241,6 +241,7 @@ static void null_with_length_0()
     assert(hourlog_image_count(nullptr, 0, 0) == -HOURLOG_REFUSED_HEADER);
     assert(hourlog_image_reading(nullptr, 0, 0) == -HOURLOG_REFUSED_HEADER);
     assert(hourlog_image_reach(nullptr, 0, 0) == -HOURLOG_REFUSED_HEADER);
+    assert(hourlog_image_busiest(nullptr, 0, 0) == -HOURLOG_REFUSED_HEADER);
     assert(hourlog_image_to_bcd(nullptr, 0, nullptr, 0) == -HOURLOG_REFUSED_HEADER);
 
     // The calls with two buffers, either of them NULL and both. An image of no hours is its header.
@@ -265,8 +266,21 @@ static void null_with_length_0()
     }
 }
 
+// What a pair is taken apart into: the busiest two hours, first hour and sum.
+static void pairs_of_images()
+{
+    const std::vector<uint32_t> counts{1, 0, HOURLOG_TOTAL_MAX - 9, 3, 5};
+    std::vector<uint8_t> image(HOURLOG_IMAGE_LENGTH_MAX(5, 2));
+    const int64_t length = hourlog_image_write(counts.data(), 5, 2, image.data(), image.size());
+    const int64_t busiest = hourlog_image_busiest(image.data(), static_cast<size_t>(length), 2);
+    assert(hourlog_busiest_first(busiest) == 2 && hourlog_busiest_sum(busiest) == HOURLOG_TOTAL_MAX - 6);
+    assert(hourlog_refusal(hourlog_image_busiest(image.data(), static_cast<size_t>(length), 6)) ==
+           HOURLOG_REFUSED_STRETCH);
+}
+
 int main()
 {
+    pairs_of_images();
     longest_images();
     cells_of_a_page();
     freezing_fits();

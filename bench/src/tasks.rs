@@ -8,8 +8,9 @@ const E: u32 = 6;
 const QUESTIONS: usize = 8_192;
 const APPENDS: usize = 2;
 const PAGE: usize = 64;
-/// The stretch that is asked for: a day.
-const STRETCH: u32 = 24;
+/// Stretches that are asked for, in hours.
+const DAY: u32 = 24;
+const YEAR: u32 = 8_760;
 
 pub type Work = Box<dyn Fn(&Contender, &mut [u8]) -> i64>;
 
@@ -47,12 +48,13 @@ pub fn over_image(counts: &[u32]) -> Vec<Task> {
             (by.write)(&written, E, bytes)
         }),
         whole("check", &image, |by, bytes| (by.check)(bytes)),
+        whole("busiest day", &image, |by, bytes| {
+            (by.busiest)(bytes, DAY)
+        }),
+        whole("busiest year", &image, |by, bytes| {
+            (by.busiest)(bytes, YEAR)
+        }),
     ];
-    if cfg!(feature = "busiest") {
-        tasks.push(whole("busiest", &image, |by, bytes| {
-            (by.busiest)(bytes, STRETCH)
-        }));
-    }
     tasks.extend(matches(counts));
     tasks.extend(books(counts));
     tasks

@@ -16,7 +16,7 @@ use Rattle.session_input.specs.declared.Gathered.the-variants.{More, Whole}
 use Rattle.session_print.proofs.PrintLaws.{printed-behind, printed-length}
 use Rattle.replies.specs.Session.{turn, replies}
 use Rattle.replies.specs.Code.Respond.{Responds}
-use Rattle.replies.specs.declared.respond.Response.{Response}
+use Rattle.replies.specs.declared.Response.{Response}
 use Rattle.dialogue.specs.Dialogue.{State, prints, leaves, next, fed, said, last}
 use Rattle.dialogue.specs.Feed.{Closes, Feeds, stand}
 use Rattle.dialogue.specs.Code.Answer.{Answers}

@@ -1,5 +1,5 @@
 // A session between a read and a write: a chunk of the input goes in, the lines to write come out.
-use replies::respond::respond;
+use respond::respond;
 use session::Command;
 use session_input::Gathered;
 ghost use mathlib.Core.List.{List, [], _∷_};

@@ -18,7 +18,7 @@ use Rattle.session.specs.declared.line.Command.{Command}
 use Rattle.session.specs.declared.line.Command.the-variants.{Fresh}
 use Rattle.session_print.specs.declared.Reply.{Reply}
 use Rattle.session_print.specs.declared.Reply.the-variants.{Done, Refused}
-use Rattle.replies.specs.declared.respond.Response.{Response}
+use Rattle.replies.specs.declared.Response.{Response}
 use Rattle.replies.specs.Session.{replyTo, Turn, changes, asks, starts, renews, turn}
 use Rattle.replies.specs.Code.Respond.{Responds}
 

@@ -57,7 +57,7 @@ module _ (xs : List ℕ) (k j first total : ℕ) (b : Best xs k j first total) w
     inside = omega (arith, b .low);
     total-is = b .total-is;
     most = λ (i : ℕ) (h : i + k ≤ length xs). b .most i (omega arith);
-    earliest = b .earliest;
+    earliest = λ (i : ℕ) (h : i < first). omega (arith, b .earliest i h);
   }
 
 -- ---- there is one

@@ -16,9 +16,6 @@ pub fn compare_busiest(
     list: &Answer<Vec<u64>>,
     stretches: &[u32],
 ) -> Result<(), String> {
-    if !Function::ImageBusiest.is_there() {
-        return Ok(());
-    }
     ask_each("busiest", bytes, stretches, |lent, hours| {
         let expected = exactly(busiest(list, hours.into()));
         (library.image_busiest(lent, hours), expected)

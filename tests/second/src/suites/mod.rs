@@ -35,7 +35,7 @@ static ALL: [Suite; 14] = [
     suite("what more coins cost", coins::play),
     suite("named faults of images", image_faults::play),
     suite("named faults of stores", store_faults::play),
-    suite("busiest stretches", stretches::play).if_there(Function::ImageBusiest.is_there()),
+    suite("busiest stretches", stretches::play),
     suite("bags", bags::play).if_there(Function::ImageMatch.is_there()),
     suite("books", books::play),
     suite("days with a clock change", days::play),

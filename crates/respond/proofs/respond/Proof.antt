@@ -1,11 +1,11 @@
--- `replies::respond::respond` meets its contract. Assumes nothing.
+-- `respond::respond` meets its contract. Assumes nothing.
 use mathlib.Core.Path.{refl}
 use Rattle.store.specs.Plain.{Call}
 use Rattle.replies.specs.Session.{turn}
 use Rattle.replies.proofs.TurnLaws.{asks-it, changes-it, front-long, leaves-it, of-part}
 use borrow.Author.Needs.{needs}
-use Rattle.replies.proofs.respond.respond.Statement.{statement}
-use Rattle.replies.proofs.respond.respond.Tie as tie
+use Rattle.respond.proofs.respond.Statement.{statement}
+use Rattle.respond.proofs.respond.Tie as tie
 
 smaller-requires : tie.Need-smaller-requires
 smaller-requires c κs = search needs

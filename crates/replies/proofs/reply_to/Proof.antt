@@ -1,11 +1,11 @@
--- `replies::respond::reply_to` meets its contract. Assumes nothing.
+-- `replies::reply_to` meets its contract. Assumes nothing.
 use mathlib.Core.Path.{sym, ap}
 use Rattle.answers.specs.Store.{told}
 use Rattle.answers.specs.declared.store.Answer.{Answer}
 use Rattle.replies.specs.Session.{replyTo}
 use borrow.Author.Needs.{needs}
-use Rattle.replies.proofs.respond.reply_to.Statement.{statement}
-use Rattle.replies.proofs.respond.reply_to.Tie as tie
+use Rattle.replies.proofs.reply_to.Statement.{statement}
+use Rattle.replies.proofs.reply_to.Tie as tie
 
 enum-told : tie.Need-enum-told
 enum-told c = search needs

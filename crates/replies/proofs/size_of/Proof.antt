@@ -1,12 +1,12 @@
--- `replies::respond::size_of` meets its contract. Assumes nothing.
+-- `replies::size_of` meets its contract. Assumes nothing.
 use mathlib.Core.Path.{refl}
 use mathlib.Core.Bool.{and-false}
 use native.Mathlib.Omega.{arith}
 use borrow.Author.Tests.{le-leb, lt-leb}
 use Rattle.lists.specs.Lists.{pick}
 use borrow.Author.Needs.{needs}
-use Rattle.replies.proofs.respond.size_of.Statement.{statement}
-use Rattle.replies.proofs.respond.size_of.Tie as tie
+use Rattle.replies.proofs.size_of.Statement.{statement}
+use Rattle.replies.proofs.size_of.Tie as tie
 
 mul-result : tie.Need-mul-result
 mul-result c = search needs

@@ -1,4 +1,4 @@
--- `replies::respond::renew` meets its contract. Assumes nothing.
+-- `replies::renew` meets its contract. Assumes nothing.
 use mathlib.Core.Path.{refl, sym, ap}
 use native.Mathlib.Omega.{arith}
 use lib.Seq.{length-take-le}
@@ -10,8 +10,8 @@ use Rattle.answers.specs.declared.store.Answer.{Answer}
 use Rattle.answers.specs.declared.store.Answer.the-variants.{Changed, Number, Refused}
 use Rattle.replies.proofs.TurnLaws.{renew-refuses, renew-starts, not-changed, not-answered}
 use borrow.Author.Needs.{needs}
-use Rattle.replies.proofs.respond.renew.Statement.{statement}
-use Rattle.replies.proofs.respond.renew.Tie as tie
+use Rattle.replies.proofs.renew.Statement.{statement}
+use Rattle.replies.proofs.renew.Tie as tie
 
 size-of-requires : tie.Need-size-of-requires
 size-of-requires c κs = search needs
