@@ -4,11 +4,10 @@ use mathlib.Core.Bool.{Bool, true, false}
 use mathlib.Core.List.{List, [], _∷_, _++_}
 use Prim.Native.Nat.{ℕ, zero, suc, _+_, _-_, _*_, _^_, _≤_, _<_, min}
 use native.Mathlib.Decide.{decLe}
-use native.Mathlib.Nat.{mul-le-mul-left}
 use native.Mathlib.Omega.{arith}
 use lib.ListN.{length, getD, take, drop, List·getD-eq-default, length-take, length-drop}
 use lib.Pow.{pow-mono}
-use lib.Seq.{getD-drop, getD-take, length-take-le, take-add, take-all, take-append-le, take-at}
+use lib.Seq.{getD-drop, getD-take, length-take-le, take-add, take-all, take-append-le}
 use Rattle.lists.specs.Lists.{splice, sum, tabulate, window}
 use Rattle.lists.proofs.Parts.{length-splice, splice-nil, splice-then, take-smaller}
 use Rattle.lists.proofs.Tables.{tabulate-ext, tabulate-getD, take-tabulate}
@@ -20,7 +19,7 @@ use Rattle.image.specs.declared.head.Head.{Head}
 use Rattle.image.proofs.Accepted.{accepted-only, length-list}
 use Rattle.image.proofs.PageLaws.{getD-page, length-page, pages-cover, pages-few, pages-tight}
 use Rattle.book.specs.Book.{bookOf, fourDigits}
-use Rattle.book.proofs.BookLaws.{book-append, four-at, four-each, four-not, length-book}
+use Rattle.book.proofs.BookLaws.{book-append, four-at, four-each, length-book}
 
 -- ---- a page of a list
 -- its first counts, up to the list's end

@@ -1,17 +1,17 @@
 -- The call's refusals. Assumes nothing.
-use mathlib.Core.Path.{_≡_, refl, sym, ap, ap₂, _∙_}
+use mathlib.Core.Path.{_≡_, refl, sym, ap₂, _∙_}
 use mathlib.Core.Bool.{Bool, true, false, _&&_}
-use mathlib.Core.List.{List, _++_}
+use mathlib.Core.List.{List}
 use Prim.Native.Nat.{ℕ, _*_, _≤_, _<_}
 use native.Mathlib.Omega.{arith}
-use lib.ListN.{length, drop}
+use lib.ListN.{length}
 use lib.Dec.{leb}
 use borrow.Author.Tests.{le-leb, lt-leb}
 use Rattle.answers.specs.Image.{Verdict, fails, given, holds, refused, told}
 use Rattle.answers.specs.declared.image.Answer.the-variants.{Number, Refused}
 use Rattle.lists.specs.Lists.{pick, same, splice, sum}
 use Rattle.lists.proofs.Tests.{left}
-use Rattle.image.specs.Calls.{Wrote, put, unwritten}
+use Rattle.image.specs.Calls.{put, unwritten}
 use Rattle.image.specs.Check.{accepted, check, headed}
 use Rattle.image.specs.Image.{image, maxTotal}
 use Rattle.image.specs.Read.{eOf, listOf}

@@ -1,12 +1,10 @@
 -- What demand 1 says of the calls between books and images, in document 02's words, and over and back in the words that C gets. Each law takes
 -- what it says from `demand-1` or `round-trips`; a claim that says less fails here. Assumes nothing.
-use mathlib.Core.Path.{_≡_, refl, sym, ap, _∙_, subst}
+use mathlib.Core.Path.{_≡_, refl, sym, _∙_}
 use mathlib.Core.List.{List, [], _∷_}
 use Prim.Native.Nat.{ℕ, _^_, _≤_, _<_}
-use native.Mathlib.Omega.{arith}
 use lib.ListN.{length, take}
 use Rattle.answers.specs.Image.{given, refused}
-use Rattle.image.specs.Calls.{Wrote}
 use Rattle.image.specs.Read.{eOf}
 use Rattle.book_in.specs.FromBook.{fromCall}
 use Rattle.book_out.specs.ToBook.{toCall}

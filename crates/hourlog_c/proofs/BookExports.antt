@@ -10,7 +10,7 @@ use Rattle.lists.specs.Lists.{pick}
 use Rattle.answers.specs.Image.{Reply, Verdict, fails, given, holds}
 use Rattle.image.specs.Calls.{Wrote, put, unwritten, writeCall}
 use Rattle.image.specs.Check.{check}
-use Rattle.image.specs.Read.{eOf, listOf}
+use Rattle.image.specs.Read.{listOf}
 use Rattle.image.proofs.Accepted.{accepted-only}
 use Rattle.image.proofs.Sizes.{SmallVerdict, check-small, write-small}
 use Rattle.image_cursor.proofs.AccessLaws.{check-held}

@@ -1,5 +1,4 @@
 -- `book::is_digits` meets its contract. Assumes nothing.
-use mathlib.Core.Path.{_≡_}
 use borrow.Author.Tests.{le-leb, lt-leb}
 use Rattle.book.specs.Book.{decimalByte}
 use Rattle.book.proofs.is_digits.Statement.{statement}

@@ -1,5 +1,4 @@
 -- `book_pack::is_narrow` meets its contract. The loop's invariant: four digits hold each count before i. Assumes nothing.
-use mathlib.Core.Path.{_≡_}
 use Prim.Native.Nat.{ℕ, _-_, _≤_, _<_}
 use native.Mathlib.Omega.{arith}
 use lib.ListN.{getD}

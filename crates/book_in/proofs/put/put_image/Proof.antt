@@ -5,7 +5,6 @@ use mathlib.Core.List.{List}
 use Prim.Native.Nat.{ℕ, _-_, _*_, _≤_, _<_}
 use lib.ListN.{length}
 use native.Mathlib.Omega.{arith}
-use borrow.Author.Needs.{needs}
 use Rattle.book.specs.Book.{listOfBook}
 use Rattle.image_steps.specs.Code.Writing.{Filled, Handed, Laid}
 use Rattle.image_steps.specs.declared.put.Place.{Place}
