@@ -1,15 +1,15 @@
 -- The pages of an accepted image, one after another. Assumes nothing.
 use mathlib.Core.Path.{_≡_, refl, sym, ap, ap₂, _∙_}
 use mathlib.Core.Bool.{Bool, true, false}
-use mathlib.Core.List.{List, [], _++_}
-use Prim.Native.Nat.{ℕ, suc, _+_, _-_, _*_, _^_, _≤_, _<_, min}
+use mathlib.Core.List.{List, [], _∷_, _++_}
+use Prim.Native.Nat.{ℕ, zero, suc, _+_, _-_, _*_, _^_, _≤_, _<_, min}
 use native.Mathlib.Decide.{decLe}
 use native.Mathlib.Nat.{mul-le-mul-left}
 use native.Mathlib.Omega.{arith}
 use lib.ListN.{length, getD, take, drop, List·getD-eq-default, length-take, length-drop}
 use lib.Pow.{pow-mono}
 use lib.Seq.{getD-drop, getD-take, length-take-le, take-add, take-all, take-append-le, take-at}
-use Rattle.lists.specs.Lists.{splice, tabulate, window}
+use Rattle.lists.specs.Lists.{splice, sum, tabulate, window}
 use Rattle.lists.proofs.Parts.{length-splice, splice-nil, splice-then, take-smaller}
 use Rattle.lists.proofs.Tables.{tabulate-ext, tabulate-getD, take-tabulate}
 use Rattle.image.specs.Check.{accepted}
@@ -61,6 +61,15 @@ four-take k ys h = four-each (take k ys) each
         go : Dec (suc i ≤ k) → getD (take k ys) i 0 ≤ 9999
         go (yes l) = rw (getD-take k ys i 0 l) (four-at ys h i)
         go (no l) = rw (List·getD-eq-default (take k ys) 0 {n = i} (omega (arith, l, length-take k ys))) (omega arith)
+
+few-at : (ys : List ℕ) → sum ys ≤ 9999 → (i : ℕ) → getD ys i 0 ≤ 9999
+unfolding sum
+few-at [] h i = omega arith
+few-at (y ∷ ys) h zero = omega arith
+few-at (y ∷ ys) h (suc i) = few-at ys (omega arith) i
+
+pub few-coins : (ys : List ℕ) → sum ys ≤ 9999 → true ≡ fourDigits ys
+few-coins ys h = sym (four-each ys (few-at ys h))
 
 pub page-wide : (e p : ℕ) (xs : List ℕ) → fourDigits (page e xs p) ≡ false → false ≡ fourDigits xs
 page-wide e p xs h = go (fourDigits xs) refl

@@ -1,17 +1,15 @@
 -- `book_out::narrow::four_digits` meets its contract. The loop's invariant: four digits hold each count of the pages before p. Assumes nothing.
 use mathlib.Core.List.{List}
-use mathlib.Core.Path.{_≡_, refl, sym, ap, _∙_}
+use mathlib.Core.Path.{_≡_, refl, sym, _∙_}
 use Prim.Native.Nat.{ℕ, _*_, _-_, _^_, _≤_, _<_}
 use native.Mathlib.Nat.{mul-le-mul-left}
 use native.Mathlib.Omega.{arith}
-use lib.ListN.{length, getD, take}
+use lib.ListN.{length, getD}
 use borrow.Author.Needs.{needs}
 use borrow.Author.Tests.{not-false, not-true}
-use Rattle.book.specs.Book.{fourDigits}
-use Rattle.image.specs.Image.{page}
 use Rattle.image.specs.Read.{eOf, listOf}
 use Rattle.image.proofs.Accepted.{accepted-only}
-use Rattle.book_out.proofs.OutLaws.{Sizes, page-narrow, page-wide, pages-narrow, read-all, sizes}
+use Rattle.book_out.proofs.OutLaws.{Sizes, page-narrow, page-wide, pages-narrow, sizes}
 use Rattle.book_out.proofs.narrow.four_digits.Statement.{statement}
 use Rattle.book_out.proofs.narrow.four_digits.Tie as tie
 
@@ -37,53 +35,41 @@ module _ (l : tie.At-loop Inv-loop μ-loop) where
   sizes-are : Sizes s (call .args .h) (l .before .power .result)
   sizes-are = sizes (l .before .power .result) (call .pre .0) (call .pre .1) (l .before .power .ensures)
 
-slice-aggregate-page-counts : tie.Need-slice-aggregate-page-counts Inv-loop μ-loop
-slice-aggregate-page-counts c = sym (c .before .before .loop .inv .0)
+slice-aggregate-page-narrow : tie.Need-slice-aggregate-page-narrow Inv-loop μ-loop
+slice-aggregate-page-narrow c = sym (c .before .before .loop .inv .0)
 
-page-counts-requires : tie.Need-page-counts-requires Inv-loop μ-loop
-page-counts-requires c κs =
-    let a = call (c .before .before) in
-    (a .pre .0, a .pre .1, omega (arith, a .pre .1 .pages-are), omega (arith, c .before .before .loop .inv .0))
+page-narrow-requires : tie.Need-page-narrow-requires Inv-loop μ-loop
+page-narrow-requires c κs =
+    let l = c .before .before in
+    let a = call l in
+    (a .pre .0, a .pre .1, omega (arith, a .pre .1 .pages-are), l .before .power .ensures, omega (arith, l .loop .inv .0))
 
--- page p was read
-module _ (c : tie.After-page-counts Inv-loop μ-loop) where
+-- page p was tested
+module _ (c : tie.After-page-narrow Inv-loop μ-loop) where
   abbrev at : tie.At-loop Inv-loop μ-loop
   at = c .before .before .before
 
-  abbrev counts : List ℕ
-  counts = c .page-counts .last .1 .1 .1 .0
-
-  long : length counts ≡ 256
-  long = omega (arith, c .page-counts .kept .1 .1 .1 .0, at .loop .inv .0)
-
-  page-is : take (at .before .power .result) counts ≡ page (eOf (s at)) (listOf (s at)) (at .loop .p)
-  page-is = read-all (sizes-are at) (at .loop .p) (at .loop .counts) counts (c .page-counts .ensures)
-
-slice-aggregate-is-narrow : tie.Need-slice-aggregate-is-narrow Inv-loop μ-loop
-slice-aggregate-is-narrow c = sym (long (c .before .before))
-
-is-narrow-requires : tie.Need-is-narrow-requires Inv-loop μ-loop
-is-narrow-requires c κs = omega (arith, long (c .before .before), sizes-are (at (c .before .before)) .size-most)
+  long : length (c .page-narrow .last .1 .1 .1 .1 .0) ≡ 256
+  long = omega (arith, c .page-narrow .kept .1 .1 .1 .1 .0, at .loop .inv .0)
 
 returns : tie.Need-returns Inv-loop μ-loop
 returns c =
-    let r = c .before .before .before .before in
+    let r = c .before .before in
     page-wide (eOf (s (at r))) (at r .loop .p) (listOf (s (at r)))
-    (sym (ap fourDigits (page-is r)) ∙ sym (c .before .is-narrow .ensures) ∙ not-true (c .before .is-narrow .result) (c .if1 .taken))
+    (sym (r .page-narrow .ensures) ∙ not-true (r .page-narrow .result) (c .if1 .taken))
 
 add-p : tie.Need-add-p Inv-loop μ-loop
-add-p c = omega (arith, sizes-are (at (c .before .before .before .before)) .few)
+add-p c = omega (arith, sizes-are (at (c .before .before)) .few)
 
 loop-less : tie.Need-loop-less Inv-loop μ-loop
 loop-less c = search needs
 
 loop-again : tie.Need-loop-again Inv-loop μ-loop
 loop-again c =
-    let r = c .before .before .before .before in (
+    let r = c .before .before in (
       long r,
       page-narrow (eOf (s (at r))) (at r .loop .p) (listOf (s (at r)))
-          (sym (ap fourDigits (page-is r)) ∙ sym (c .before .is-narrow .ensures) ∙ not-false (c .before .is-narrow .result) (c .if1 .left))
-          (at r .loop .inv .1),
+          (sym (r .page-narrow .ensures) ∙ not-false (r .page-narrow .result) (c .if1 .left)) (at r .loop .inv .1),
     )
 
 returns-2 : tie.Need-returns-2 Inv-loop μ-loop
@@ -100,10 +86,8 @@ four-digits-spec =
     μ-loop
     power-requires
     loop-holds
-    slice-aggregate-page-counts
-    page-counts-requires
-    slice-aggregate-is-narrow
-    is-narrow-requires
+    slice-aggregate-page-narrow
+    page-narrow-requires
     returns
     add-p
     loop-less
