@@ -4,13 +4,13 @@ use mathlib.Core.Path.{_≡_, refl, sym, ap, _∙_}
 use mathlib.Core.Bool.{Bool, true, false, _&&_, _||_, and-true, true≢false}
 use mathlib.Core.List.{List, [], _∷_, map}
 use Prim.Native.Nat.{ℕ, zero, suc, _+_, _*_, _%_, _≤_, _<_}
-use native.Mathlib.Decide.{decLe, ℕ-discrete}
+use native.Mathlib.Decide.{ℕ-discrete}
 use native.Mathlib.Numerals.{add-one}
 use native.Mathlib.Omega.{arith}
 use lib.ListN.{length, drop}
 use lib.Dec.{leb, eqb, leb·zero}
 use borrow.Author.Tests.{eq-eqb, eqb-true, leb-true, ne-eqb}
-use Rattle.lists.specs.Lists.{every, pick, sum, tabulate}
+use Rattle.lists.specs.Lists.{every, pick, sum}
 use Rattle.lists.proofs.Sums.{sum-most, sum-tabulate-one}
 use Rattle.lists.proofs.Tables.{tabulate-ext}
 use Rattle.lists.proofs.Tests.{every-no, left, right}

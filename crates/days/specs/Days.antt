@@ -1,5 +1,5 @@
 -- Document 02, note 4, 'Days with a clock change': which hours are a day's. Assumes nothing.
-use mathlib.Core.Bool.{Bool, true, false, _&&_, _||_}
+use mathlib.Core.Bool.{Bool, true, _&&_, _||_}
 use mathlib.Core.List.{List, [], _∷_, map}
 use Prim.Native.Nat.{ℕ, _+_, _%_}
 use lib.ListN.{length}

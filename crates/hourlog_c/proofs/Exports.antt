@@ -81,9 +81,9 @@ word-costs (answered n) d w m e h = absurd m
 word-costs (turned j) d w m e h = omega (arith, e .sign)
 
 pub change-answers : (c : Call) (s t : List ℕ) (w : ℕ) (a : Answer) (d : ℕ) → ((j : ℕ) → getD s j 0 < 256) → w ≡ wordOf (ofStore a)
-    → Called c s a t × TakesAtMost (cellsFor d) a → Answers (Live c s) w (t ∷ []) × Costs d w
+    → Called c s a t × TakesAtMost (cellsFor d) a → Answers (Live c s) w (t ∷ beside c) × Costs d w
 change-answers c s t w a d bytes e q =
-    let r : Answers (Live c s) w (t ∷ []) = live-answers c s t w a bytes e (q .0) in
+    let r : Answers (Live c s) w (t ∷ beside c) = live-answers c s t w a bytes e (q .0) in
     (r, word-costs a d w (q .1) (subst (λ (z : End). Reads z w) (r .ends .0 ∙ ap ofStore (sym (q .0 .answer))) (r .reads)))
 
 pub fresh-answers : (b t : List ℕ) (P C w : ℕ) (a : Answer) → w ≡ wordOf (ofStore a) → Started b P C a t → Answers (Fresh b P C) w (t ∷ [])

@@ -1,6 +1,6 @@
 // A window of k hours, moved along the hours of an accepted image, so many hours at a time that neither end leaves its page.
 use answers::image::Answer;
-use bits::word::low_bits;
+use bits_word::low_bits;
 use image::head::Head;
 use image_cursor::cursor::read_page;
 use image_cursor::cursor::room;
