@@ -35,10 +35,12 @@ pub mod PageLaws
 pub mod Verdict
 pub mod ItemLaws
 -- the plain list and the calls
+pub mod Inserting
 pub mod StepLaws
 pub mod CallLaws
 pub mod Orders
 pub mod Refusals
+pub mod InsertLaws
 pub mod Unchanged
 pub mod Whole
 pub mod Examples
