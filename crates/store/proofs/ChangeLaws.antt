@@ -23,7 +23,7 @@ use Rattle.store.proofs.Keep.{need-off}
 use Rattle.store.proofs.OnePage.{settled-off}
 use Rattle.store.proofs.PageChange.{ready, rewritten-bytes}
 use Rattle.store.proofs.ReadBack.{page-le}
-use Rattle.store.proofs.SoundFacts.{Facts, facts, sum-read}
+use Rattle.store.proofs.SoundFacts.{Facts, facts, sound-held, sum-read}
 use Rattle.store.proofs.Spread.{Spread, spread-of}
 
 -- a rise and a fall: 'one of the two is 0'
@@ -69,7 +69,7 @@ pub of-page : {s : List ℕ} {i base e before old : ℕ} {H : Header} → Asked 
     → old ≡ cells before
     → OfPage s base (i / 64) before old
 of-page {s} {i} q hd eb e b c = record {
-  is-sound = q .is-sound;
+  held = sound-held s (q .is-sound);
   base-is = eb ∙ ap cellsFrom (hd .pages-is);
   inside = omega (arith, q .inside);
   sum-is = sum-read s (i / 64) _ _ e b;

@@ -25,6 +25,7 @@ pub mod Filling
 pub mod Moved
 pub mod Zeros
 pub mod PageChange
+pub mod Relisting
 -- soundness: computed, as facts, and as the check finds it
 pub mod SoundLaws
 pub mod SoundFacts
@@ -46,6 +47,8 @@ pub mod Whole
 pub mod Examples
 -- what the live calls need
 pub mod HourLaws
+pub mod Repaged
+pub mod PageByPage
 pub mod ChangeLaws
 pub mod TotalLaws
 pub mod Sizes
