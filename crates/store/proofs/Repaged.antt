@@ -43,7 +43,7 @@ pub repaged-length : (P : ℕ) (xs : List ℕ) (p : ℕ) (x : List ℕ) → leng
 unfolding repaged
 repaged-length P xs p x = length-tabulate (64 * P) (λ h. pick (eqb (h / 64) p) (getD x (h % 64) 0) (getD xs h 0))
 
-beyond : (P : ℕ) (xs ys : List ℕ) (q : ℕ) → length xs ≤ 64 * P → length ys ≤ 64 * P → P ≤ q → page ys q ≡ page xs q
+pub beyond : (P : ℕ) (xs ys : List ℕ) (q : ℕ) → length xs ≤ 64 * P → length ys ≤ 64 * P → P ≤ q → page ys q ≡ page xs q
 unfolding page
 beyond P xs ys q lx ly l =
     tabulate-ext 64 (λ j. getD ys (64 * q + j) 0) (λ j. getD xs (64 * q + j) 0)
