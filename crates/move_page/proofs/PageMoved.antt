@@ -100,8 +100,13 @@ module _ {s : List ℕ} {base : ℕ} {c : PageMove} {hours : ℕ} (q : Movable s
 
     pub sum-now : before - getD counts leaves 0 + c .count ≡ sum (after s c)
     sum-now =
-        omega (arith, out-is, before-is, out-low,
-        turned-sum (c .strike) x (c .at) (c .count) (page-length (listIn s) p) (q .within))
+        omega (
+          arith,
+          out-is,
+          before-is,
+          out-low,
+          turned-sum (c .strike) x (c .at) (c .count) (page-length (listIn s) p) (q .within),
+        )
 
     module _ {turned : List ℕ} (et : turned ≡ after s c) {code : List ℕ} {sum′ : ℕ} (es : sum′ ≡ before - getD counts leaves 0 + c .count)
         (ek : code ≡ pageBytes turned ++ replicate (240 - 30 * cells sum′) 0) where

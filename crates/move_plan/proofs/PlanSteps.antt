@@ -94,8 +94,15 @@ module _ {s : List ℕ} {m : Shift} (h : Planned s m) where
 
       pub sum-after : r - getD leaving p 0 + c ≡ sum (page ys p)
       sum-after =
-          omega (arith, out, out-low, sum-page, ec, ap sum (h .moves p lo lp leaving hl),
-          turned-sum (m .strike) (page xs p) (near m p) (comesTo m leaving p) (page-length xs p) (near-low m p (h .within)))
+          omega (
+            arith,
+            out,
+            out-low,
+            sum-page,
+            ec,
+            ap sum (h .moves p lo lp leaving hl),
+            turned-sum (m .strike) (page xs p) (near m p) (comesTo m leaving p) (page-length xs p) (near-low m p (h .within)),
+          )
 
       pub after-fits : r - getD leaving p 0 + c ≤ 4294967295
       after-fits = omega (arith, sum-after, page-le ys p, h .total)
@@ -135,8 +142,13 @@ module _ {s : List ℕ} {m : Shift} (h : Planned s m) where
   need-tail n (suc k) l =
       let e : n + suc k ≡ n + k + 1 = omega arith in
       rw e
-      (omega (arith, need-next ys (n + k), need-next xs (n + k), need-tail n k l,
-      ap (λ (z : List ℕ). cells (sum z)) (h .above (n + k) (omega arith))))
+      (omega (
+        arith,
+        need-next ys (n + k),
+        need-next xs (n + k),
+        need-tail n k l,
+        ap (λ (z : List ℕ). cells (sum z)) (h .above (n + k) (omega arith)),
+      ))
 
   need-up : (zs : List ℕ) (n k : ℕ) → need zs n ≤ need zs (n + k)
   need-up zs n zero = let e : n + 0 ≡ n = omega arith in rw e (omega arith)

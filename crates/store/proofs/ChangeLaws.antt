@@ -35,15 +35,15 @@ one-side a b = go (decLe a b)
     go (no l) = let e : b - a ≡ 0 = omega arith in rw e (omega arith)
 
 module _ (L : Plain) (ys : List ℕ) where
-  change-over : 4294967295 < sum ys → change L ys ≡ record { answer = refused 3; list = L }
+  pub change-over : 4294967295 < sum ys → change L ys ≡ record { answer = refused 3; list = L }
   unfolding change pick
   change-over a = rw (lt-ltb 4294967295 (sum ys) a)
 
-  change-short : sum ys ≤ 4294967295 → L .cells < need ys (L .pages) → change L ys ≡ record { answer = refused 12; list = L }
+  pub change-short : sum ys ≤ 4294967295 → L .cells < need ys (L .pages) → change L ys ≡ record { answer = refused 12; list = L }
   unfolding change pick
   change-short a b = rw (le-ltb 4294967295 (sum ys) a, lt-ltb (L .cells) (need ys (L .pages)) b)
 
-  change-done : sum ys ≤ 4294967295 → need ys (L .pages) ≤ L .cells
+  pub change-done : sum ys ≤ 4294967295 → need ys (L .pages) ≤ L .cells
       → change L ys ≡ record {
         answer = changed (need ys (L .pages) - need (L .counts) (L .pages))
             (need (L .counts) (L .pages) - need ys (L .pages));
