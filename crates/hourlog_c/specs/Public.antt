@@ -1,4 +1,4 @@
--- Document 01's public calls: what each is given, which answers it may end in, and what it leaves of what it was lent. Assumes nothing.
+-- The documents' public calls: what each is given, which answers it may end in, and what it leaves of what it was lent. Assumes nothing.
 use mathlib.Core.List.{List, [], _∷_}
 use mathlib.Core.Logic.{_↔_}
 use mathlib.Core.Path.{_≡_}
@@ -14,7 +14,7 @@ use Rattle.image.specs.Query.{count, reading}
 use Rattle.image.specs.Reach.{Reach}
 use Rattle.freeze.specs.Freeze.{freezeCall}
 
--- a public call with its numbers and with the slices that it is lent; the live calls are seven
+-- a public call with its numbers and with the slices that it is lent; the live calls are nine
 pub data PublicCall : Type 0 where
   Fresh : (store : List ℕ) (pages cells : ℕ) → PublicCall
   Live : (call : Call) (store : List ℕ) → PublicCall

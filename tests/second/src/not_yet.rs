@@ -17,16 +17,6 @@ pub unsafe fn hourlog_image_to_bcd(_: *const u8, _: usize, _: *mut u8, _: usize)
     unreachable!()
 }
 
-#[cfg(not(feature = "insert-strike"))]
-pub unsafe fn hourlog_insert(_: *mut u8, _: usize, _: u32, _: u32) -> i64 {
-    unreachable!()
-}
-
-#[cfg(not(feature = "insert-strike"))]
-pub unsafe fn hourlog_strike(_: *mut u8, _: usize, _: u32) -> i64 {
-    unreachable!()
-}
-
 #[cfg(not(feature = "match"))]
 pub unsafe fn hourlog_image_match(_: *const u8, _: usize, _: u64) -> i64 {
     unreachable!()
