@@ -33,6 +33,7 @@
  *   after fresh     append 0 until N is H, the hour of the day;
  *   each full hour  append the coins of the hour that is over: N is H again;
  *   after power-up  while N is behind H, append 0 for each hour slept through;
+ *   hour missed     insert it with its coins; logged twice: strike it;
  *   N ahead of H    (the clock was put back) skip: append nothing and count on,
  *                   so that these coins come into the next hour logged.
  * A day has 24 hours, but 23 where the clocks of the arcade are put forward on
@@ -51,20 +52,22 @@
  * bytes of a store or an image mean the same on every machine.
  * Memory: the buffers, which the macros below measure (the largest store has
  * 63,760 bytes); 18 KiB of code; memcpy and memset of the C library.
- * Stack: HOURLOG_STACK, for freeze HOURLOG_FREEZE_STACK.  A board that has not
- * so much sends its store's bytes as they are, and the laptop freezes them.
+ * Stack: HOURLOG_STACK, for insert and strike HOURLOG_MOVE_STACK, for freeze
+ * HOURLOG_FREEZE_STACK.  A board that has not so much sends its store's bytes as
+ * they are, and the laptop freezes them.
  * Time: a store call reads the whole store to check it, so its time grows with
  * the store: by about 4,000 instructions for a page that has coins in it.  A
  * change of an hour costs some 11,000 more.  That is 25,000 for a change in a
  * store of 4 pages of which 3 have coins, and by that rule some 4 million, a
- * third of a millisecond on a desktop, in one of 1,024.  An image is written
+ * third of a millisecond on a desktop, in one of 1,024.  An insert or a strike
+ * costs as much again for each page from its hour on.  An image is written
  * and checked in time that grows with its hours; its count and reading take the
  * same few hundred instructions whatever its length, reach about twice as many.
  * The busiest stretch takes about three times as long as check.
  * Threads and interrupts: any number of calls may run at once, unless one of
  * them changes a buffer that another is lent.
- * Power: a call is not atomic.  Cut off within fresh, append or set, it may
- * leave bytes that are not sound, or that are sound and hold another count.
+ * Power: a call is not atomic.  Cut off within fresh, append, set, insert or
+ * strike, it may leave bytes that are not sound, or that are sound and hold another count.
  * Where power can fail, keep two copies, as examples/board.c does.  See that
  * the copy in use is sound, lest damage be copied over the last good log.  Copy
  * it over the other one and change that.  Then, and only if the change was not
@@ -87,7 +90,7 @@ extern "C" {
 /* Of this header.  MAJOR rises where a call takes or answers something else
  * than before, MINOR where something is added.  For #if: 1000*MAJOR + MINOR. */
 #define HOURLOG_VERSION_MAJOR 2
-#define HOURLOG_VERSION_MINOR 0
+#define HOURLOG_VERSION_MINOR 1
 #define HOURLOG_VERSION (1000 * HOURLOG_VERSION_MAJOR + HOURLOG_VERSION_MINOR)
 
 /* Of the bytes: what byte 0 of a store, and of an image, says. */
@@ -165,9 +168,11 @@ typedef uint64_t hourlog_size;
 #define HOURLOG_BOOK_COUNT_MAX 9999u
 #define HOURLOG_BOOK_LENGTH(hours) (2 * HOURLOG_AS(size_t, hours))
 
-/* Bytes of stack that suffice for freeze, and for every other call: as measured
- * on x86-64, with some room.  Recursion is never deeper than 8. */
+/* Bytes of stack that suffice for freeze, for insert and strike, and for every
+ * other call: as measured on x86-64, with some room.  Recursion is never deeper
+ * than 8. */
 #define HOURLOG_FREEZE_STACK 12288u
+#define HOURLOG_MOVE_STACK 12288u
 #define HOURLOG_STACK 8192u
 
 /* ---- refusals ---------------------------------------------------------- */
@@ -195,7 +200,9 @@ typedef uint64_t hourlog_size;
  *       log, by freeze or as it stands; make a fresh store, filled up to the
  *       hour of the day (see THE CLOCK); append the refused count to it.  At 12
  *       a smaller count may still fit, and an hour without coins does; but no
- *       cell comes back unless a set makes some count smaller.
+ *       cell comes back unless a set makes some count smaller.  An insert or a
+ *       strike is refused 12 too, where the hours behind it would fall into
+ *       pages that need more cells: the log is as it was, and goes on.
  *   14  Read the book from the old board again: an odd number of bytes, or a
  *       digit above 9, was never written by one.  No hour of it came over.
  *   15  No old board could have held that hour: keep the image.
@@ -211,7 +218,7 @@ typedef uint64_t hourlog_size;
 #define HOURLOG_REFUSED_FIGURE 8    /* figure above the total                  */
 #define HOURLOG_REFUSED_FRESH 9     /* fresh: P, C or buffer length wrong      */
 #define HOURLOG_REFUSED_UNSOUND 10  /* these bytes are not a sound store       */
-#define HOURLOG_REFUSED_FULL 11     /* append: 64*P hours are logged           */
+#define HOURLOG_REFUSED_FULL 11     /* append, insert: 64*P hours are logged   */
 #define HOURLOG_REFUSED_CELLS 12    /* more cells needed than the store has    */
 #define HOURLOG_REFUSED_STRETCH 13  /* busiest: no hours, or more than N       */
 #define HOURLOG_REFUSED_BOOK 14     /* book: odd length, or a digit above 9    */
@@ -281,6 +288,18 @@ int64_t hourlog_append(uint8_t *store, hourlog_size len, uint32_t count);
 HOURLOG_MUST_USE
 int64_t hourlog_set(uint8_t *store, hourlog_size len, uint32_t hour, uint32_t count);
 
+/* Inserts an hour that was forgotten, with its count, before the hour given: that
+ * one and all behind it move up by one, N included.  At N it is an append.
+ * Answers as append does, of all pages together: the rise or the fall of the
+ * cells that the whole log needs.  Refuses: 10, 7 (hour > N), 11, 3, 12. */
+HOURLOG_MUST_USE
+int64_t hourlog_insert(uint8_t *store, hourlog_size len, uint32_t hour, uint32_t count);
+
+/* Strikes an hour that was logged twice: all behind it move down by one, N
+ * included.  Answers as insert does.  Refuses: 10, 7 (hour >= N), 12. */
+HOURLOG_MUST_USE
+int64_t hourlog_strike(uint8_t *store, hourlog_size len, uint32_t hour);
+
 /* The count of an hour.  Refuses: 10, 7 (hour >= N). */
 HOURLOG_MUST_USE
 int64_t hourlog_count(const uint8_t *store, hourlog_size len, uint32_t hour);
@@ -320,7 +339,8 @@ HOURLOG_MUST_USE
 int64_t hourlog_freeze(const uint8_t *store, hourlog_size len, uint32_t e,
                        uint8_t *image, hourlog_size image_len);
 
-/* Cells taken, and cells given back, by an accepted append or set. */
+/* Cells taken, and cells given back, by an accepted append, set, insert or
+ * strike. */
 static inline uint32_t hourlog_taken(int64_t answer)
 {
     return HOURLOG_AS(uint32_t, HOURLOG_AS(uint64_t, answer) & 0xFFFFu);

@@ -5,9 +5,7 @@ extern "C" {
     pub fn hourlog_fresh(store: *mut u8, len: usize, pages: u32, cells: u32) -> i64;
     pub fn hourlog_append(store: *mut u8, len: usize, count: u32) -> i64;
     pub fn hourlog_set(store: *mut u8, len: usize, hour: u32, count: u32) -> i64;
-    #[cfg(feature = "insert-strike")]
     pub fn hourlog_insert(store: *mut u8, len: usize, hour: u32, count: u32) -> i64;
-    #[cfg(feature = "insert-strike")]
     pub fn hourlog_strike(store: *mut u8, len: usize, hour: u32) -> i64;
     pub fn hourlog_count(store: *const u8, len: usize, hour: u32) -> i64;
     pub fn hourlog_reading(store: *const u8, len: usize, hour: u32) -> i64;

@@ -185,6 +185,10 @@ static void worked_chains()
     chains({1, 2, 4}, {3}, {});
     assert(hourlog_returned(hourlog_set(store.data(), store.size(), 0, 5)) == 2);
     chains({1}, {3}, {2, 4});
+    assert(hourlog_returned(hourlog_strike(store.data(), store.size(), 1)) == 1);
+    chains({1}, {}, {3, 2, 4});
+    assert(hourlog_taken(hourlog_insert(store.data(), store.size(), 0, 200)) == 2);
+    chains({1, 3}, {2}, {4});
 }
 
 // docs/FORMAT.md's book of three hours, 10, 1234 and 9999 coins, over and back; a buffer of a byte
@@ -232,6 +236,8 @@ static void null_with_length_0()
     assert(hourlog_fresh(nullptr, 0, 1, 2) == -HOURLOG_REFUSED_FRESH);
     assert(hourlog_append(nullptr, 0, 1) == -HOURLOG_REFUSED_UNSOUND);
     assert(hourlog_set(nullptr, 0, 0, 1) == -HOURLOG_REFUSED_UNSOUND);
+    assert(hourlog_insert(nullptr, 0, 0, 1) == -HOURLOG_REFUSED_UNSOUND);
+    assert(hourlog_strike(nullptr, 0, 0) == -HOURLOG_REFUSED_UNSOUND);
     assert(hourlog_count(nullptr, 0, 0) == -HOURLOG_REFUSED_UNSOUND);
     assert(hourlog_reading(nullptr, 0, 0) == -HOURLOG_REFUSED_UNSOUND);
     assert(hourlog_reach(nullptr, 0, 0) == -HOURLOG_REFUSED_UNSOUND);
@@ -300,6 +306,12 @@ int main()
 
     const int64_t shrunk = hourlog_set(store.data(), store.size(), 0, 122);
     assert(hourlog_taken(shrunk) == 0 && hourlog_returned(shrunk) == 1);
+
+    const int64_t inserted = hourlog_insert(store.data(), store.size(), 0, 1);
+    assert(hourlog_taken(inserted) == 1 && hourlog_returned(inserted) == 0);
+
+    const int64_t struck = hourlog_strike(store.data(), store.size(), 0);
+    assert(hourlog_taken(struck) == 0 && hourlog_returned(struck) == 1);
 
     const int64_t refused = hourlog_count(store.data(), store.size(), 1);
     assert(hourlog_is_refused(refused) && hourlog_refusal(refused) == HOURLOG_REFUSED_HOUR);

@@ -31,6 +31,8 @@ static int64_t nothing(void) { return 0; }
 static int64_t fresh(void) { return hourlog_fresh(STORE, HOURLOG_PAGES_MAX, HOURLOG_CELLS_MAX); }
 static int64_t append(void) { return hourlog_append(STORE, 7); }
 static int64_t set(void) { return hourlog_set(STORE, 63, HOURLOG_TOTAL_MAX / 2); }
+static int64_t insert(void) { return hourlog_insert(STORE, 0, 7); }
+static int64_t strike(void) { return hourlog_strike(STORE, 0); }
 static int64_t count(void) { return hourlog_count(STORE, 62); }
 static int64_t reading(void) { return hourlog_reading(STORE, 62); }
 static int64_t reach(void) { return hourlog_reach(STORE, 100); }
@@ -67,6 +69,8 @@ struct measured {
 static const struct measured all[] = {
     {"append", append, HOURLOG_STACK},
     {"set", set, HOURLOG_STACK},
+    {"insert", insert, HOURLOG_MOVE_STACK},
+    {"strike", strike, HOURLOG_MOVE_STACK},
     {"count", count, HOURLOG_STACK},
     {"reading", reading, HOURLOG_STACK},
     {"reach", reach, HOURLOG_STACK},

@@ -161,9 +161,6 @@ fn over_store(
 /// An hour more before all others, and the first one struck: in a full log,
 /// or one that lacks an hour, every page is rewritten.
 pub fn moves(pages: usize) -> Vec<Task> {
-    if !cfg!(feature = "insert-strike") {
-        return Vec::new();
-    }
     vec![
         over_store("insert", 1, filled(pages, 1), |by, bytes| {
             (by.insert)(bytes, 0, 5)

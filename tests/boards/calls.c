@@ -149,8 +149,8 @@ static void store_call(uint64_t length)
     uint32_t number = any();
     uint64_t room = length_near(second.length);
     uint64_t changed;
-    uint32_t call = below(14);
-    if (room > second.length && call >= 12) {
+    uint32_t call = below(16);
+    if (room > second.length && (call == 12 || call == 13)) {
         room = second.length; /* a longer one would be written over its end */
     }
     switch (call) {
@@ -168,6 +168,8 @@ static void store_call(uint64_t length)
         number = number % 8 == 0 ? number : 2 + number % 7;
         say("freeze", length, number, (uint32_t)room, hourlog_freeze(store, length, number, second.at, room));
         break;
+    case 14: say("insert", length, hour, number % 50, hourlog_insert(store, length, hour, number % 50)); break;
+    case 15: say("strike", length, hour, 0, hourlog_strike(store, length, hour)); break;
     default:
         number = call == 0 ? number : call == 1 && number % 8 == 0 ? ~(number >> 4) : number % 40;
         say("append", length, number, 0, hourlog_append(store, length, number));

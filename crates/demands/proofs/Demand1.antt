@@ -6,7 +6,7 @@ use Prim.Native.Nat.{ℕ, _^_, _≤_, _<_}
 use native.Mathlib.Decide.{decLe}
 use native.Mathlib.Omega.{arith}
 use Rattle.lists.specs.Lists.{reached}
-use Rattle.store.specs.Plain.{Append, Call, Count, Day, Free, Reach as ReachOf, Reading, Set}
+use Rattle.store.specs.Plain.{Append, Call, Count, Day, Free, Insert, Reach as ReachOf, Reading, Set, Strike}
 use Rattle.answers.specs.Store.{Answer, answered, changed, refused as turned}
 use Rattle.store.specs.Call.{call, freshCall}
 use Rattle.store.proofs.Unchanged.{answered-keeps, fresh-refused-keeps, refused-keeps}
@@ -108,6 +108,8 @@ asked : (c : Call) (s : List ℕ) → row (Live c s) .question ≡ true → call
 unfolding row
 asked (Append v) s q = absurd (true≢false (sym q))
 asked (Set i v) s q = absurd (true≢false (sym q))
+asked (Insert i v) s q = absurd (true≢false (sym q))
+asked (Strike i) s q = absurd (true≢false (sym q))
 asked (Count i) s q = number-keeps (Count i) s refl
 asked (Reading i) s q = number-keeps (Reading i) s refl
 asked (ReachOf p) s q = number-keeps (ReachOf p) s refl

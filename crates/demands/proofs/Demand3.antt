@@ -7,14 +7,14 @@ use Prim.Native.Nat.{ℕ, suc, _-_, _*_, _≤_, _<_}
 use native.Mathlib.Omega.{arith}
 use native.Mathlib.Decide.{decLe}
 use lib.ListN.{length, getD, take, set, List·getD-eq-default}
-use borrow.Author.Tests.{lt-leb}
+use borrow.Author.Tests.{le-ltb, lt-leb}
 use Rattle.lists.specs.Lists.{pick}
 use Rattle.store.specs.Limits.{Fitting}
 use Rattle.store.specs.Call.{Result, call, freshCall, storeAnswers, storeEnd}
 use Rattle.store.specs.Layout.{Model, bytesOf, fresh}
-use Rattle.store.specs.Plain.{Append, Call, Count, Day, Free, Outcome, Plain, Reach, Reading, Set}
+use Rattle.store.specs.Plain.{Append, Call, Count, Day, Free, Insert, Outcome, Plain, Reach, Reading, Set, Strike}
 use Rattle.answers.specs.Store.{Answer, answered, refused}
-use Rattle.store.specs.Plain.{need, plainAnswers, plainEnd, plainFresh, refuse, step, tell}
+use Rattle.store.specs.Plain.{inserted, need, plainAnswers, plainEnd, plainFresh, refuse, step, struck, tell}
 use Rattle.store.specs.Reading.{read}
 use Rattle.store.specs.Sound.{Good, sound}
 use Rattle.store.proofs.ChainLaws.{Says, says}
@@ -27,7 +27,7 @@ use Rattle.hourlog_c.specs.Public.{Fresh, ofStore}
 use Rattle.hourlog_c.specs.Words.{wordOf}
 use Rattle.hourlog_c.specs.Export.{Answers}
 use Rattle.demands.proofs.Slices.{same-slice}
-use Rattle.demands.specs.Demand3.{Demand3, HoldsAfter, HoldsInWords, Passes, Run, StoreHolds, answerAt, appends, goes-on, listAfter, over, sets, storeAfter, wordsOf}
+use Rattle.demands.specs.Demand3.{Demand3, HoldsAfter, HoldsInWords, Passes, Run, StoreHolds, answerAt, appends, goes-on, inserts, listAfter, over, sets, storeAfter, strikes, wordsOf}
 
 -- ---- the same of calls
 pick-never : (b : Bool) (k : ℕ) (L : Plain) (o : Outcome) → (k ≡ 12 → ⊥) → (o .answer ≡ refused 12 → ⊥) → pick b (refuse k L) o .answer ≡ refused 12
@@ -43,6 +43,8 @@ step-never : (c : Call) (L : Plain) → 8 * L .pages ≤ L .cells → step c L .
 unfolding step
 step-never (Append v) L h = pick-never _ 11 L _ (λ e. omega arith) (change-never L _ h)
 step-never (Set i v) L h = pick-never _ 7 L _ (λ e. omega arith) (change-never L _ h)
+step-never (Insert i v) L h = pick-never _ 7 L _ (λ e. omega arith) (pick-never _ 11 L _ (λ e. omega arith) (change-never L _ h))
+step-never (Strike i) L h = pick-never _ 7 L _ (λ e. omega arith) (change-never L _ h)
 step-never (Count i) L h = pick-never _ 7 L _ (λ e. omega arith) (tell-never _ L)
 step-never (Reading i) L h = pick-never _ 7 L _ (λ e. omega arith) (tell-never _ L)
 step-never (Reach p) L h = pick-never _ 8 L _ (λ e. omega arith) (tell-never _ L)
@@ -53,6 +55,9 @@ step-when : (c : Call) (L : Plain) (ys : List ℕ) → Passes c L ys → (step c
 unfolding step pick
 step-when c L ys (appends v M a t) = rw (lt-leb (64 * L .pages) (length (L .counts)) a) (change-when L (L .counts ++ v ∷ []) t)
 step-when c L ys (sets i v M a t) = rw (lt-leb (length (L .counts)) i a) (change-when L (set (L .counts) i v) t)
+step-when c L ys (inserts i v M a b t) =
+    rw (le-ltb (length (L .counts)) i a, lt-leb (64 * L .pages) (length (L .counts)) b) (change-when L (inserted (L .counts) i v) t)
+step-when c L ys (strikes i M a t) = rw (lt-leb (length (L .counts)) i a) (change-when L (struck (L .counts) i) t)
 
 -- ---- what is said of one store, said of another name for it
 carry : {s t : List ℕ} {P P′ C C′ : ℕ} {xs xs′ : List ℕ} → s ≡ t → P ≡ P′ → C ≡ C′ → xs ≡ xs′ → Says t P C xs → Says s P′ C′ xs′

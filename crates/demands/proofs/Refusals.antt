@@ -3,22 +3,24 @@ use mathlib.Core.Path.{_≡_, refl, sym, subst}
 use mathlib.Core.Bool.{Bool, true, false, _&&_}
 use mathlib.Core.List.{List, [], _∷_, _++_}
 use mathlib.Core.Logic.{⊎-elim}
-use Prim.Native.Nat.{ℕ, zero, suc}
+use Prim.Native.Nat.{ℕ, zero, suc, _≤_}
 use native.Mathlib.Omega.{arith}
 use lib.ListN.{length, drop, set}
 use lib.Dec.{leb, ltb}
 use borrow.Author.Tests.{leb-true}
-use Rattle.lists.specs.Lists.{occurrences, one, pick, reached}
+use Rattle.lists.specs.Lists.{occurrences, one, pick, reached, sum}
 use Rattle.tree.specs.Read.{Found, damaged, found}
-use Rattle.store.specs.Plain.{Append, Call, Count, Day, Free, Outcome, Plain, Reach as ReachOf, Reading, Set}
+use Rattle.store.specs.Plain.{Append, Call, Count, Day, Free, Insert, Outcome, Plain, Reach as ReachOf, Reading, Set, Strike}
 use Rattle.answers.specs.Store.{Answer, answered, refused as turned}
-use Rattle.store.specs.Plain.{change, refuse, step}
+use Rattle.store.specs.Plain.{change, inserted, refuse, step, struck}
 use Rattle.store.specs.Layout.{bytesOf, fresh}
 use Rattle.store.specs.Reading.{listIn, read}
 use Rattle.store.specs.Sound.{sound}
 use Rattle.store.specs.Limits.{fits}
 use Rattle.store.specs.Call.{Result, call, freshCall}
 use Rattle.store.proofs.CallLaws.{call-10, sound-call}
+use Rattle.store.proofs.Inserting.{sum-struck}
+use Rattle.store.proofs.SoundFacts.{facts}
 use Rattle.store.proofs.StepLaws.{Change, change-is, done, over, short}
 use Rattle.image.specs.Calls.{Wrote, lengthCall, put, putAfter, unwritten, writeCall}
 use Rattle.image.specs.Check.{accepted, check, headed}
@@ -57,21 +59,38 @@ module _ (r : Row) (L : Plain) where
       go (short x y) = b
       go (done x y) = g
 
-step-allowed : (c : Call) (s : List ℕ) (L : Plain) → Allowed (row (Live c s)) (ofStore (step c L .answer))
+  -- a strike has a lower total: never 3
+  strike-allowed : (i : ℕ) → sum (L .counts) ≤ 4294967295 → r .gives ≡ cellsMoved → Among 12 (r .refusals)
+      → Allowed r (ofStore (change L (struck (L .counts) i) .answer))
+  unfolding ofStore
+  strike-allowed i t g b = go (change-is L (struck (L .counts) i))
+    where
+      go : {o : Outcome} → Change L (struck (L .counts) i) o → Allowed r (ofStore (o .answer))
+      go (over x) = absurd (omega (arith, sum-struck (L .counts) i))
+      go (short x y) = b
+      go (done x y) = g
+
+step-allowed : (c : Call) (s : List ℕ) (L : Plain) → sum (L .counts) ≤ 4294967295 → Allowed (row (Live c s)) (ofStore (step c L .answer))
 unfolding step row occurrences one ofStore
-step-allowed (Append v) s L = or-turned _ L _ 11 _ (omega arith) (change-allowed _ L (L .counts ++ v ∷ []) refl (omega arith) (omega arith))
-step-allowed (Set i v) s L = or-turned _ L _ 7 _ (omega arith) (change-allowed _ L (set (L .counts) i v) refl (omega arith) (omega arith))
-step-allowed (Count i) s L = or-turned _ L _ 7 _ (omega arith) refl
-step-allowed (Reading i) s L = or-turned _ L _ 7 _ (omega arith) refl
-step-allowed (ReachOf p) s L = or-turned _ L _ 8 _ (omega arith) refl
-step-allowed (Day d cs) s L = or-turned _ L _ 16 _ (omega arith) (or-turned _ L _ 7 _ (omega arith) refl)
-step-allowed Free s L = refl
+step-allowed (Append v) s L t = or-turned _ L _ 11 _ (omega arith) (change-allowed _ L (L .counts ++ v ∷ []) refl (omega arith) (omega arith))
+step-allowed (Set i v) s L t = or-turned _ L _ 7 _ (omega arith) (change-allowed _ L (set (L .counts) i v) refl (omega arith) (omega arith))
+step-allowed (Insert i v) s L t =
+    or-turned _ L _ 7 _ (omega arith)
+    (or-turned _ L _ 11 _ (omega arith) (change-allowed _ L (inserted (L .counts) i v) refl (omega arith) (omega arith)))
+step-allowed (Strike i) s L t = or-turned _ L _ 7 _ (omega arith) (strike-allowed _ L i t refl (omega arith))
+step-allowed (Count i) s L t = or-turned _ L _ 7 _ (omega arith) refl
+step-allowed (Reading i) s L t = or-turned _ L _ 7 _ (omega arith) refl
+step-allowed (ReachOf p) s L t = or-turned _ L _ 8 _ (omega arith) refl
+step-allowed (Day d cs) s L t = or-turned _ L _ 16 _ (omega arith) (or-turned _ L _ 7 _ (omega arith) refl)
+step-allowed Free s L t = refl
 
 -- every live call has 10
 has-10 : (c : Call) (s : List ℕ) → Among 10 (row (Live c s) .refusals)
 unfolding row occurrences one
 has-10 (Append v) s = omega arith
 has-10 (Set i v) s = omega arith
+has-10 (Insert i v) s = omega arith
+has-10 (Strike i) s = omega arith
 has-10 (Count i) s = omega arith
 has-10 (Reading i) s = omega arith
 has-10 (ReachOf p) s = omega arith
@@ -84,7 +103,7 @@ live-allowed c s = go (sound s) refl
   where
     go : (b : Bool) → sound s ≡ b → Allowed (row (Live c s)) (ofStore (call c s .answer))
     go false e = subst (λ (a : Answer). Allowed (row (Live c s)) (ofStore a)) (call-10 c s e .answer) (has-10 c s)
-    go true e = subst (λ (a : Answer). Allowed (row (Live c s)) (ofStore a)) (sound-call c s e .answer) (step-allowed c s (read s .plain))
+    go true e = subst (λ (a : Answer). Allowed (row (Live c s)) (ofStore a)) (sound-call c s e .answer) (step-allowed c s (read s .plain) (facts s e .total-fits))
 
 pub fresh-allowed : (b : List ℕ) (P C : ℕ) → Allowed (row (Fresh b P C)) (ofStore (freshCall b P C .answer))
 unfolding freshCall pick row occurrences one ofStore

@@ -6,7 +6,7 @@ use mathlib.Core.List.{List, [], _∷_}
 use mathlib.Core.Logic.{_↔_, Iff·trans}
 use Prim.Native.Nat.{ℕ, _-_, _*_, _^_, _≤_, _<_}
 use native.Mathlib.Omega.{arith}
-use Rattle.store.specs.Plain.{Append, Call, Count, Day, Free, Reach as ReachOf, Reading, Set}
+use Rattle.store.specs.Plain.{Append, Call, Count, Day, Free, Insert, Reach as ReachOf, Reading, Set, Strike}
 use Rattle.answers.specs.Store.{Answer, answered, changed, refused as turned}
 use Rattle.store.specs.Call.{call, freshCall}
 use Rattle.store.specs.Items.{Items}
@@ -58,6 +58,15 @@ module _ (s : List ℕ) (k : ℕ) where
   pub set-refused : (i v : ℕ) → call (Set i v) s .answer ≡ turned k → Among k (10 ∷ 7 ∷ 3 ∷ 12 ∷ []) × (call (Set i v) s .bytes ≡ s)
   unfolding row
   set-refused i v = live (Set i v)
+
+  -- document 02: 'Refusals 10, 7, 11, 3 and 12 apply in that order .. strike never meets 11 or 3'
+  pub insert-refused : (i v : ℕ) → call (Insert i v) s .answer ≡ turned k → Among k (10 ∷ 7 ∷ 11 ∷ 3 ∷ 12 ∷ []) × (call (Insert i v) s .bytes ≡ s)
+  unfolding row
+  insert-refused i v = live (Insert i v)
+
+  pub strike-refused : (i : ℕ) → call (Strike i) s .answer ≡ turned k → Among k (10 ∷ 7 ∷ 12 ∷ []) × (call (Strike i) s .bytes ≡ s)
+  unfolding row
+  strike-refused i = live (Strike i)
 
   -- 'count i: 7 if i ≥ N. Reading i: 7 if i > N'
   pub count-refused : (i : ℕ) → call (Count i) s .answer ≡ turned k → Among k (10 ∷ 7 ∷ []) × (call (Count i) s .bytes ≡ s)
@@ -276,6 +285,17 @@ module _ (w : ℕ) (l : w < 2 ^ 63) (t : List (List ℕ)) where
       → (call (Set i v) s .answer ≡ changed (taken w) (returned w)) × (t ≡ call (Set i v) s .bytes ∷ [])
   unfolding row
   set-word i v s = live-cells (Set i v) s refl
+
+  -- document 02: 'Each returns the rise and the fall of the whole need'
+  pub insert-word : (i v : ℕ) (s : List ℕ) → Answers (Live (Insert i v) s) w t
+      → (call (Insert i v) s .answer ≡ changed (taken w) (returned w)) × (t ≡ call (Insert i v) s .bytes ∷ [])
+  unfolding row
+  insert-word i v s = live-cells (Insert i v) s refl
+
+  pub strike-word : (i : ℕ) (s : List ℕ) → Answers (Live (Strike i) s) w t
+      → (call (Strike i) s .answer ≡ changed (taken w) (returned w)) × (t ≡ call (Strike i) s .bytes ∷ [])
+  unfolding row
+  strike-word i s = live-cells (Strike i) s refl
 
   -- 'the rise and the fall of the need .., so one of the two is 0'
   pub one-is-zero : (c : Call) (s : List ℕ) → row (Live c s) .gives ≡ cellsMoved → Answers (Live c s) w t → taken w * returned w ≡ 0

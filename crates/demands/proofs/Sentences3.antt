@@ -14,18 +14,20 @@ use Rattle.reserve.specs.Reserve.{ceil, reserve}
 use Rattle.store.specs.Limits.{Fitting}
 use Rattle.store.specs.Call.{call, freshCall, storeAnswers, storeEnd}
 use Rattle.store.specs.PageCode.{cells}
-use Rattle.store.specs.Plain.{Append, Call, Free, Plain, Reading, Set, need, plainAnswers, plainFresh, step}
-use Rattle.answers.specs.Store.{Answer, answered, refused}
+use Rattle.store.specs.Plain.{Append, Call, Free, Insert, Outcome, Plain, Reading, Set, Strike, inserted, need, next, plainAnswers, plainFresh, step, struck}
+use Rattle.answers.specs.Store.{Answer, answered, changed, refused}
 use Rattle.store.specs.Reading.{Runs, chainIn, codeIn, firstIn, read, readFor, spareIn, sumIn}
 use Rattle.store.proofs.CallLaws.{sound-call}
 use Rattle.store.proofs.Examples.{session, session-answers}
 use Rattle.store.proofs.FreshLaws.{cell-high, cell-in}
+use Rattle.store.proofs.Inserting.{sum-struck}
+use Rattle.store.proofs.InsertLaws.{insert-end-bytes, strike-inserted}
 use Rattle.store.proofs.SoundFacts.{facts}
 use Rattle.store.proofs.Whole.{end-pages}
 use Rattle.hourlog_c.specs.Public.{Fresh, Live, ofStore}
 use Rattle.hourlog_c.specs.Words.{minus, pair, wordOf}
 use Rattle.hourlog_c.specs.Export.{Answers}
-use Rattle.demands.specs.Demand3.{HoldsInWords, Passes, Run, StoreHolds, appends, listAfter, sets, storeAfter, wordsOf}
+use Rattle.demands.specs.Demand3.{HoldsInWords, Passes, Run, StoreHolds, appends, inserts, listAfter, sets, storeAfter, strikes, wordsOf}
 use Rattle.demands.proofs.Demand3.{demand-3}
 
 -- ---- one more call behind a list of them
@@ -118,6 +120,28 @@ module _ (b : List ℕ) (P C : ℕ) (h : Fitting b P C) (cs : List Call) where
 
   pub set-12 : (i v : ℕ) → i < length X → sum (set X i v) ≤ 4294967295 → (call (Set i v) S .answer ≡ refused 12) ↔ (C < need (set X i v) P)
   set-12 i v l t = twelve (Set i v) (set X i v) (sets i v (listAfter P C cs) l t)
+
+  -- document 02: '12 exactly if the new list needs more than C'
+  pub insert-12 : (i v : ℕ) → i ≤ length X → length X < 64 * P → sum (inserted X i v) ≤ 4294967295
+      → (call (Insert i v) S .answer ≡ refused 12) ↔ (C < need (inserted X i v) P)
+  insert-12 i v a l t =
+      twelve (Insert i v) (inserted X i v) (inserts i v (listAfter P C cs) a (omega (arith, l, end-pages cs (plainFresh P C))) t)
+
+  total-fits : sum X ≤ 4294967295
+  total-fits = subst (λ (L : Plain). sum (L .counts) ≤ 4294967295) (D .list) (facts S (D .is-sound) .total-fits)
+
+  pub strike-12 : (i : ℕ) → i < length X → (call (Strike i) S .answer ≡ refused 12) ↔ (C < need (struck X i) P)
+  strike-12 i l = twelve (Strike i) (struck X i) (strikes i (listAfter P C cs) l (omega (arith, total-fits, sum-struck X i)))
+
+  -- an insert at N is an append, its bytes too
+  pub insert-at-end : (v : ℕ) → call (Insert (length X) v) S ≡ call (Append v) S
+  insert-at-end v = ap (λ (n : ℕ). call (Insert n v) S) (ap (λ (L : Plain). length (L .counts)) (sym (D .list))) ∙ insert-end-bytes v S
+
+  -- an hour that is inserted and struck again leaves the list that was there, and answers the cells the other way round
+  pub inserted-struck : (i v r f : ℕ) → step (Insert i v) (record { pages = P; cells = C; counts = X }) .answer ≡ changed r f
+      → step (Strike i) (next (Insert i v) (record { pages = P; cells = C; counts = X }))
+      ≡ record { answer = changed f r; list = record { pages = P; cells = C; counts = X } }
+  inserted-struck i v r f = strike-inserted (record { pages = P; cells = C; counts = X }) i v r f total-fits (D .need-fits)
 
   -- 'never with eight cells a page'
   pub eight-suffice : 8 * P ≤ C → (c : Call) → call c S .answer ≡ refused 12 → ⊥

@@ -5,7 +5,7 @@ use mathlib.Core.List.{List, [], _∷_}
 use mathlib.Core.Path.{_≡_}
 use Prim.Native.Nat.{ℕ, _+_, _^_, _≤_, _<_}
 use Rattle.lists.specs.Lists.{occurrences}
-use Rattle.store.specs.Plain.{Append, Count, Day, Free, Reach, Reading, Set}
+use Rattle.store.specs.Plain.{Append, Count, Day, Free, Insert, Reach, Reading, Set, Strike}
 use Rattle.hourlog_c.specs.Public.{End, Ends, Fresh, Freeze, ImageBusiest, ImageCheck, ImageCount, ImageFromBcd, ImageLength, ImageReach, ImageReading}
 use Rattle.hourlog_c.specs.Public.{ImageToBcd, ImageWrite, Live}
 use Rattle.hourlog_c.specs.Public.{PublicCall, lent, refusal, theCells, theNumber, theRun, theSums}
@@ -37,6 +37,9 @@ unfoldable pub row : PublicCall → Row
 row (Fresh s P C) = record { refusals = 9 ∷ []; gives = aNumber; question = false }
 row (Live (Append v) s) = record { refusals = 10 ∷ 11 ∷ 3 ∷ 12 ∷ []; gives = cellsMoved; question = false }
 row (Live (Set i v) s) = record { refusals = 10 ∷ 7 ∷ 3 ∷ 12 ∷ []; gives = cellsMoved; question = false }
+-- document 02, note 5: 'Refusals 10, 7, 11, 3 and 12 apply in that order', 'strike never meets 11 or 3'
+row (Live (Insert i v) s) = record { refusals = 10 ∷ 7 ∷ 11 ∷ 3 ∷ 12 ∷ []; gives = cellsMoved; question = false }
+row (Live (Strike i) s) = record { refusals = 10 ∷ 7 ∷ 12 ∷ []; gives = cellsMoved; question = false }
 row (Live (Count i) s) = record { refusals = 10 ∷ 7 ∷ []; gives = aNumber; question = true }
 row (Live (Reading i) s) = record { refusals = 10 ∷ 7 ∷ []; gives = aNumber; question = true }
 row (Live (Reach p) s) = record { refusals = 10 ∷ 8 ∷ []; gives = aNumber; question = true }

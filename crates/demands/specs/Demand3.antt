@@ -9,7 +9,7 @@ use Rattle.answers.specs.Refusals.{cellsShort}
 use Rattle.lists.specs.Lists.{tabulate, concat, sum, occurrences}
 use Rattle.bits.specs.Numbers.{numberAt}
 use Rattle.store.specs.PageCode.{cells}
-use Rattle.store.specs.Plain.{Plain, Call, Append, Set, Free, page, need, plainEnd, plainAnswers, plainFresh}
+use Rattle.store.specs.Plain.{Plain, Call, Append, Set, Insert, Strike, Free, inserted, page, need, plainEnd, plainAnswers, plainFresh, struck}
 use Rattle.answers.specs.Store.{Answer, answered, refused}
 use Rattle.store.specs.Layout.{cellsFrom, size}
 use Rattle.store.specs.Limits.{Fitting}
@@ -32,11 +32,14 @@ listAfter P C cs = plainEnd cs (plainFresh P C)
 abbrev pub answerAt : List ℕ → ℕ → ℕ → List Call → ℕ → Answer
 answerAt b P C cs n = getD (storeAnswers cs (freshCall b P C .bytes)) n (answered 0)
 
--- an append or set that passes the checks before 12, and the list that it asks for
+-- an append, set, insert or strike that passes the checks before 12, and the list that it asks for
 pub data Passes : Call → Plain → List ℕ → Type 0 where
   appends : (v : ℕ) (L : Plain) → length (L .counts) < 64 * L .pages → sum (L .counts ++ v ∷ []) ≤ 4294967295
       → Passes (Append v) L (L .counts ++ v ∷ [])
   sets : (i v : ℕ) (L : Plain) → i < length (L .counts) → sum (set (L .counts) i v) ≤ 4294967295 → Passes (Set i v) L (set (L .counts) i v)
+  inserts : (i v : ℕ) (L : Plain) → i ≤ length (L .counts) → length (L .counts) < 64 * L .pages → sum (inserted (L .counts) i v) ≤ 4294967295
+      → Passes (Insert i v) L (inserted (L .counts) i v)
+  strikes : (i : ℕ) (L : Plain) → i < length (L .counts) → sum (struck (L .counts) i) ≤ 4294967295 → Passes (Strike i) L (struck (L .counts) i)
 
 -- the bytes s are a sound store of P pages and C cells, and hold the list xs
 pub record StoreHolds (s : List ℕ) (P C : ℕ) (xs : List ℕ) : Type 0 where
@@ -64,7 +67,7 @@ pub record HoldsAfter (b : List ℕ) (P C : ℕ) (cs : List Call) : Type 0 where
   -- each answer is the plain list's, and the store holds its state
   pub answers : storeAnswers cs (freshCall b P C .bytes) ≡ plainAnswers cs (plainFresh P C)
   pub holds : StoreHolds (storeAfter b P C cs) P C (listAfter P C cs .counts)
-  -- call n, an append or set that passes the earlier checks, is refused 12 exactly when the changed list needs more than C cells
+  -- call n, one of these that passes the earlier checks, is refused 12 exactly when the changed list needs more than C cells
   pub when-12 : (n : ℕ) → n < length cs → (ys : List ℕ) → Passes (getD cs n Free) (listAfter P C (take n cs)) ys
       → (answerAt b P C cs n ≡ refused cellsShort) ↔ (C < need ys P)
   -- and never with at least eight cells a page

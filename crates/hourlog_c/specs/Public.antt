@@ -4,7 +4,7 @@ use mathlib.Core.List.{List, [], _∷_}
 use mathlib.Core.Logic.{_↔_}
 use mathlib.Core.Path.{_≡_}
 use Prim.Native.Nat.{ℕ}
-use Rattle.store.specs.Plain.{Append, Call, Count, Day, Free, Reach as ReachOf, Reading, Set}
+use Rattle.store.specs.Plain.{Append, Call, Count, Day, Free, Insert, Reach as ReachOf, Reading, Set, Strike}
 use Rattle.answers.specs.Store.{Answer, answered, changed, refused as turned}
 use Rattle.store.specs.Call.{call, freshCall}
 use Rattle.store.specs.Items.{Items}
@@ -20,7 +20,7 @@ use Rattle.answers.specs.declared.image.Stretch.the-variants.{Run, Refused as N
 use Rattle.book_in.specs.FromBook.{fromCall}
 use Rattle.book_out.specs.ToBook.{toCall}
 
--- a public call with its numbers and with the slices that it is lent; the live calls are seven
+-- a public call with its numbers and with the slices that it is lent; the live calls are nine
 pub data PublicCall : Type 0 where
   Fresh : (store : List ℕ) (pages cells : ℕ) → PublicCall
   Live : (call : Call) (store : List ℕ) → PublicCall
@@ -39,6 +39,8 @@ pub data PublicCall : Type 0 where
 abbrev pub beside : Call → List (List ℕ)
 beside (Append v) = []
 beside (Set i v) = []
+beside (Insert i v) = []
+beside (Strike i) = []
 beside (Count i) = []
 beside (Reading i) = []
 beside (ReachOf p) = []

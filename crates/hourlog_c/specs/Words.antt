@@ -12,7 +12,7 @@ minus k = (2 ^ 64 - k) % 2 ^ 64
 unfoldable pub pair : ℕ → ℕ → ℕ → ℕ
 pair k a b = (a + b * 2 ^ k) % 2 ^ 64
 
--- append and set give taken + returned·2^16, check gives S + N·2^40, busiest gives the sum + first·2^40
+-- append, set, insert and strike give taken + returned·2^16, check gives S + N·2^40, busiest gives the sum + first·2^40
 unfoldable pub wordOf : End → ℕ
 wordOf (theNumber n) = n
 wordOf (theCells t r) = pair 16 t r

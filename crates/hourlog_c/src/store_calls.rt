@@ -1,7 +1,7 @@
 // The live store, for C.
 use crate::word::of_store;
 ghost use mathlib.Core.List.{[], _∷_};
-ghost use Rattle.store.specs.Plain.{Append, Set, Count, Reading, Reach, Day, Free};
+ghost use Rattle.store.specs.Plain.{Append, Set, Insert, Strike, Count, Reading, Reach, Day, Free};
 ghost use Rattle.store.specs.Reading.{listIn};
 ghost use Rattle.coin_cost.specs.Cost.{gain};
 ghost use Rattle.hourlog_c.specs.Public.{Fresh, Live};
@@ -28,6 +28,20 @@ pub extern "C" fn hourlog_set(store: &mut [u8], hour: u32, count: u32) -> u64
     ensures { λ r. ⌜ Costs (gain (listIn (now (store .entry))) hour count) r ⌝ }
 {
     of_store(live::set(store, hour, count))
+}
+
+#[no_mangle]
+pub extern "C" fn hourlog_insert(store: &mut [u8], hour: u32, count: u32) -> u64
+    ensures { λ r. ⌜ Answers (Live (Insert hour count) (now (store .entry))) r (now (store .exit) ∷ []) ⌝ }
+{
+    of_store(live::insert(store, hour, count))
+}
+
+#[no_mangle]
+pub extern "C" fn hourlog_strike(store: &mut [u8], hour: u32) -> u64
+    ensures { λ r. ⌜ Answers (Live (Strike hour) (now (store .entry))) r (now (store .exit) ∷ []) ⌝ }
+{
+    of_store(live::strike(store, hour))
 }
 
 #[no_mangle]

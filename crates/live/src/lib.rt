@@ -1,8 +1,9 @@
 // The live calls on a store's bytes. Each turns a store that is not sound down first, and then answers as the store's list does.
 use answers::refusal;
 use answers::store::Answer;
+use live_move::edit;
 use soundness::check;
-ghost use Rattle.store.specs.Plain.{Append, Count, Day, Free, Reach, Reading, Set};
+ghost use Rattle.store.specs.Plain.{Append, Count, Day, Free, Insert, Reach, Reading, Set, Strike};
 ghost use Rattle.store.specs.Call.{Called};
 ghost use Rattle.store.specs.Reading.{listIn};
 ghost use Rattle.coin_cost.specs.Cost.{TakesAtMost, cellsFor, gain};
@@ -28,6 +29,26 @@ pub fn set(s: &mut [u8], i: u32, v: u32) -> Answer
         return Answer::Refused(refusal::UNSOUND);
     }
     live_change::set(s, i, v)
+}
+
+// Inserts v before hour i.
+pub fn insert(s: &mut [u8], i: u32, v: u32) -> Answer
+    ensures { λ r. ⌜ Called (Insert i v) (now (s .entry)) (told r) (now (s .exit)) ⌝ }
+{
+    if !check(s) {
+        return Answer::Refused(refusal::UNSOUND);
+    }
+    edit::insert(s, i, v)
+}
+
+// Strikes hour i.
+pub fn strike(s: &mut [u8], i: u32) -> Answer
+    ensures { λ r. ⌜ Called (Strike i) (now (s .entry)) (told r) (now (s .exit)) ⌝ }
+{
+    if !check(s) {
+        return Answer::Refused(refusal::UNSOUND);
+    }
+    edit::strike(s, i)
 }
 
 // The count of hour i.

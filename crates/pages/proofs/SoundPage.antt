@@ -1,4 +1,4 @@
--- Page p of a sound store whose cells start at base; it has sum t and k cells. Assumes nothing.
+-- Page p of a store whose cells start at base; it has sum t and k cells. Assumes nothing.
 use mathlib.Core.Path.{_≡_, refl, sym, ap, ap₂, _∙_}
 use mathlib.Core.List.{List, [], _++_}
 use Prim.Native.Nat.{ℕ, _+_, _-_, _*_, _≤_, _<_}
@@ -10,16 +10,15 @@ use Rattle.store.specs.PageCode.{cells, pageBytes}
 use Rattle.store.specs.Plain.{page}
 use Rattle.store.specs.Layout.{Model, cellsFrom, entryAt}
 use Rattle.store.specs.Reading.{chainIn, codeIn, pagesOf, read, sumIn}
-use Rattle.store.specs.Sound.{Good}
+use Rattle.store.specs.Sound.{Chained}
 use Rattle.store.specs.Code.Links.{Steps}
 use Rattle.store.specs.Code.Hours.{OfPage}
-use Rattle.store.proofs.Chained.{good-chained}
 use Rattle.store.proofs.Joining.{chain-left, walk-steps}
 use Rattle.store.proofs.PageChange.{page-and-spare}
 use Rattle.store.proofs.PageCodeLaws.{cells-most, length-page}
 use Rattle.store.proofs.ReadBack.{code-in}
 use Rattle.store.proofs.Spread.{spread-of}
-use Rattle.store.proofs.SoundFacts.{Facts, facts}
+use Rattle.store.proofs.SoundFacts.{HeldFacts, held-facts}
 use Rattle.pages.specs.Gathered.{Gathered, codeFrom}
 
 module _ {s : List ℕ} {base p t k : ℕ} (o : OfPage s base p t k) where
@@ -29,11 +28,11 @@ module _ {s : List ℕ} {base p t k : ℕ} (o : OfPage s base p t k) where
   abbrev x : List ℕ
   x = page (m .plain .counts) p
 
-  f : Facts s
-  f = facts s (o .is-sound)
+  f : HeldFacts s
+  f = held-facts s (o .held)
 
-  abbrev g : Good m
-  g = f .good
+  abbrev g : Chained m
+  g = f .chained
 
   base-same : base ≡ cellsFrom (m .plain .pages)
   base-same = o .base-is ∙ ap cellsFrom (f .pages-are)
@@ -51,10 +50,10 @@ module _ {s : List ℕ} {base p t k : ℕ} (o : OfPage s base p t k) where
   few = omega (arith, o .cells-is, cells-most t (omega (arith, sum-small)))
 
   pub pages-few : pagesOf s ≤ 1024
-  pages-few = f .pages-high
+  pages-few = omega (arith, f .pages-are, g .limits .pages-high)
 
   pub base-low : base < 65536
-  base-low = omega (arith, o .base-is, f .pages-high)
+  base-low = omega (arith, o .base-is, pages-few)
 
   -- its chain can be walked
   pub page-steps : (a : ℕ) → a ≡ entryAt p → Steps s base (a + 4) k
@@ -64,7 +63,7 @@ module _ {s : List ℕ} {base p t k : ℕ} (o : OfPage s base p t k) where
       let size = f .holds .size in
       rw (q, base-same, ← n)
       (walk-steps s (cellsFrom (m .plain .pages)) (m .plain .cells) (entryAt p + 4) cs 0 (g .limits .cells-high) (omega arith) (omega (arith, inside))
-      (chain-left cs (m .spare) (page-and-spare m (good-chained m g) p inside)) (spread-of s m (g .rows) (f .holds) .links p inside))
+      (chain-left cs (m .spare) (page-and-spare m g p inside)) (spread-of s m (g .rows) (f .holds) .links p inside))
 
   -- and holds the code of its counts
   code-same : codeIn s base (chainIn s (pagesOf s) p) ≡ pageBytes x
@@ -91,7 +90,7 @@ module _ {s : List ℕ} {base p t k : ℕ} (o : OfPage s base p t k) where
   -- the same with the sum that the entry says
   pub as-said : OfPage s base p (sumIn s p) k
   as-said = record {
-    is-sound = o .is-sound;
+    held = o .held;
     base-is = o .base-is;
     inside = o .inside;
     sum-is = refl;

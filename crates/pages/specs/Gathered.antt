@@ -13,7 +13,7 @@ use Rattle.store.specs.Reading.{chainFrom, chainIn, codeIn, listIn, pagesOf, su
 abbrev pub codeFrom : List ℕ → ℕ → ℕ → ℕ → List ℕ
 codeFrom s base a k = codeIn s base (chainFrom s base k (numberAt s a 2))
 
--- r is the code of page p of a sound store s, in the bytes of eight cells: 'Its code runs along its chain, unused bits zero'. What stands
+-- r is the code of page p of a store s, in the bytes of eight cells: 'Its code runs along its chain, unused bits zero'. What stands
 -- in its cells is the code of the page's counts
 pub record Gathered (s : List ℕ) (p : ℕ) (r : List ℕ) : Type 0 where
   pub cells-are : r ≡ codeIn s (cellsFrom (pagesOf s)) (chainIn s (pagesOf s) p) ++ replicate (240 - 30 * cells (sumIn s p)) 0

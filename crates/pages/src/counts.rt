@@ -9,7 +9,7 @@ ghost use Rattle.store.specs.Reading.{listIn, pagesOf};
 ghost use Rattle.store.specs.Sound.{sound};
 ghost use Rattle.store.specs.Code.Hours.{OfPage};
 
-// The counts of page p of a sound store, of the sum and cells given.
+// The counts of page p, of the sum and cells given, of a store that is sound or between two pages of a change.
 pub fn counts_at(s: &[u8], base: usize, p: usize, sum: u64, k: usize) -> [u32; 64]
     requires { ⌜ OfPage (now s) base p sum k ⌝ }
     ensures { λ r. ⌜ r ≡ page (listIn (now (s .entry))) p ⌝ }

@@ -19,6 +19,7 @@ use Rattle.store.proofs.Joining.{chain-head, chain-left, chain-right, c
 use Rattle.store.proofs.Keep.{spare-is}
 use Rattle.store.proofs.Numbers.{number-two}
 use Rattle.store.proofs.PageChange.{page-and-spare}
+use Rattle.store.proofs.Chained.{good-chained}
 use Rattle.store.proofs.ReadBack.{chain-is, pages-is, read-is, sum-is}
 use Rattle.store.proofs.SoundLaws.{sound-bytes}
 use Rattle.store.proofs.Spread.{spread-of}
@@ -51,15 +52,15 @@ module _ (m : Model) (g : Good m) where
   h = holds-bytes m g
 
   same : read s ≡ m
-  same = read-is s m g h
+  same = read-is s m (good-chained m g) h
 
   spare-same : spareIn s (m .plain .pages) ≡ m .spare
   unfolding read readFor
-  spare-same = ap (spareIn s) (sym (pages-is s m g h)) ∙ ap (λ (z : Model). z .spare) same
+  spare-same = ap (spareIn s) (sym (pages-is s m (good-chained m g) h)) ∙ ap (λ (z : Model). z .spare) same
 
   chains-same : tabulate (m .plain .pages) (chainIn s (m .plain .pages)) ≡ m .chains
   unfolding read readFor
-  chains-same = ap (λ (z : ℕ). tabulate z (chainIn s z)) (sym (pages-is s m g h)) ∙ ap (λ (z : Model). z .chains) same
+  chains-same = ap (λ (z : ℕ). tabulate z (chainIn s z)) (sym (pages-is s m (good-chained m g) h)) ∙ ap (λ (z : Model). z .chains) same
 
   pub says : Says (bytesOf m) (m .plain .pages) (m .plain .cells) (m .plain .counts)
   unfolding s onChains
@@ -67,10 +68,10 @@ module _ (m : Model) (g : Good m) where
     is-sound = sound-bytes m g;
     long = h .size;
     list = ap (λ (z : Model). z .plain) same;
-    page-sum = sum-is s m g h;
-    page-cells = λ p l. ap length (chain-is s m g h p l) ∙ g .lengths p l;
+    page-sum = sum-is s m (good-chained m g) h;
+    page-cells = λ p l. ap length (chain-is s m (good-chained m g) h p l) ∙ g .lengths p l;
     page-ends = λ p l.
-        rw (chain-is s m g h p l)
+        rw (chain-is s m (good-chained m g) h p l)
         (linked-runs s (cellsFrom (m .plain .pages)) (m .plain .cells) (entryAt p + 4) (getD (m .chains) p []) (g .limits .cells-high)
         (chain-left (getD (m .chains) p []) (m .spare) (page-and-spare m (good-chained m g) p l)) (spread-of s m (g .rows) h .links p l));
     free-cells = ap (λ (z : List ℕ). length z + need (m .plain .counts) (m .plain .pages)) spare-same ∙ spare-is m g;

@@ -15,11 +15,12 @@ use Rattle.store.specs.Sound.{Chained, Good, onChains}
 use Rattle.lists.proofs.Occurrences.{length-concat-set, occurrences-append, occurrences-concat-set, occurrences-split}
 use Rattle.lists.proofs.Pages.{paged-le}
 
--- a good store's chains, and a store whose chains, hours and total are right
+-- a good store's chains, and a store whose chains and total are right
 pub good-chained : (m : Model) → Good m → Chained m
 unfolding page
 good-chained m g = record {
   limits = g .limits;
+  hours = g .hours;
   rows = g .rows;
   lengths = g .lengths;
   sums = λ p _. omega (arith, paged-le 64 (m .plain .counts) p, g .total);
@@ -27,10 +28,10 @@ good-chained m g = record {
   all = g .all;
 }
 
-pub chained-good : (m : Model) → Chained m → length (m .plain .counts) ≤ 64 * m .plain .pages → sum (m .plain .counts) ≤ maxTotal → Good m
-chained-good m g h t = record {
+pub chained-good : (m : Model) → Chained m → sum (m .plain .counts) ≤ maxTotal → Good m
+chained-good m g t = record {
   limits = g .limits;
-  hours = h;
+  hours = g .hours;
   total = t;
   rows = g .rows;
   lengths = g .lengths;
@@ -47,7 +48,7 @@ abbrev pub OffPage : List ℕ → List ℕ → ℕ → Type 0
 OffPage xs ys p = (q : ℕ) → (q ≡ p → ⊥) → page ys q ≡ page xs q
 
 module _ (m : Model) (ys : List ℕ) (p : ℕ) (g : Chained m) (o : OffPage (m .plain .counts) ys p) (lp : p < m .plain .pages)
-    (ls : sum (page ys p) ≤ maxTotal) (fits : cells (sum (page ys p)) ≤ length (getD (m .chains) p []) + length (m .spare)) where
+    (ly : length ys ≤ 64 * m .plain .pages) (ls : sum (page ys p) ≤ maxTotal) (fits : cells (sum (page ys p)) ≤ length (getD (m .chains) p []) + length (m .spare)) where
   abbrev old : List ℕ
   old = getD (m .chains) p []
 
@@ -76,6 +77,7 @@ module _ (m : Model) (ys : List ℕ) (p : ℕ) (g : Chained m) (o : OffPage (m .
   unfolding resize onChains
   page-chained = record {
     limits = g .limits;
+    hours = ly;
     rows = length-set (m .chains) p (take k J) ∙ g .rows;
     lengths = λ q lq. long-at q lq (ℕ-discrete q p);
     sums = λ q lq. sum-at q lq (ℕ-discrete q p);

@@ -23,7 +23,7 @@ use Rattle.store.proofs.Keep.{need-off}
 use Rattle.store.proofs.OnePage.{settled-off}
 use Rattle.store.proofs.PageChange.{ready, rewritten-bytes}
 use Rattle.store.proofs.ReadBack.{page-le}
-use Rattle.store.proofs.SoundFacts.{Facts, facts, sum-read}
+use Rattle.store.proofs.SoundFacts.{Facts, facts, sound-held, sum-read}
 use Rattle.store.proofs.Spread.{Spread, spread-of}
 
 -- a rise and a fall: 'one of the two is 0'
@@ -35,15 +35,15 @@ one-side a b = go (decLe a b)
     go (no l) = let e : b - a ≡ 0 = omega arith in rw e (omega arith)
 
 module _ (L : Plain) (ys : List ℕ) where
-  change-over : 4294967295 < sum ys → change L ys ≡ record { answer = refused 3; list = L }
+  pub change-over : 4294967295 < sum ys → change L ys ≡ record { answer = refused 3; list = L }
   unfolding change pick
   change-over a = rw (lt-ltb 4294967295 (sum ys) a)
 
-  change-short : sum ys ≤ 4294967295 → L .cells < need ys (L .pages) → change L ys ≡ record { answer = refused 12; list = L }
+  pub change-short : sum ys ≤ 4294967295 → L .cells < need ys (L .pages) → change L ys ≡ record { answer = refused 12; list = L }
   unfolding change pick
   change-short a b = rw (le-ltb 4294967295 (sum ys) a, lt-ltb (L .cells) (need ys (L .pages)) b)
 
-  change-done : sum ys ≤ 4294967295 → need ys (L .pages) ≤ L .cells
+  pub change-done : sum ys ≤ 4294967295 → need ys (L .pages) ≤ L .cells
       → change L ys ≡ record {
         answer = changed (need ys (L .pages) - need (L .counts) (L .pages))
             (need (L .counts) (L .pages) - need ys (L .pages));
@@ -69,7 +69,7 @@ pub of-page : {s : List ℕ} {i base e before old : ℕ} {H : Header} → Asked 
     → old ≡ cells before
     → OfPage s base (i / 64) before old
 of-page {s} {i} q hd eb e b c = record {
-  is-sound = q .is-sound;
+  held = sound-held s (q .is-sound);
   base-is = eb ∙ ap cellsFrom (hd .pages-is);
   inside = omega (arith, q .inside);
   sum-is = sum-read s (i / 64) _ _ e b;

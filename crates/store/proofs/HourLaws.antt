@@ -74,7 +74,7 @@ unfolding page
 page-hour xs i = getD-tabulate 64 (λ j. getD xs (64 * (i / 64) + j) 0) (i % 64) 0 (omega arith)
     ∙ ap (λ (z : ℕ). getD xs z 0) {x = 64 * (i / 64) + i % 64} {y = i} (omega arith)
 
-page-at : (xs : List ℕ) (p j : ℕ) → j < 64 → getD (page xs p) j 0 ≡ getD xs (64 * p + j) 0
+pub page-at : (xs : List ℕ) (p j : ℕ) → j < 64 → getD (page xs p) j 0 ≡ getD xs (64 * p + j) 0
 unfolding page
 page-at xs p j l = getD-tabulate 64 (λ j. getD xs (64 * p + j) 0) j 0 l
 

@@ -31,6 +31,7 @@ use Rattle.store.proofs.CheckPages.{PageGood}
 use Rattle.store.proofs.FreshLaws.{cell-in}
 use Rattle.store.proofs.Holds.{Holds}
 use Rattle.store.proofs.Joining.{chain-all, chain-head, chain-part, chain-tail}
+use Rattle.store.proofs.Chained.{good-chained}
 use Rattle.store.proofs.ReadBack.{code-in, page-is, spare-in}
 use Rattle.store.proofs.SoundFacts.{Facts, facts}
 use Rattle.store.proofs.Spread.{spread-of}
@@ -156,7 +157,7 @@ module _ (s : List ℕ) (e : sound s ≡ true) where
   unfolding read readFor page
   none-beyond p j l q k =
       let xs : List ℕ = listIn s in
-      ap (λ (z : List ℕ). getD z j 0) (page-is s (read s) (f .good) (f .holds) p l)
+      ap (λ (z : List ℕ). getD z j 0) (page-is s (read s) (good-chained (read s) (f .good)) (f .holds) p l)
       ∙ getD-tabulate 64 (λ j. getD xs (64 * p + j) 0) j 0 q
       ∙ List·getD-eq-default xs 0 (omega (arith, f .hours-are))
 
@@ -175,11 +176,11 @@ module _ (s : List ℕ) (e : sound s ≡ true) where
         edition = edition-is;
         gap = spread-of s m (g .rows) h .gap;
         page-chain = told .page-ends;
-        page-code = λ p l. code-in s m g h p l ∙ ap pageBytes (sym (page-is s m g h p l));
-        page-sum = λ p l. ap sum (page-is s m g h p l) ∙ sym (f .sums p l);
+        page-code = λ p l. code-in s m (good-chained m g) h p l ∙ ap pageBytes (sym (page-is s m (good-chained m g) h p l));
+        page-sum = λ p l. ap sum (page-is s m (good-chained m g) h p l) ∙ sym (f .sums p l);
         beyond = none-beyond;
         free-chain = told .free-ends;
-        free-clear = spare-in s m g h ∙ ap (λ (z : ℕ). replicate (30 * z) 0) (sym (f .free-is));
+        free-clear = spare-in s m (good-chained m g) h ∙ ap (λ (z : ℕ). replicate (30 * z) 0) (sym (f .free-is));
         hours = f .hours-fit;
         total = omega (arith, total-all s e, f .total-fits);
         once = told .once;

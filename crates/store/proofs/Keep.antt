@@ -50,5 +50,5 @@ keep m ys i g o li ly lt lc =
     let fits : cells (sum (page ys p)) ≤ length (getD (m .chains) p []) + length (m .spare) =
     omega (arith, need-off (m .plain .counts) ys i (m .plain .pages) o lp, spare-is m g, g .lengths p lp) in
     chained-good (resize m ys p (cells (sum (page ys p))))
-    (page-chained m ys p (good-chained m g) (λ q ne. page-off (m .plain .counts) ys i q o ne) lp (omega (arith, paged-le 64 ys p)) fits)
-    ly lt
+    (page-chained m ys p (good-chained m g) (λ q ne. page-off (m .plain .counts) ys i q o ne) lp ly (omega (arith, paged-le 64 ys p)) fits)
+    lt

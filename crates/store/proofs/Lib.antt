@@ -25,6 +25,7 @@ pub mod Filling
 pub mod Moved
 pub mod Zeros
 pub mod PageChange
+pub mod Relisting
 -- soundness: computed, as facts, and as the check finds it
 pub mod SoundLaws
 pub mod SoundFacts
@@ -35,16 +36,20 @@ pub mod PageLaws
 pub mod Verdict
 pub mod ItemLaws
 -- the plain list and the calls
+pub mod Inserting
 pub mod StepLaws
 pub mod DayLaws
 pub mod CallLaws
 pub mod Orders
 pub mod Refusals
+pub mod InsertLaws
 pub mod Unchanged
 pub mod Whole
 pub mod Examples
 -- what the live calls need
 pub mod HourLaws
+pub mod Repaged
+pub mod PageByPage
 pub mod ChangeLaws
 pub mod TotalLaws
 pub mod Sizes

@@ -17,7 +17,7 @@ use Rattle.store.specs.Settle.{pagewise, settled, shrunk, sizeTo, wanted
 use Rattle.store.proofs.Sized.{long, sized-other}
 
 -- a page that keeps its cells
-stays : (m : Model) (p k : ℕ) → k ≡ long m p → sizeTo p k m ≡ m
+pub stays : (m : Model) (p k : ℕ) → k ≡ long m p → sizeTo p k m ≡ m
 unfolding sizeTo
 stays m p k e =
     rw e

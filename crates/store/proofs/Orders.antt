@@ -25,6 +25,7 @@ use Rattle.store.proofs.Holds.{holds-bytes}
 use Rattle.store.proofs.Keep.{Off, need-off, spare-is}
 use Rattle.store.proofs.OneByOne.{in-order}
 use Rattle.store.proofs.OnePage.{settled-off}
+use Rattle.store.proofs.Chained.{good-chained}
 use Rattle.store.proofs.ReadBack.{read-is}
 use Rattle.store.proofs.SoundFacts.{facts}
 use Rattle.store.proofs.StepLaws.{Change, End, after-good, change-is, done, made, moved, not-done, over, said, short, step-end}
@@ -47,7 +48,7 @@ module _ (c : Call) (s : List ℕ) (r f : ℕ) (e : call c s .answer ≡ changed
   read-after =
       let g : Good (after c (read s)) = after-good c (read s) (facts s is-sound .good) in
       ap read (sym (sound-call c s is-sound .bytes))
-      ∙ read-is (bytesOf (after c (read s))) (after c (read s)) g (holds-bytes (after c (read s)) g)
+      ∙ read-is (bytesOf (after c (read s))) (after c (read s)) (good-chained (after c (read s)) g) (holds-bytes (after c (read s)) g)
 
 -- ---- any change
 by-cells : (m : Model) (r f : ℕ) {o : Outcome} → Good m → End (m .plain) o → o .answer ≡ changed r f

@@ -81,7 +81,7 @@ module _ (m : Model) (g : Chained m) where
 
   -- page p gets its counts of ys, and the cells that they need
   module _ (s : List ℕ) (h : Spread s m) (ys : List ℕ) (p : ℕ) (o : OffPage (m .plain .counts) ys p) (lp : p < m .plain .pages)
-      (ls : sum (page ys p) ≤ maxTotal) (enough : cells (sum (page ys p)) ≤ length (getD (m .chains) p []) + length (m .spare)) where
+      (ly : length ys ≤ 64 * m .plain .pages) (ls : sum (page ys p) ≤ maxTotal) (enough : cells (sum (page ys p)) ≤ length (getD (m .chains) p []) + length (m .spare)) where
     abbrev P : ℕ
     P = m .plain .pages
 
@@ -308,18 +308,18 @@ module _ (m : Model) (g : Chained m) where
     -- the bytes are those of the model after the step
     pub page-bytes : rewritten s (cellsFrom P) p k n code (sum (page ys p)) (length ys) ≡ bytesOf (resize m ys p n)
     page-bytes =
-        let g₂ : Chained (resize m ys p n) = page-chained m ys p g o lp ls enough in
+        let g₂ : Chained (resize m ys p n) = page-chained m ys p g o lp ly ls enough in
         sym final-is ∙ chained-only final (resize m ys p n) g₂ (spread-holds final (resize m ys p n) (g₂ .rows) spread-new)
 
     -- and what the code asks for holds
-    pub page-ready : length ys < 4294967296 → Ready s (cellsFrom P) p k n code (sum (page ys p)) (length ys)
-    page-ready ly = record {
+    pub page-ready : Ready s (cellsFrom P) p k n code (sum (page ys p)) (length ys)
+    page-ready = record {
       low = omega (arith, g .limits .pages-high);
       page = omega (arith, lp);
       size = omega (arith, size-le);
       long = rw (← lA) long;
       small = omega (arith, ls);
-      short = ly;
+      short = omega (arith, g .limits .pages-high);
       fits = omega (arith, spare-word, spare-fits m g, g .limits .cells-high, eight-old);
       own = mv .steps₀;
       both = rw (← lA) (mv .steps₁);
@@ -354,7 +354,7 @@ module _ (m : Model) (g : Good m) (s : List ℕ) (h : Spread s m) (ys : List ℕ
 
   pub rewritten-bytes : rewritten s (cellsFrom (m .plain .pages)) (i / 64) own new made (sum (page ys (i / 64))) (length ys)
       ≡ bytesOf (resize m ys (i / 64) new)
-  rewritten-bytes = page-bytes m (good-chained m g) s h ys (i / 64) off-page inside sum-fits cells-enough
+  rewritten-bytes = page-bytes m (good-chained m g) s h ys (i / 64) off-page inside ly sum-fits cells-enough
 
   pub ready : Ready s (cellsFrom (m .plain .pages)) (i / 64) own new made (sum (page ys (i / 64))) (length ys)
-  ready = page-ready m (good-chained m g) s h ys (i / 64) off-page inside sum-fits cells-enough (omega (arith, g .limits .pages-high))
+  ready = page-ready m (good-chained m g) s h ys (i / 64) off-page inside ly sum-fits cells-enough

@@ -1,4 +1,4 @@
--- What is read from bytes that hold a good list and chains is these. Assumes nothing.
+-- What is read from bytes that hold a list and its chains is these. Assumes nothing.
 use mathlib.Core.Path.{_≡_, refl, sym, ap, ap₂, _∙_}
 use mathlib.Core.List.{List, [], _∷_, _++_}
 use Prim.Native.Nat.{ℕ, suc, _+_, _-_, _*_, _≤_, _<_}
@@ -11,7 +11,7 @@ use Rattle.store.specs.Layout.{Model, cellAt, entry, header, lay, layAll
 use Rattle.store.specs.PageCode.{cells, pageBytes, pageCounts}
 use Rattle.store.specs.Plain.{page}
 use Rattle.store.specs.Reading.{cellsOf, chainFrom, chainIn, codeIn, hoursOf, pageIn, pagesOf, read, readFor, spareIn, sumIn}
-use Rattle.store.specs.Sound.{Good, onChains}
+use Rattle.store.specs.Sound.{Chained, onChains}
 use Rattle.lists.proofs.Occurrences.{occurrences-append, occurrences-getD-concat, one-same}
 use Rattle.lists.proofs.Pages.{paged-le, pages-back, pages-get}
 use Rattle.lists.proofs.Parts.{part-front, part-in}
@@ -74,7 +74,7 @@ code-is s base (c ∷ cs) code a =
     ∙ take-take 30 30 code (omega arith)) (code-is s base cs (drop 30 code) (a .1))
     ∙ sym (ap (λ (z : ℕ). take z code) e ∙ take-add 30 (30 * length cs) code)
 
-module _ (s : List ℕ) (m : Model) (g : Good m) (h : Holds s m) where
+module _ (s : List ℕ) (m : Model) (g : Chained m) (h : Holds s m) where
   on-low : (c : ℕ) → 1 ≤ occurrences c (onChains m) → c < 65536
   on-low c q = omega (arith, g .once c, g .limits .cells-high, cell-is (m .plain .cells) c (omega (arith, g .once c)))
 
@@ -130,7 +130,7 @@ module _ (s : List ℕ) (m : Model) (g : Good m) (h : Holds s m) where
   unfolding sumIn entry little
   sum-is p l =
       ap number (part-front s (entry m p) (entryAt p) 6 4 (h .entries p l) (omega arith))
-      ∙ number-four (sum (page (m .plain .counts) p)) (omega (arith, page-le (m .plain .counts) p, g .total))
+      ∙ number-four (sum (page (m .plain .counts) p)) (omega (arith, g .sums p l))
 
   pub chain-first : (p : ℕ) → p < m .plain .pages → numberAt s (entryAt p + 4) 2 ≡ first (getD (m .chains) p [])
   unfolding entry little

@@ -7,9 +7,9 @@ use Prim.Native.Nat.{ℕ, _*_}
 use native.Mathlib.Omega.{arith}
 use lib.ListN.{set}
 use Rattle.lists.specs.Lists.{pick}
-use Rattle.store.specs.Plain.{Append, Call, Count, Day, Free, Outcome, Plain, Reach, Reading, Set}
+use Rattle.store.specs.Plain.{Append, Call, Count, Day, Free, Insert, Outcome, Plain, Reach, Reading, Set, Strike}
 use Rattle.answers.specs.Store.{Answer, answered, changed, refused}
-use Rattle.store.specs.Plain.{change, need, refuse, step}
+use Rattle.store.specs.Plain.{change, inserted, need, refuse, step, struck}
 use Rattle.store.specs.Reading.{read}
 use Rattle.store.specs.Sound.{sound}
 use Rattle.store.specs.Call.{call}
@@ -40,6 +40,9 @@ step-plainly : (c : Call) (L : Plain) → Plainly (step c L .answer)
 unfolding step
 step-plainly (Append v) L = refused-or L _ 11 _ (λ e. omega arith) (change-plainly L (L .counts ++ v ∷ []))
 step-plainly (Set i v) L = refused-or L _ 7 _ (λ e. omega arith) (change-plainly L (set (L .counts) i v))
+step-plainly (Insert i v) L =
+    refused-or L _ 7 _ (λ e. omega arith) (refused-or L _ 11 _ (λ e. omega arith) (change-plainly L (inserted (L .counts) i v)))
+step-plainly (Strike i) L = refused-or L _ 7 _ (λ e. omega arith) (change-plainly L (struck (L .counts) i))
 step-plainly (Count i) L = refused-or L _ 7 _ (λ e. omega arith) refl
 step-plainly (Reading i) L = refused-or L _ 7 _ (λ e. omega arith) refl
 step-plainly (Reach p) L = refused-or L _ 8 _ (λ e. omega arith) refl

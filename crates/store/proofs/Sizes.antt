@@ -9,10 +9,10 @@ use Rattle.lists.specs.Lists.{pick, sum}
 use Rattle.lists.proofs.Reach.{reached-le}
 use Rattle.lists.proofs.Sums.{sum-take-le}
 use Rattle.store.specs.Limits.{fits, maxCells}
-use Rattle.store.specs.Plain.{Append, Call, Count, Day, Free, Outcome, Plain, Reach, Reading, Set}
+use Rattle.store.specs.Plain.{Append, Call, Count, Day, Free, Insert, Outcome, Plain, Reach, Reading, Set, Strike}
 use Rattle.answers.specs.Store.{Answer, answered, changed, refused}
 use Rattle.days.specs.Days.{dayEnd}
-use Rattle.store.specs.Plain.{change, need, refuse, step}
+use Rattle.store.specs.Plain.{change, inserted, need, refuse, step, struck}
 use Rattle.store.specs.Layout.{bytesOf, fresh}
 use Rattle.store.specs.Reading.{read}
 use Rattle.store.specs.Sound.{sound}
@@ -49,6 +49,9 @@ module _ (L : Plain) (few : L .cells ≤ maxCells) (hours : length (L .counts) �
   unfolding step
   step-small (Append v) = refused-or _ 11 _ (omega arith) (omega arith) (change-small (L .counts ++ v ∷ []))
   step-small (Set i v) = refused-or _ 7 _ (omega arith) (omega arith) (change-small (set (L .counts) i v))
+  step-small (Insert i v) =
+      refused-or _ 7 _ (omega arith) (omega arith) (refused-or _ 11 _ (omega arith) (omega arith) (change-small (inserted (L .counts) i v)))
+  step-small (Strike i) = refused-or _ 7 _ (omega arith) (omega arith) (change-small (struck (L .counts) i))
   step-small (Count i) = refused-or _ 7 _ (omega arith) (omega arith) (omega (arith, getD-le (L .counts) i))
   step-small (Reading i) = refused-or _ 7 _ (omega arith) (omega arith) (omega (arith, sum-take-le i (L .counts)))
   step-small (Reach p) = refused-or _ 8 _ (omega arith) (omega arith) (omega (arith, reached-le p (L .counts)))

@@ -11,10 +11,11 @@ use Rattle.store.specs.Limits.{maxCells, maxPages}
 use Rattle.store.specs.Plain.{need, page}
 use Rattle.store.specs.Layout.{Model, bytesOf, entryAt, size}
 use Rattle.store.specs.Reading.{cellsOf, hoursOf, listIn, pagesOf, read, readFor, sumIn}
-use Rattle.store.specs.Sound.{Good, sound}
-use Rattle.store.proofs.Holds.{Holds, holds-bytes}
+use Rattle.store.specs.Sound.{Chained, Good, Held, sound}
+use Rattle.store.proofs.Chained.{good-chained}
+use Rattle.store.proofs.Holds.{Holds, chained-bytes, holds-bytes}
 use Rattle.store.proofs.Keep.{spare-is}
-use Rattle.store.proofs.ReadBack.{hours-is, page-le, spare-count, sum-is}
+use Rattle.store.proofs.ReadBack.{hours-is, page-le, read-is, spare-count, sum-is}
 use Rattle.store.proofs.SoundLaws.{sound-good}
 
 -- the numbers of the header and of the entries
@@ -49,19 +50,57 @@ facts s e =
       same = sound-good s e .1;
       pages-are = refl;
       cells-are = refl;
-      free-is = spare-count s m g h;
-      hours-are = hours-is s m g h;
+      free-is = spare-count s m (good-chained m g) h;
+      hours-are = hours-is s m (good-chained m g) h;
       long = h .size;
       pages-low = g .limits .pages-low;
       pages-high = g .limits .pages-high;
       cells-low = g .limits .cells-low;
       cells-high = g .limits .cells-high;
-      hours-fit = omega (arith, hours-is s m g h, g .hours);
+      hours-fit = omega (arith, hours-is s m (good-chained m g) h, g .hours);
       total-fits = g .total;
-      free-and-need = omega (arith, spare-count s m g h, spare-is m g);
-      sums = sum-is s m g h;
-      sum-fits = λ p l. omega (arith, sum-is s m g h p l, page-le (m .plain .counts) p, g .total);
+      free-and-need = omega (arith, spare-count s m (good-chained m g) h, spare-is m g);
+      sums = sum-is s m (good-chained m g) h;
+      sum-fits = λ p l. omega (arith, sum-is s m (good-chained m g) h p l, page-le (m .plain .counts) p, g .total);
     }
+
+-- ---- bytes that hold chains, as those of a sound store do
+pub sound-held : (s : List ℕ) → sound s ≡ true → Held s
+sound-held s e = let f = facts s e in record { chained = good-chained (read s) (f .good); same = f .same }
+
+pub record HeldFacts (s : List ℕ) : Type 0 where
+  pub chained : Chained (read s)
+  pub holds : Holds s (read s)
+  pub pages-are : pagesOf s ≡ read s .plain .pages
+  pub cells-are : cellsOf s ≡ read s .plain .cells
+  pub free-is : numberAt s 8 2 ≡ length (read s .spare)
+  pub long : length s ≡ size (pagesOf s) (cellsOf s)
+  pub sums : (p : ℕ) → p < pagesOf s → sumIn s p ≡ sum (page (listIn s) p)
+  pub sum-fits : (p : ℕ) → p < pagesOf s → sumIn s p ≤ 4294967295
+
+pub held-facts : (s : List ℕ) → Held s → HeldFacts s
+unfolding read readFor
+held-facts s d =
+    let m : Model = read s in
+    let g : Chained m = d .chained in
+    let h : Holds s m = subst (λ (z : List ℕ). Holds z m) (sym (d .same)) (chained-bytes m g) in
+    record {
+      chained = g;
+      holds = h;
+      pages-are = refl;
+      cells-are = refl;
+      free-is = spare-count s m g h;
+      long = h .size;
+      sums = sum-is s m g h;
+      sum-fits = λ p l. omega (arith, sum-is s m g h p l, g .sums p l);
+    }
+
+-- a model's bytes, and what is read from them
+pub bytes-read : (m : Model) → Chained m → read (bytesOf m) ≡ m
+bytes-read m g = read-is (bytesOf m) m g (chained-bytes m g)
+
+pub bytes-held : (m : Model) → Chained m → Held (bytesOf m)
+bytes-held m g = let e = bytes-read m g in record { chained = subst Chained (sym e) g; same = ap bytesOf (sym e) }
 
 -- the sum that the code reads in page p's entry, at address e
 pub sum-read : (s : List ℕ) (p e r : ℕ) → e ≡ entryAt p → r ≡ numberAt s e 4 → r ≡ sumIn s p

@@ -19,6 +19,7 @@ use Rattle.lists.proofs.Occurrences.{one-other, one-same}
 use Rattle.lists.proofs.Tests.{same-tabulate, tabulate-same, left, right, both, each, every-of, same-is, same-refl}
 use Rattle.store.proofs.FreshLaws.{cell-high, cell-in, cell-is, cell-zero}
 use Rattle.store.proofs.Holds.{holds-bytes}
+use Rattle.store.proofs.Chained.{good-chained}
 use Rattle.store.proofs.ReadBack.{read-is}
 
 within-all : (C : ℕ) (xs : List ℕ) → ((c : ℕ) → 1 ≤ occurrences c xs → (1 ≤ c) × (c ≤ C)) → within C xs ≡ true
@@ -107,7 +108,7 @@ good-fine m g =
 pub sound-bytes : (m : Model) → Good m → sound (bytesOf m) ≡ true
 unfolding sound
 sound-bytes m g =
-    let e : read (bytesOf m) ≡ m = read-is (bytesOf m) m g (holds-bytes m g) in
+    let e : read (bytesOf m) ≡ m = read-is (bytesOf m) m (good-chained m g) (holds-bytes m g) in
     both (ap (fine) e ∙ good-fine m g) (ap (λ (z : Model). same (bytesOf m) (bytesOf z)) e ∙ same-refl (bytesOf m))
 
 pub fine-good : (m : Model) → fine m ≡ true → Good m

@@ -12,10 +12,11 @@ use Rattle.store.specs.Call.{after, settle}
 use Rattle.store.specs.Settle.{settled}
 use Rattle.store.specs.Layout.{Model}
 use Rattle.store.specs.PageCode.{cells}
-use Rattle.store.specs.Plain.{Append, Call, Count, Day, Free, Outcome, Plain, Reach, relisted}
+use Rattle.store.specs.Plain.{Append, Call, Count, Day, Free, Insert, Outcome, Plain, Reach, Strike, inserted, relisted, struck}
 use Rattle.answers.specs.Store.{Answer, answered, changed, refused}
 use Rattle.store.specs.Plain.{Reading, Set, change, need, next, step}
 use Rattle.store.specs.Sound.{Good}
+use Rattle.store.proofs.Inserting.{length-inserted, length-struck}
 use Rattle.store.proofs.SettledGood.{settled-good}
 
 -- 'the rise and the fall of need'
@@ -61,6 +62,15 @@ step-end (Append v) L h =
     let l : length (L .counts) < 64 * L .pages = leb-false _ _ e in
     change-end (omega (arith, length-append (L .counts) (v ∷ []))) (change-is L (L .counts ++ v ∷ [])))
 step-end (Set i v) L h = pick-end L _ _ _ (not-done 7) (λ e. change-end (omega (arith, length-set (L .counts) i v)) (change-is L (set (L .counts) i v)))
+step-end (Insert i v) L h =
+    pick-end L _ _ _ (not-done 7) (λ a. pick-end L _ _ _ (not-done 11) (λ b.
+    let li : i ≤ length (L .counts) = ltb-false _ _ a in
+    let l : length (L .counts) < 64 * L .pages = leb-false _ _ b in
+    change-end (omega (arith, length-inserted (L .counts) i v li)) (change-is L (inserted (L .counts) i v))))
+step-end (Strike i) L h =
+    pick-end L _ _ _ (not-done 7) (λ a.
+    let l : i < length (L .counts) = leb-false _ _ a in
+    change-end (omega (arith, length-struck (L .counts) i l)) (change-is L (struck (L .counts) i)))
 step-end (Count i) L h = pick-end L _ _ _ (not-done 7) (λ _. said _)
 step-end (Reading i) L h = pick-end L _ _ _ (not-done 7) (λ _. said _)
 step-end (Reach p) L h = pick-end L _ _ _ (not-done 8) (λ _. said _)
@@ -102,6 +112,8 @@ module _ (f : Plain → ℕ) (h : (L : Plain) (ys : List ℕ) → f (relisted L 
   unfolding next step
   next-keeps (Append v) L = pick-keeps _ _ _ (f L) f refl (change-keeps L _)
   next-keeps (Set i v) L = pick-keeps _ _ _ (f L) f refl (change-keeps L _)
+  next-keeps (Insert i v) L = pick-keeps _ _ _ (f L) f refl (pick-keeps _ _ _ (f L) f refl (change-keeps L _))
+  next-keeps (Strike i) L = pick-keeps _ _ _ (f L) f refl (change-keeps L _)
   next-keeps (Count i) L = pick-keeps _ _ _ (f L) f refl refl
   next-keeps (Reading i) L = pick-keeps _ _ _ (f L) f refl refl
   next-keeps (Reach p) L = pick-keeps _ _ _ (f L) f refl refl

@@ -32,6 +32,7 @@ use Rattle.store.proofs.Holds.{Holds, holds-bytes, holds-only, page-len
 use Rattle.store.proofs.Joining.{chain-all, chain-part}
 use Rattle.store.proofs.Keep.{spare-is}
 use Rattle.store.proofs.PageLaws.{code-filled, concat-range, list-length, page-back, quiet-page, sum-pages-le}
+use Rattle.store.proofs.Chained.{good-chained}
 use Rattle.store.proofs.ReadBack.{code-in, hours-is, page-is, spare-count, spare-in, sum-is}
 use Rattle.store.proofs.SoundLaws.{once-of, ones-same, same-ones, sound-bytes, sound-good}
 use Rattle.store.proofs.Spread.{Spread, part-two, spread-holds, spread-of}
@@ -284,11 +285,11 @@ module _ (s : List ℕ) (bytes : (i : ℕ) → getD s i 0 < 256) where
 
     hours-eq : N ≡ length xs
     unfolding xs
-    hours-eq = hours-is s (readFor s P) g h
+    hours-eq = hours-is s (readFor s P) (good-chained (readFor s P) g) h
 
     long-eq : length F ≡ numberAt s 8 2
     unfolding readFor spareIn
-    long-eq = sym (spare-count s (readFor s P) g h)
+    long-eq = sym (spare-count s (readFor s P) (good-chained (readFor s P) g) h)
 
     all-once : (d : ℕ) → occurrences d (concat chains ++ F) ≡ isCell C d
     unfolding readFor spareIn onChains
@@ -302,11 +303,11 @@ module _ (s : List ℕ) (bytes : (i : ℕ) → getD s i 0 < 256) where
 
     sum-eq : (p : ℕ) → p < P → sumIn s p ≡ sum (page xs p)
     unfolding readFor spareIn xs
-    sum-eq p l = sum-is s (readFor s P) g h p l
+    sum-eq p l = sum-is s (readFor s P) (good-chained (readFor s P) g) h p l
 
     page-eq : (p : ℕ) → p < P → pageIn s P p ≡ page xs p
     unfolding readFor spareIn xs
-    page-eq p l = page-is s (readFor s P) g h p l
+    page-eq p l = page-is s (readFor s P) (good-chained (readFor s P) g) h p l
 
     page-chain : (p : ℕ) → p < P → Chain C (chainIn s P p)
     page-chain p l = chain-sub (chainIn s P p) (λ d. omega (arith, occurrences-tabulate d P (chainIn s P) p l))
@@ -321,7 +322,7 @@ module _ (s : List ℕ) (bytes : (i : ℕ) → getD s i 0 < 256) where
             (
               eq-eqb _ _ (ap sum e ∙ sym (sum-eq p l)),
               (
-                same-eq _ _ (code-in s (readFor s P) g h p l ∙ ap pageBytes (sym e)),
+                same-eq _ _ (code-in s (readFor s P) (good-chained (readFor s P) g) h p l ∙ ap pageBytes (sym e)),
                 (same-eq _ _ (e ∙ quiet-page xs p ∙ ap₂ (λ (n : ℕ) (z : List ℕ). quiet n p z) (sym hours-eq) (sym e)), tt),
               ),
             ),
@@ -390,7 +391,7 @@ module _ (s : List ℕ) (bytes : (i : ℕ) → getD s i 0 < 256) where
 
     clear-is : codeIn s (cellsFrom P) F ≡ replicate (30 * numberAt s 8 2) 0
     unfolding readFor spareIn
-    clear-is = spare-in s (readFor s P) g h ∙ ap (λ (z : ℕ). replicate (30 * z) 0) long-eq
+    clear-is = spare-in s (readFor s P) (good-chained (readFor s P) g) h ∙ ap (λ (z : ℕ). replicate (30 * z) 0) long-eq
 
     end-ok : every (endTests s last-marks) ≡ true
     unfolding endTests

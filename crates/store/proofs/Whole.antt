@@ -17,13 +17,14 @@ use Rattle.store.specs.Sound.{Good}
 use Rattle.lists.proofs.Sums.{sum-most}
 use Rattle.store.proofs.Holds.{holds-bytes}
 use Rattle.store.proofs.PageCodeLaws.{cells-most}
+use Rattle.store.proofs.Chained.{good-chained}
 use Rattle.store.proofs.ReadBack.{page-le, read-is}
 use Rattle.store.proofs.SoundLaws.{sound-bytes}
 use Rattle.store.proofs.StepLaws.{Change, after-good, after-plain, change-is, done, over, short, next-cells, next-pages}
 
 pub call-good : (c : Call) (m : Model) → Good m → call c (bytesOf m) ≡ record { answer = step c (m .plain) .answer; bytes = bytesOf (after c m) }
 unfolding call pick
-call-good c m g = rw (sound-bytes m g, read-is (bytesOf m) m g (holds-bytes m g))
+call-good c m g = rw (sound-bytes m g, read-is (bytesOf m) m (good-chained m g) (holds-bytes m g))
 
 -- a list of calls leads to a good store, whose list and answers are the plain list's
 pub ends : (cs : List Call) (m : Model) → Good m

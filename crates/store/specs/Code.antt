@@ -1,6 +1,7 @@
--- What functions hand each other: the header that was read, links, the check's walk, the change of an hour. The functions stand here and in
+-- What functions hand each other: the header that was read, links, the check's walk, the change of an hour, of many pages. The functions stand here and in
 -- the crates above, the laws here.
 pub mod Heads
 pub mod Links
 pub mod Checked
 pub mod Hours
+pub mod Moving

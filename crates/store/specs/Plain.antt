@@ -1,8 +1,9 @@
--- Document 01, 'The plain list', with the day of document 02: its state, its calls, its refusals in order. It knows nothing of the store's bytes. Assumes nothing.
+-- Document 01, 'The plain list', with the day, insert and strike of document 02: its state, its calls, its refusals in order. It knows nothing
+-- of the store's bytes. Assumes nothing.
 use mathlib.Core.Bool.{not}
 use mathlib.Core.List.{List, [], _∷_, _++_}
-use Prim.Native.Nat.{ℕ, _+_, _-_, _*_}
-use lib.ListN.{length, getD, set}
+use Prim.Native.Nat.{ℕ, suc, _+_, _-_, _*_}
+use lib.ListN.{length, getD, take, drop, set}
 use lib.Dec.{leb, ltb}
 use Rattle.answers.specs.Refusals.{aboveTotal, cellsShort, changesWrong, logFull, notLogged, totalTooHigh}
 use Rattle.lists.specs.Lists.{tabulate, sum, pick, reading, reached}
@@ -19,6 +20,8 @@ pub record Plain : Type 0 where
 pub data Call : Type 0 where
   Append : ℕ → Call
   Set : ℕ → ℕ → Call
+  Insert : ℕ → ℕ → Call
+  Strike : ℕ → Call
   Count : ℕ → Call
   Reading : ℕ → Call
   Reach : ℕ → Call
@@ -51,7 +54,7 @@ unfoldable pub need : List ℕ → ℕ → ℕ
 need xs P = sum (tabulate P (λ p. cells (sum (page xs p))))
 
 -- '3 if the total would pass its limit, 12 if the new need is above C', else the list becomes ys. 'An accepted append or set answers the
--- rise and the fall of need'
+-- rise and the fall of need'; an insert or a strike 'the rise and the fall of the whole need'
 unfoldable pub change : Plain → List ℕ → Outcome
 change L ys =
     let old = need (L .counts) (L .pages) in
@@ -59,12 +62,24 @@ change L ys =
     pick (ltb 4294967295 (sum ys)) (refuse totalTooHigh L)
     (pick (ltb (L .cells) new) (refuse cellsShort L) (record { answer = changed (new - old) (old - new); list = relisted L ys }))
 
--- what each call answers, and the list afterwards: the refusals first, in document 01's order
+-- Document 02, note 5: 'insert v before hour i', 'strike hour i'
+unfoldable pub inserted : List ℕ → ℕ → ℕ → List ℕ
+inserted xs i v = take i xs ++ (v ∷ drop i xs)
+
+unfoldable pub struck : List ℕ → ℕ → List ℕ
+struck xs i = take i xs ++ drop (suc i) xs
+
+-- what each call answers, and the list afterwards: the refusals first, in the documents' order
 unfoldable pub step : Call → Plain → Outcome
 -- 'refused 11 if 64P hours are logged'
 step (Append v) L = pick (leb (64 * L .pages) (length (L .counts))) (refuse logFull L) (change L (L .counts ++ v ∷ []))
 -- '7 if i ≥ N'
 step (Set i v) L = pick (leb (length (L .counts)) i) (refuse notLogged L) (change L (set (L .counts) i v))
+-- 'insert v before hour i (i from 0 to N), and strike hour i (i below N)': 'Refusals 10, 7, 11, 3 and 12 apply in that order'
+step (Insert i v) L =
+    pick (ltb (length (L .counts)) i) (refuse notLogged L)
+    (pick (leb (64 * L .pages) (length (L .counts))) (refuse logFull L) (change L (inserted (L .counts) i v)))
+step (Strike i) L = pick (leb (length (L .counts)) i) (refuse notLogged L) (change L (struck (L .counts) i))
 step (Count i) L = pick (leb (length (L .counts)) i) (refuse notLogged L) (tell (getD (L .counts) i 0) L)
 -- '7 if i > N'
 step (Reading i) L = pick (ltb (length (L .counts)) i) (refuse notLogged L) (tell (reading (L .counts) i) L)

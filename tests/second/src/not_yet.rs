@@ -2,16 +2,6 @@
 //! would make them is compiled today. Nothing makes them before their feature
 //! is on.
 
-#[cfg(not(feature = "insert-strike"))]
-pub unsafe fn hourlog_insert(_: *mut u8, _: usize, _: u32, _: u32) -> i64 {
-    unreachable!()
-}
-
-#[cfg(not(feature = "insert-strike"))]
-pub unsafe fn hourlog_strike(_: *mut u8, _: usize, _: u32) -> i64 {
-    unreachable!()
-}
-
 #[cfg(not(feature = "match"))]
 pub unsafe fn hourlog_image_match(_: *const u8, _: usize, _: u64) -> i64 {
     unreachable!()

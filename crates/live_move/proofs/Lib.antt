@@ -1,0 +1,4 @@
+-- Laws of the crate.
+pub mod PassSteps
+pub mod CarrySteps
+pub mod EditSteps

@@ -1,0 +1,3 @@
+-- What the functions of src/ hand each other.
+pub mod Pass
+pub mod Carry
