@@ -171,6 +171,11 @@ module _ (s : List ℕ) where
   free-asks = asks Free refl
 
 module _ (s : List ℕ) (a : End) (t : List (List ℕ)) where
+  -- nor one of the list of changed days
+  pub day-list-asks : (d : ℕ) (changes : List ℕ) → Ends (Live (Day d changes) s) a t → t ≡ s ∷ changes ∷ []
+  unfolding row
+  day-list-asks d changes = demand-1 .question-keeps (Live (Day d changes) s) a t refl
+
   pub length-asks : (e : ℕ) → Ends (ImageLength s e) a t → t ≡ s ∷ []
   unfolding row
   length-asks e = demand-1 .question-keeps (ImageLength s e) a t refl
