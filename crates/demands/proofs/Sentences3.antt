@@ -14,7 +14,7 @@ use Rattle.reserve.specs.Reserve.{ceil, reserve}
 use Rattle.store.specs.Limits.{Fitting}
 use Rattle.store.specs.Call.{call, freshCall, storeAnswers, storeEnd}
 use Rattle.store.specs.PageCode.{cells}
-use Rattle.store.specs.Plain.{Append, Call, Free, Insert, Outcome, Plain, Reading, Set, Strike, inserted, need, next, plainAnswers, plainFresh, step, struck}
+use Rattle.store.specs.Plain.{Append, Call, Free, Insert, Plain, Reading, Set, Strike, inserted, need, next, plainAnswers, plainFresh, step, struck}
 use Rattle.answers.specs.Store.{Answer, answered, changed, refused}
 use Rattle.store.specs.Reading.{Runs, chainIn, codeIn, firstIn, read, readFor, spareIn, sumIn}
 use Rattle.store.proofs.CallLaws.{sound-call}

@@ -4,11 +4,9 @@ use mathlib.Core.List.{List}
 use Prim.Native.Nat.{ℕ, _+_, _-_, _*_, _≤_, _<_}
 use native.Mathlib.Omega.{arith}
 use lib.ListN.{length}
-use Rattle.lists.specs.Lists.{sum}
 use Rattle.answers.specs.Store.{changed, refused}
-use Rattle.bits.specs.Numbers.{numberAt}
-use Rattle.store.specs.Plain.{Outcome, Plain, change, need, relisted}
-use Rattle.store.specs.Layout.{Model, bytesOf, cellsFrom}
+use Rattle.store.specs.Plain.{Outcome, Plain, need}
+use Rattle.store.specs.Layout.{bytesOf, cellsFrom}
 use Rattle.store.specs.Reading.{cellsOf, listIn, pagesOf, read}
 use Rattle.store.specs.Call.{settle}
 use Rattle.store.specs.Code.Heads.{Heads}
@@ -17,7 +15,7 @@ use Rattle.store.proofs.ChangeLaws.{change-done, change-short}
 use Rattle.store.proofs.SoundFacts.{Facts, facts}
 use Rattle.move_plan.specs.declared.shift.Shift.{Shift}
 use Rattle.move_plan.specs.Code.Plan.{Counted, Leaves, Needs, Planned, shifted}
-use Rattle.live_move.specs.Code.Pass.{Enough, Settles}
+use Rattle.move_pages.specs.Code.Pass.{Enough, Settles}
 use Rattle.live_move.specs.Code.Carry.{Carried, shiftOf}
 
 module _ {s : List ℕ} {m : Shift} (h : Planned s m) where

@@ -5,7 +5,6 @@ use mathlib.Core.List.{List}
 use Prim.Native.Nat.{ℕ, _+_, _-_, _*_, _/_, _%_, _≤_, _<_}
 use native.Mathlib.Omega.{arith}
 use lib.ListN.{length}
-use lib.Dec.{leb, ltb}
 use borrow.Author.Tests.{le-leb, le-ltb, lt-leb, lt-ltb}
 use Rattle.lists.specs.Lists.{pick, sum}
 use Rattle.answers.specs.Store.{Answer, refused}
@@ -22,7 +21,7 @@ use Rattle.store.proofs.Inserting.{length-inserted, length-struck, sum-inserted
 use Rattle.store.proofs.SoundFacts.{Facts, facts}
 use Rattle.move_counts.specs.Code.Turned.{turned}
 use Rattle.move_plan.specs.declared.shift.Shift.{Shift}
-use Rattle.move_plan.specs.Code.Plan.{Leaves, Planned, comesTo, near, shifted}
+use Rattle.move_plan.specs.Code.Plan.{Planned, shifted}
 use Rattle.move_plan.proofs.Shifting.{insert-above, insert-below, insert-is, insert-moves, strike-above, strike-below, strike-is, strike-moves}
 use Rattle.live_move.specs.Code.Carry.{Carried, shiftOf}
 

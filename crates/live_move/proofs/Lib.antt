@@ -1,4 +1,3 @@
 -- Laws of the crate.
-pub mod PassSteps
 pub mod CarrySteps
 pub mod EditSteps

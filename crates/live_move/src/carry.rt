@@ -1,7 +1,7 @@
 // A shift carried out: looked up, sized up, and only then written.
-use crate::pass::move_all;
 use answers::refusal;
 use answers::store::Answer;
+use move_pages::move_all;
 use move_plan::cells::size_up;
 use move_plan::leaving::look_up;
 use move_plan::shift::Shift;

@@ -1,4 +1,3 @@
 // An hour inserted into the list of a sound store, or struck from it.
 mod carry;
 pub mod edit;
-mod pass;

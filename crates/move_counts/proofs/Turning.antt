@@ -1,8 +1,8 @@
 -- A page's counts when the hours behind one move by one place. Assumes nothing.
-use mathlib.Core.Path.{_≡_, refl, sym, ap, _∙_}
+use mathlib.Core.Path.{_≡_, sym, ap, _∙_}
 use mathlib.Core.Bool.{Bool, true, false}
 use mathlib.Core.List.{List, [], _∷_, _++_}
-use Prim.Native.Nat.{ℕ, zero, suc, _+_, _-_, _≤_, _<_}
+use Prim.Native.Nat.{ℕ, suc, _+_, _-_, _≤_, _<_}
 use native.Mathlib.Numerals.{add-one}
 use native.Mathlib.Omega.{arith}
 use native.Mathlib.Decide.{decLe, ℕ-discrete}
@@ -10,7 +10,7 @@ use lib.ListN.{List·getD-append, length, getD, set, take, length-append, length
 use lib.Seq.{ext-getD, getD-append-seam, getD-set-other, getD-set-same, getD-take, take-all, take-suc}
 use Rattle.lists.specs.Lists.{pick, sum}
 use Rattle.lists.proofs.Sums.{sum-snoc}
-use Rattle.store.specs.Plain.{inserted, struck}
+use Rattle.store.specs.Plain.{struck}
 use Rattle.store.proofs.Inserting.{inserted-at, inserted-before, inserted-behind, length-inserted, length-struck, struck-before, struck-behind, sum-inserted, sum-struck}
 use Rattle.move_counts.specs.Code.Turned.{leavesAt, pulled, pushed, turned}
 

@@ -1,5 +1,5 @@
 -- A page moved, in the numbers that the code has. Assumes nothing.
-use mathlib.Core.Path.{_≡_, refl, sym, ap, ap₂, _∙_}
+use mathlib.Core.Path.{_≡_, sym, ap, ap₂, _∙_}
 use mathlib.Core.List.{List, [], _++_}
 use Prim.Native.Nat.{ℕ, _+_, _-_, _*_, _≤_, _<_}
 use native.Mathlib.Omega.{arith}
@@ -10,7 +10,7 @@ use Rattle.store.specs.PageCode.{cells, pageBytes}
 use Rattle.store.specs.Plain.{page}
 use Rattle.store.specs.Layout.{Model, bytesOf, cellsFrom, entryAt, resize}
 use Rattle.store.specs.Limits.{maxTotal}
-use Rattle.store.specs.Reading.{listIn, pagesOf, read, sumIn}
+use Rattle.store.specs.Reading.{listIn, pagesOf, read}
 use Rattle.store.specs.Sound.{Chained}
 use Rattle.store.specs.Code.Hours.{OfPage}
 use Rattle.store.specs.Code.Links.{Ready, rewritten}

@@ -1,24 +1,23 @@
 -- The plan's loops, in the numbers that the code has. Assumes nothing.
-use mathlib.Core.Path.{_≡_, refl, sym, ap, ap₂, _∙_}
-use mathlib.Core.Bool.{true}
+use mathlib.Core.Path.{_≡_, ap, _∙_}
 use mathlib.Core.List.{List}
 use Prim.Native.Nat.{ℕ, zero, suc, _+_, _-_, _*_, _≤_, _<_}
 use native.Mathlib.Omega.{arith}
 use native.Mathlib.Decide.{ℕ-discrete}
 use lib.ListN.{length, getD, set}
 use lib.Seq.{getD-set-other, getD-set-same}
-use Rattle.lists.specs.Lists.{sum, tabulate}
+use Rattle.lists.specs.Lists.{sum}
 use Rattle.lists.proofs.Sums.{sum-most, sum-next}
 use Rattle.lists.proofs.Tables.{tabulate-ext}
 use Rattle.bits.specs.Numbers.{numberAt}
 use Rattle.store.specs.Layout.{cellsFrom, entryAt}
 use Rattle.store.specs.PageCode.{cells}
 use Rattle.store.specs.Plain.{need, page}
-use Rattle.store.specs.Reading.{listIn, pagesOf, read, sumIn}
+use Rattle.store.specs.Reading.{listIn, pagesOf}
 use Rattle.store.specs.Settle.{wanted}
 use Rattle.store.specs.Code.Hours.{OfPage}
 use Rattle.store.proofs.Holds.{page-length}
-use Rattle.store.proofs.HourLaws.{getD-le, tabulate-le}
+use Rattle.store.proofs.HourLaws.{getD-le}
 use Rattle.store.proofs.PageCodeLaws.{cells-most}
 use Rattle.store.proofs.ReadBack.{page-le}
 use Rattle.store.proofs.SoundFacts.{Facts, facts, sound-held, sum-read}

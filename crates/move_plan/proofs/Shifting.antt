@@ -1,20 +1,20 @@
 -- The pages of a list with an hour inserted or struck. Assumes nothing.
-use mathlib.Core.Path.{_≡_, refl, sym, ap, _∙_}
+use mathlib.Core.Path.{_≡_, sym, ap, _∙_}
 use mathlib.Core.Bool.{Bool, true, false}
 use mathlib.Core.List.{List}
-use Prim.Native.Nat.{ℕ, suc, _+_, _-_, _*_, _/_, _%_, _≤_, _<_}
+use Prim.Native.Nat.{ℕ, suc, _+_, _-_, _*_, _/_, _≤_, _<_}
 use native.Mathlib.Omega.{arith}
 use native.Mathlib.Decide.{decLe, ℕ-discrete}
 use lib.ListN.{List·getD-eq-default, length, getD}
 use borrow.Author.Tests.{eq-eqb, le-ltb, lt-ltb, ne-eqb}
-use Rattle.lists.specs.Lists.{pick, tabulate}
+use Rattle.lists.specs.Lists.{pick}
 use Rattle.lists.proofs.Tables.{tabulate-ext}
 use Rattle.store.specs.Plain.{inserted, page, struck}
 use Rattle.store.proofs.Holds.{page-length}
 use Rattle.store.proofs.HourLaws.{page-at}
 use Rattle.store.proofs.Inserting.{inserted-at, inserted-before, inserted-behind, length-inserted, length-struck, struck-before, struck-behind}
 use Rattle.store.proofs.Repaged.{beyond}
-use Rattle.move_counts.specs.Code.Turned.{leavesAt, pulled, pushed, turned}
+use Rattle.move_counts.specs.Code.Turned.{leavesAt, pulled, pushed}
 use Rattle.move_counts.proofs.Turning.{pulled-is, pushed-is}
 use Rattle.move_plan.specs.declared.shift.Shift.{Shift}
 use Rattle.move_plan.specs.Code.Plan.{Leaves, comesTo, leavesPage, near, shifted}

@@ -3,7 +3,7 @@ use move_counts::leaves_at;
 ghost use mathlib.Core.Path.{_≡_};
 ghost use Prim.Native.Nat.{_≤_, _<_};
 ghost use lib.ListN.{length};
-ghost use Rattle.move_plan.specs.Code.Plan.{Leaves, comesTo, leavesPage, near as nearOf};
+ghost use Rattle.move_plan.specs.Code.Plan.{comesTo, near as nearOf};
 
 // Whether the hour is struck or inserted, its page, its index in it, the count that is inserted, and the page behind the last that moves.
 pub struct Shift {

@@ -1,22 +1,21 @@
 -- Document 02, note 5: what insert and strike say of each other and of append, on the plain list and on bytes. Assumes nothing.
 use mathlib.Core.Path.{_≡_, refl, sym, ap, ap₂, _∙_}
 use mathlib.Core.Bool.{Bool, true, false}
-use mathlib.Core.List.{List, []}
-use mathlib.Core.Logic.{_↔_}
-use Prim.Native.Nat.{ℕ, _+_, _-_, _*_, _≤_, _<_}
+use mathlib.Core.List.{List}
+use Prim.Native.Nat.{ℕ, _-_, _*_, _≤_}
 use native.Mathlib.Omega.{arith}
-use lib.ListN.{length, getD}
+use lib.ListN.{length}
 use lib.Dec.{leb, ltb}
 use borrow.Author.Tests.{le-ltb, lt-leb, ltb-false}
 use Rattle.lists.specs.Lists.{pick, sum}
 use Rattle.answers.specs.Store.{Answer, changed, refused}
 use Rattle.store.specs.Limits.{maxTotal}
-use Rattle.store.specs.Plain.{Append, Call, Insert, Outcome, Plain, Strike, change, inserted, need, next, refuse, relisted, step, struck}
+use Rattle.store.specs.Plain.{Append, Insert, Outcome, Plain, Strike, change, inserted, need, next, refuse, relisted, step, struck}
 use Rattle.store.specs.Layout.{bytesOf}
 use Rattle.store.specs.Reading.{listIn, read}
 use Rattle.store.specs.Sound.{sound}
-use Rattle.store.specs.Call.{Result, after, call, settle}
-use Rattle.store.proofs.Inserting.{inserted-end, length-inserted, length-struck, struck-inserted, sum-inserted, sum-struck}
+use Rattle.store.specs.Call.{after, call, settle}
+use Rattle.store.proofs.Inserting.{inserted-end, length-inserted, struck-inserted, sum-struck}
 use Rattle.store.proofs.StepLaws.{Change, change-is, done, moved, over, short}
 
 -- ---- insert at N is append

@@ -1,20 +1,19 @@
 -- A change of many pages, page by page: between two of them the chains are right, and in the end the model is `settled`. Assumes nothing.
-use mathlib.Core.Path.{_≡_, refl, sym, ap, ap₂, subst, _∙_}
+use mathlib.Core.Path.{_≡_, refl, sym, ap, ap₂, _∙_}
 use mathlib.Core.Bool.{Bool, true, false}
-use mathlib.Core.List.{List, []}
+use mathlib.Core.List.{List}
 use mathlib.Core.Logic.{_⊎_, inl, inr}
 use Prim.Native.Nat.{ℕ, zero, suc, _+_, _*_, _≤_, _<_, min}
 use native.Mathlib.Omega.{arith}
 use native.Mathlib.Decide.{decLe, ℕ-discrete}
-use lib.ListN.{length, getD}
-use lib.Dec.{leb, ltb}
+use lib.ListN.{length}
 use borrow.Author.Tests.{le-leb, le-ltb, lt-leb, lt-ltb}
-use Rattle.lists.specs.Lists.{occurrences, pick, sum, tabulate}
+use Rattle.lists.specs.Lists.{occurrences, pick, sum}
 use Rattle.store.specs.Limits.{maxTotal}
 use Rattle.store.specs.PageCode.{cells}
 use Rattle.store.specs.Plain.{need, page, relisted}
 use Rattle.store.specs.Layout.{Model, bytesOf, resize}
-use Rattle.store.specs.OneCell.{chainOf, listed}
+use Rattle.store.specs.OneCell.{chainOf}
 use Rattle.store.specs.Settle.{pagewise, settled, shrunk, sizeTo, wanted, withList}
 use Rattle.store.specs.Sound.{Chained, Good, isCell, onChains}
 use Rattle.store.specs.Code.Links.{put}

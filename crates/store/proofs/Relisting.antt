@@ -1,23 +1,21 @@
 -- Another number of hours, the pages as they are. Assumes nothing.
 use mathlib.Core.Path.{_≡_, sym, ap, _∙_}
-use mathlib.Core.List.{List, [], _∷_}
+use mathlib.Core.List.{List, []}
 use Prim.Native.Nat.{ℕ, _+_, _*_, _≤_, _<_}
 use native.Mathlib.Omega.{arith}
 use lib.ListN.{length, getD}
 use Rattle.lists.specs.Lists.{concat, part, sum}
 use Rattle.bits.specs.Numbers.{little}
-use Rattle.store.specs.Limits.{maxTotal}
 use Rattle.store.specs.Layout.{Model, bytesOf, cellAt, cellsFrom, entryAt, header, size}
 use Rattle.store.specs.OneCell.{listed}
 use Rattle.store.specs.PageCode.{cells, pageBytes}
 use Rattle.store.specs.Plain.{page}
 use Rattle.store.specs.Sound.{Chained, onChains}
 use Rattle.store.specs.Code.Links.{put}
-use Rattle.store.proofs.Filling.{Filled}
 use Rattle.store.proofs.Holds.{chained-only}
 use Rattle.store.proofs.Moved.{filled-same, linked-same}
 use Rattle.store.proofs.Spread.{Spread, spread-holds}
-use Rattle.store.proofs.Writes.{Linked, put-length, put-off, put-same}
+use Rattle.store.proofs.Writes.{put-length, put-off, put-same}
 
 module _ (m : Model) (g : Chained m) (ys : List ℕ) (ly : length ys ≤ 64 * m .plain .pages)
     (same : (q : ℕ) → q < m .plain .pages → page ys q ≡ page (m .plain .counts) q) where

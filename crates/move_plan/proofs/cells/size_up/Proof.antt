@@ -1,11 +1,11 @@
 -- `move_plan::cells::size_up` meets its contract. The loop's invariant: the need of the pages that were passed. Assumes nothing.
-use mathlib.Core.Path.{_≡_, refl, sym, ap, _∙_}
-use Prim.Native.Nat.{ℕ, _+_, _-_, _*_, _≤_, _<_}
+use mathlib.Core.Path.{_≡_, refl, _∙_}
+use Prim.Native.Nat.{_+_, _-_, _*_, _≤_}
 use native.Mathlib.Omega.{arith}
-use lib.ListN.{length, getD, length-set}
+use lib.ListN.{length, length-set}
 use Rattle.store.specs.Plain.{need}
 use Rattle.store.specs.Reading.{listIn}
-use Rattle.move_plan.specs.Code.Plan.{Counted, Leaves, shifted}
+use Rattle.move_plan.specs.Code.Plan.{Counted, shifted}
 use Rattle.move_plan.proofs.PlanSteps.{after-fits, cells-asked, counted-next, entry-in, had-few, had-more, need-most}
 use Rattle.move_plan.proofs.PlanSteps.{needs-begin, needs-end, needs-more, out-low, pages-few, sum-fits}
 use borrow.Author.Needs.{needs}

@@ -1,5 +1,5 @@
 -- `move_plan::leaving::count_of` meets its contract. Assumes nothing.
-use mathlib.Core.Path.{_≡_, sym, ap, _∙_}
+use mathlib.Core.Path.{_∙_}
 use native.Mathlib.Omega.{arith}
 use Rattle.pages.proofs.Coding.{lies}
 use Rattle.store.specs.Plain.{page}

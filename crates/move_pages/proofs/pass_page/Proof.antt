@@ -1,11 +1,11 @@
--- `live_move::pass::pass_page` meets its contract. Assumes nothing.
+-- `move_pages::pass_page` meets its contract. Assumes nothing.
 use mathlib.Core.Path.{refl}
 use native.Mathlib.Omega.{arith}
 use borrow.Author.Tests.{not-false, not-true}
-use Rattle.live_move.proofs.PassSteps.{asked-low, coming-asks, due-at, due-no, due-yes, had-low, movable, moves-on, stays-at}
+use Rattle.move_pages.proofs.PassSteps.{asked-low, coming-asks, due-at, due-no, due-yes, had-low, movable, moves-on, stays-at}
 use borrow.Author.Needs.{needs}
-use Rattle.live_move.proofs.pass.pass_page.Statement.{statement}
-use Rattle.live_move.proofs.pass.pass_page.Tie as tie
+use Rattle.move_pages.proofs.pass_page.Statement.{statement}
+use Rattle.move_pages.proofs.pass_page.Tie as tie
 
 shared-slice-read-has : tie.Need-shared-slice-read-has
 shared-slice-read-has c = search needs

@@ -13,7 +13,7 @@ ghost use lib.ListN.{length};
 ghost use Rattle.lists.specs.Lists.{pick};
 ghost use Rattle.store.specs.Reading.{listIn};
 ghost use Rattle.move_plan.specs.Code.Plan.{shifted};
-ghost use Rattle.live_move.specs.Code.Pass.{Enough, Passes, Settles, Some, pagesIn};
+ghost use Rattle.move_pages.specs.Code.Pass.{Enough, Passes, Settles, Some, pagesIn};
 
 // Whether a page is to move in this pass, from the cells that it has and is to have.
 fn due(late: bool, old: usize, new: usize) -> bool
@@ -79,7 +79,7 @@ fn pass(
 }
 
 // Both passes. Meanwhile the header says that all the hours of all pages are logged, so that no page is cut off.
-pub(crate) fn move_all(
+pub fn move_all(
     s: &mut [u8],
     base: usize,
     m: Shift,

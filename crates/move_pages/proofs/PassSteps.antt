@@ -1,9 +1,9 @@
 -- A pass over the pages that move, in the numbers that the code has. Assumes nothing.
-use mathlib.Core.Path.{_≡_, refl, sym, ap, ap₂, subst, subst₂, _∙_}
+use mathlib.Core.Path.{_≡_, sym, ap, ap₂, subst, subst₂, _∙_}
 use mathlib.Core.Bool.{Bool, true, false}
-use mathlib.Core.List.{List, []}
-use mathlib.Core.Logic.{inl, inr}
-use Prim.Native.Nat.{ℕ, suc, _+_, _-_, _*_, _≤_, _<_}
+use mathlib.Core.List.{List}
+use mathlib.Core.Logic.{inl}
+use Prim.Native.Nat.{ℕ, _+_, _-_, _*_, _≤_, _<_}
 use native.Mathlib.Numerals.{add-one}
 use native.Mathlib.Omega.{arith}
 use lib.ListN.{length, getD}
@@ -12,11 +12,11 @@ use borrow.Author.Tests.{leb-false, leb-true, ltb-false, ltb-true}
 use Rattle.lists.specs.Lists.{pick, sum}
 use Rattle.bits.specs.Numbers.{numberAt}
 use Rattle.store.specs.PageCode.{cells}
-use Rattle.store.specs.Plain.{need, page, relisted}
+use Rattle.store.specs.Plain.{need, page}
 use Rattle.store.specs.Layout.{Model, bytesOf, cellsFrom, resize}
 use Rattle.store.specs.OneCell.{chainOf}
-use Rattle.store.specs.Reading.{cellsOf, listIn, pagesOf, read, readFor, sumIn}
-use Rattle.store.specs.Settle.{settled, wanted}
+use Rattle.store.specs.Reading.{listIn, pagesOf, read, sumIn}
+use Rattle.store.specs.Settle.{wanted}
 use Rattle.store.specs.Sound.{Chained, Good, Held}
 use Rattle.store.specs.Code.Links.{put}
 use Rattle.store.specs.Code.Moving.{moving, repaged}
@@ -32,7 +32,7 @@ use Rattle.move_plan.specs.declared.shift.Shift.{Shift}
 use Rattle.move_plan.specs.Code.Plan.{comesTo, near, shifted}
 use Rattle.move_plan.proofs.PlanSteps.{asked-few, had-few}
 use Rattle.move_plan.proofs.Shifting.{near-low}
-use Rattle.live_move.specs.Code.Pass.{Enough, Passes, Settles, Stands}
+use Rattle.move_pages.specs.Code.Pass.{Enough, Settles, Stands}
 
 -- the test of a page
 pub due-yes : (late : Bool) (old new : ℕ) {r : Bool} → r ≡ pick late (ltb old new) (leb new old) → r ≡ true → Due late old new

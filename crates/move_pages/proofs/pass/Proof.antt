@@ -1,14 +1,14 @@
--- `live_move::pass::pass` meets its contract. The loop's invariant: the pass has come to page p. Assumes nothing.
+-- `move_pages::pass` meets its contract. The loop's invariant: the pass has come to page p. Assumes nothing.
 use mathlib.Core.Path.{_≡_, refl, _∙_}
 use mathlib.Core.List.{List}
 use Prim.Native.Nat.{ℕ, _-_, _≤_}
 use native.Mathlib.Omega.{arith}
 use lib.ListN.{length}
-use Rattle.live_move.specs.Code.Pass.{Enough, Stands}
-use Rattle.live_move.proofs.PassSteps.{pass-begins, pass-ends, some-page}
+use Rattle.move_pages.specs.Code.Pass.{Enough, Stands}
+use Rattle.move_pages.proofs.PassSteps.{pass-begins, pass-ends, some-page}
 use borrow.Author.Needs.{needs}
-use Rattle.live_move.proofs.pass.pass.Statement.{statement}
-use Rattle.live_move.proofs.pass.pass.Tie as tie
+use Rattle.move_pages.proofs.pass.Statement.{statement}
+use Rattle.move_pages.proofs.pass.Tie as tie
 
 abbrev Inv-loop : tie.InvT-loop
 Inv-loop s₀ base m leaving old new hours late end p₀ s p =

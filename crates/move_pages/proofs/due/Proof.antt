@@ -1,7 +1,7 @@
--- `live_move::pass::due` meets its contract. Assumes nothing.
+-- `move_pages::due` meets its contract. Assumes nothing.
 use Rattle.lists.specs.Lists.{pick}
-use Rattle.live_move.proofs.pass.due.Statement.{statement}
-use Rattle.live_move.proofs.pass.due.Tie as tie
+use Rattle.move_pages.proofs.due.Statement.{statement}
+use Rattle.move_pages.proofs.due.Tie as tie
 
 returns : tie.Need-returns
 unfolding pick

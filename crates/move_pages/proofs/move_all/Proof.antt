@@ -1,9 +1,9 @@
--- `live_move::pass::move_all` meets its contract. Assumes nothing.
+-- `move_pages::move_all` meets its contract. Assumes nothing.
 use native.Mathlib.Omega.{arith}
-use Rattle.live_move.proofs.PassSteps.{all-begins, all-ends, all-turns, header-in}
+use Rattle.move_pages.proofs.PassSteps.{all-begins, all-ends, all-turns, header-in}
 use borrow.Author.Needs.{needs}
-use Rattle.live_move.proofs.pass.move_all.Statement.{statement}
-use Rattle.live_move.proofs.pass.move_all.Tie as tie
+use Rattle.move_pages.proofs.move_all.Statement.{statement}
+use Rattle.move_pages.proofs.move_all.Tie as tie
 
 put-four-requires : tie.Need-put-four-requires
 put-four-requires c κs = header-in (c .before .before .before .before .before .pre .0)
