@@ -182,6 +182,6 @@ check-among s j ks p a b = ⊎-elim (λ (e : j ≡ 5). rw e a) (λ (e : j ≡ 6)
 
 pub busiest-allowed : (s : List ℕ) (k : ℕ) (a : Stretch) → BusiestCall s k a → Allowed (row (ImageBusiest s k)) (ofStretch a)
 unfolding row occurrences one ofStretch
-busiest-allowed s k _ (not-accepted j p) = check-among s j (5 ∷ 6 ∷ 13 ∷ []) p (omega arith) (omega arith)
+busiest-allowed s k _ (not-accepted j p) = check-among s j (row (ImageBusiest s k) .refusals) p (omega arith) (omega arith)
 busiest-allowed s k _ (no-such-run a o) = omega arith
 busiest-allowed s k _ (the-run a l f t b) = refl
