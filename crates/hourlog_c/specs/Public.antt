@@ -13,9 +13,12 @@ use Rattle.image.specs.Calls.{lengthCall, writeCall}
 use Rattle.image.specs.Query.{count, reading}
 use Rattle.image.specs.Reach.{Reach}
 use Rattle.image_busiest.specs.Busiest.{BusiestCall}
+use Rattle.image_match.specs.Match.{MatchCall}
 use Rattle.freeze.specs.Freeze.{freezeCall}
 use Rattle.answers.specs.declared.image.Stretch.{Stretch}
 use Rattle.answers.specs.declared.image.Stretch.the-variants.{Run, Refused as NoStretch}
+use Rattle.answers.specs.declared.image.Bag.{Bag}
+use Rattle.answers.specs.declared.image.Bag.the-variants.{Run as BagRun, None, Refused as NoBag}
 
 -- a public call with its numbers and with the slices that it is lent; the live calls are seven
 pub data PublicCall : Type 0 where
@@ -29,6 +32,7 @@ pub data PublicCall : Type 0 where
   ImageReading : (image : List ℕ) (hour : ℕ) → PublicCall
   ImageReach : (image : List ℕ) (figure : ℕ) → PublicCall
   ImageBusiest : (image : List ℕ) (hours : ℕ) → PublicCall
+  ImageMatch : (image : List ℕ) (figure : ℕ) → PublicCall
 
 -- all that it is lent, to read or to change
 abbrev pub lent : PublicCall → List (List ℕ)
@@ -42,14 +46,17 @@ lent (ImageCount i k) = i ∷ []
 lent (ImageReading i k) = i ∷ []
 lent (ImageReach i p) = i ∷ []
 lent (ImageBusiest i k) = i ∷ []
+lent (ImageMatch i q) = i ∷ []
 
--- what a call ends in: the number asked for, the cells taken and given back, N and S, a run's first hour and its sum, or 'a refusal is its
--- number alone'
+-- what a call ends in: the number asked for, the cells taken and given back, N and S, a run's first hour and its sum, a run's first hour and
+-- its hours, no run, or 'a refusal is its number alone'
 pub data End : Type 0 where
   theNumber : ℕ → End
   theCells : (taken returned : ℕ) → End
   theSums : (hours total : ℕ) → End
   theRun : (first total : ℕ) → End
+  theHours : (first hours : ℕ) → End
+  noRun : End
   refusal : ℕ → End
 
 unfoldable pub ofStore : Answer → End
@@ -69,6 +76,11 @@ unfoldable pub ofStretch : Stretch → End
 ofStretch (Run f s) = theRun f s
 ofStretch (NoStretch k) = refusal k
 
+unfoldable pub ofBag : Bag → End
+ofBag (BagRun f n) = theHours f n
+ofBag None = noRun
+ofBag (NoBag k) = refusal k
+
 -- The call may end in the answer a, and what it was lent is afterwards t. Reach alone may end in one of several answers; a call on runs of
 -- hours has one, though its definition speaks of all runs and computes none
 abbrev pub Ends : PublicCall → End → List (List ℕ) → Type 0
@@ -82,6 +94,7 @@ Ends (ImageCount i k) a t = (a ≡ ofImage (count i k)) × (t ≡ i ∷ [])
 Ends (ImageReading i k) a t = (a ≡ ofImage (reading i k)) × (t ≡ i ∷ [])
 Ends (ImageReach i p) a t = ((r : Reply) × Reach i p r × (a ≡ ofImage r)) × (t ≡ i ∷ [])
 Ends (ImageBusiest i k) a t = ((r : Stretch) × BusiestCall i k r × (a ≡ ofStretch r)) × (t ≡ i ∷ [])
+Ends (ImageMatch i q) a t = ((r : Bag) × MatchCall i q r × (a ≡ ofBag r)) × (t ≡ i ∷ [])
 
 -- 'store, every other live call and freeze: 10, not sound', where a sound store is told clause by clause
 abbrev pub Ten : PublicCall → End → Type 0
@@ -95,3 +108,4 @@ Ten (ImageCount i k) a = Unit {0}
 Ten (ImageReading i k) a = Unit {0}
 Ten (ImageReach i p) a = Unit {0}
 Ten (ImageBusiest i k) a = Unit {0}
+Ten (ImageMatch i q) a = Unit {0}

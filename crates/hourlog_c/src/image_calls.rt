@@ -1,9 +1,10 @@
 // The frozen image, for C. Each contract states what every lent slice is afterwards, also of those that are lent to read only.
+use crate::word::of_bag;
 use crate::word::of_check;
 use crate::word::of_image;
 use crate::word::of_stretch;
 ghost use mathlib.Core.List.{[], _∷_};
-ghost use Rattle.hourlog_c.specs.Public.{Freeze, ImageBusiest, ImageCheck, ImageCount, ImageLength, ImageReach, ImageReading, ImageWrite};
+ghost use Rattle.hourlog_c.specs.Public.{Freeze, ImageBusiest, ImageCheck, ImageCount, ImageLength, ImageMatch, ImageReach, ImageReading, ImageWrite};
 ghost use Rattle.hourlog_c.specs.Export.{Answers};
 
 #[no_mangle]
@@ -60,4 +61,11 @@ pub extern "C" fn hourlog_image_busiest(image: &[u8], hours: u32) -> u64
     ensures { λ r. ⌜ Answers (ImageBusiest (now (image .entry)) hours) r (now (image .exit) ∷ []) ⌝ }
 {
     of_stretch(image_busiest::busiest(image, hours))
+}
+
+#[no_mangle]
+pub extern "C" fn hourlog_image_match(image: &[u8], figure: u64) -> u64
+    ensures { λ r. ⌜ Answers (ImageMatch (now (image .entry)) figure) r (now (image .exit) ∷ []) ⌝ }
+{
+    of_bag(image_match::matching(image, figure))
 }
