@@ -18,12 +18,13 @@ use Rattle.answers.specs.Image.{Reply, given, refused}
 use Rattle.image.proofs.CallLaws.{write-refused}
 use Rattle.freeze.specs.Freeze.{freezeCall}
 use Rattle.freeze.proofs.Freezing.{freeze-refused}
-use Rattle.hourlog_c.specs.Public.{End, Ends, Fresh, Freeze, ImageBusiest, ImageCheck, ImageCount, ImageLength, ImageReach, ImageReading, ImageWrite, Live}
-use Rattle.hourlog_c.specs.Public.{PublicCall, lent, ofImage, ofStore, ofStretch, refusal, theCells, theNumber, theRun, theSums}
+use Rattle.hourlog_c.specs.Public.{End, Ends, Fresh, Freeze, ImageBusiest, ImageCheck, ImageCount, ImageLength, ImageMatch, ImageReach, ImageReading, ImageWrite, Live}
+use Rattle.hourlog_c.specs.Public.{PublicCall, lent, noRun, ofBag, ofImage, ofStore, ofStretch, refusal, theCells, theHours, theNumber, theRun, theSums}
 use Rattle.hourlog_c.specs.ReadBack.{Reads}
 use Rattle.hourlog_c.proofs.RefusedTen.{image-refused, store-refused}
 use Rattle.image_busiest.proofs.AnswerLaws.{some-answer}
-use Rattle.demands.proofs.Refusals.{busiest-allowed, check-allowed, count-allowed, freeze-allowed, fresh-allowed, length-allowed, live-allowed, reach-allowed, reading-allowed, write-allowed}
+use Rattle.image_match.proofs.AnswerLaws.{some-answer as some-match}
+use Rattle.demands.proofs.Refusals.{busiest-allowed, check-allowed, count-allowed, freeze-allowed, fresh-allowed, length-allowed, live-allowed, match-allowed, reach-allowed, reading-allowed, write-allowed}
 use Rattle.demands.specs.Demand1.{Allowed, Demand1, Given, Refused, aNumber, cellsMoved, row}
 
 -- ---- all calls
@@ -38,6 +39,7 @@ allowed (ImageCount i k) a t d = subst (Allowed (row (ImageCount i k))) (sym (d 
 allowed (ImageReading i k) a t d = subst (Allowed (row (ImageReading i k))) (sym (d .0)) (reading-allowed i k)
 allowed (ImageReach i p) a t d = subst (Allowed (row (ImageReach i p))) (sym (d .0 .2)) (reach-allowed i p (d .0 .0) (d .0 .1))
 allowed (ImageBusiest i k) a t d = subst (Allowed (row (ImageBusiest i k))) (sym (d .0 .2)) (busiest-allowed i k (d .0 .0) (d .0 .1))
+allowed (ImageMatch i q) a t d = subst (Allowed (row (ImageMatch i q))) (sym (d .0 .2)) (match-allowed i q (d .0 .0) (d .0 .1))
 
 -- ---- there is an answer
 may-reach : (s : List ℕ) (p : ℕ) → (a : Reply) × Reach s p a
@@ -60,6 +62,7 @@ some (ImageCount i k) = (_, _, (refl, refl))
 some (ImageReading i k) = (_, _, (refl, refl))
 some (ImageReach i p) = let r = may-reach i p in (ofImage (r .0), i ∷ [], ((r .0, r .1, refl), refl))
 some (ImageBusiest i k) = let r = some-answer i k in (ofStretch (r .0), i ∷ [], ((r .0, r .1, refl), refl))
+some (ImageMatch i q) = let r = some-match i q in (ofBag (r .0), i ∷ [], ((r .0, r .1, refl), refl))
 
 -- ---- what stays
 keeps : (c : PublicCall) (k : ℕ) (t : List (List ℕ)) → Ends c (refusal k) t → t ≡ lent c
@@ -76,6 +79,7 @@ keeps (ImageCount i j) k t d = d .1
 keeps (ImageReading i j) k t d = d .1
 keeps (ImageReach i p) k t d = d .1
 keeps (ImageBusiest i n) k t d = d .1
+keeps (ImageMatch i q) k t d = d .1
 
 -- a live call that gives a number
 number-keeps : (c : Call) (s : List ℕ) → row (Live c s) .gives ≡ aNumber → call c s .bytes ≡ s
@@ -112,6 +116,7 @@ question-keeps (ImageCount i k) a t q d = d .1
 question-keeps (ImageReading i k) a t q d = d .1
 question-keeps (ImageReach i p) a t q d = d .1
 question-keeps (ImageBusiest i k) a t q d = d .1
+question-keeps (ImageMatch i p) a t q d = d .1
 
 -- ---- in words
 module _ (c : PublicCall) (w : ℕ) (t : List (List ℕ)) where
@@ -120,6 +125,8 @@ module _ (c : PublicCall) (w : ℕ) (t : List (List ℕ)) where
   is-below (theCells u v) d r l = absurd (omega (arith, r .0))
   is-below (theSums n s) d r l = absurd (omega (arith, r .0))
   is-below (theRun f s) d r l = absurd (omega (arith, r .0))
+  is-below (theHours f n) d r l = absurd (omega (arith, r .0))
+  is-below noRun d r l = absurd (omega (arith, r .0))
   is-below (refusal k) d r l =
       record { number = k; numbered = allowed c (refusal k) t d; minus = omega (arith, r .word, r .refusal); kept = keeps c k t d }
 
@@ -128,6 +135,8 @@ module _ (c : PublicCall) (w : ℕ) (t : List (List ℕ)) where
   is-above (theCells u v) d r l = record { result = theCells u v; kind = allowed c (theCells u v) t d; ends = d; reads = r }
   is-above (theSums n s) d r l = record { result = theSums n s; kind = allowed c (theSums n s) t d; ends = d; reads = r }
   is-above (theRun f s) d r l = record { result = theRun f s; kind = allowed c (theRun f s) t d; ends = d; reads = r }
+  is-above (theHours f n) d r l = record { result = theHours f n; kind = allowed c (theHours f n) t d; ends = d; reads = r }
+  is-above noRun d r l = record { result = noRun; kind = allowed c noRun t d; ends = d; reads = r }
   is-above (refusal k) d r l = absurd (omega (arith, r .sign))
 
 pub demand-1 : Demand1

@@ -28,11 +28,13 @@ use Rattle.image.specs.Reach.{Reach, above-total, any-index, damage, header-wro
 use Rattle.image.specs.Read.{listOf, nOf, sOf}
 use Rattle.freeze.specs.Freeze.{freezeCall}
 use Rattle.freeze.proofs.Freezing.{only-page-size}
+use Rattle.answers.specs.declared.image.Bag.{Bag}
 use Rattle.answers.specs.declared.image.Stretch.{Stretch}
 use Rattle.image_cursor.proofs.AccessLaws.{five-or-six}
 use Rattle.image_busiest.specs.Busiest.{BusiestCall, no-such-run, not-accepted, the-run}
-use Rattle.hourlog_c.specs.Public.{Fresh, Freeze, ImageBusiest, ImageCheck, ImageCount, ImageLength, ImageReach, ImageReading, ImageWrite, Live}
-use Rattle.hourlog_c.specs.Public.{ofCheck, ofImage, ofStore, ofStretch}
+use Rattle.image_match.specs.Match.{MatchCall, no-coins, none, not-accepted as no-image, the-run as the-hours}
+use Rattle.hourlog_c.specs.Public.{Fresh, Freeze, ImageBusiest, ImageCheck, ImageCount, ImageLength, ImageMatch, ImageReach, ImageReading, ImageWrite, Live}
+use Rattle.hourlog_c.specs.Public.{ofBag, ofCheck, ofImage, ofStore, ofStretch}
 use Rattle.demands.specs.Demand1.{Allowed, Among, Row, aNumber, cellsMoved, row}
 
 -- ---- the live calls
@@ -185,3 +187,10 @@ unfolding row occurrences one ofStretch
 busiest-allowed s k _ (not-accepted j p) = check-among s j (row (ImageBusiest s k) .refusals) p (omega arith) (omega arith)
 busiest-allowed s k _ (no-such-run a o) = omega arith
 busiest-allowed s k _ (the-run a l f t b) = refl
+
+pub match-allowed : (s : List ℕ) (q : ℕ) (a : Bag) → MatchCall s q a → Allowed (row (ImageMatch s q)) (ofBag a)
+unfolding row occurrences one ofBag
+match-allowed s q _ (no-image j p) = check-among s j (row (ImageMatch s q) .refusals) p (omega arith) (omega arith)
+match-allowed s q _ (no-coins a z) = omega arith
+match-allowed s q _ (the-hours a l f n m) = refl
+match-allowed s q _ (none a l m) = refl
