@@ -190,10 +190,13 @@ static void worked_chains()
 // A text for every number: each its own, and one for all that there are not.
 static void texts()
 {
-    const char *const unknown = hourlog_refusal_text(HOURLOG_REFUSED_STRETCH + 1);
+    const char *const unknown = hourlog_refusal_text(HOURLOG_REFUSED_BAG + 1);
     assert(hourlog_refusal_text(-1) == unknown);
     assert(std::strcmp(hourlog_refusal_text(0), "no refusal") == 0);
-    for (int k = 0; k <= HOURLOG_REFUSED_STRETCH; k++) {
+    for (int k = 0; k <= HOURLOG_REFUSED_BAG; k++) {
+        if (k > HOURLOG_REFUSED_STRETCH && k < HOURLOG_REFUSED_BAG) {
+            continue; // of calls that are still to come
+        }
         assert(hourlog_refusal_text(k) != unknown);
         for (int j = 0; j < k; j++) {
             assert(std::strcmp(hourlog_refusal_text(j), hourlog_refusal_text(k)) != 0);
@@ -217,6 +220,7 @@ static void null_with_length_0()
     assert(hourlog_image_reading(nullptr, 0, 0) == -HOURLOG_REFUSED_HEADER);
     assert(hourlog_image_reach(nullptr, 0, 0) == -HOURLOG_REFUSED_HEADER);
     assert(hourlog_image_busiest(nullptr, 0, 0) == -HOURLOG_REFUSED_HEADER);
+    assert(hourlog_image_match(nullptr, 0, 0) == -HOURLOG_REFUSED_HEADER);
 
     // The calls with two buffers, either of them NULL and both. An image of no hours is its header.
     std::vector<uint8_t> store(HOURLOG_STORE_LENGTH(1, 2));
@@ -236,7 +240,7 @@ static void null_with_length_0()
     }
 }
 
-// What a pair is taken apart into: the busiest two hours, first hour and sum.
+// What a pair is taken apart into: the busiest two hours, first hour and sum; a bag's first hour and hours.
 static void pairs_of_images()
 {
     const std::vector<uint32_t> counts{1, 0, HOURLOG_TOTAL_MAX - 9, 3, 5};
@@ -246,6 +250,11 @@ static void pairs_of_images()
     assert(hourlog_busiest_first(busiest) == 2 && hourlog_busiest_sum(busiest) == HOURLOG_TOTAL_MAX - 6);
     assert(hourlog_refusal(hourlog_image_busiest(image.data(), static_cast<size_t>(length), 6)) ==
            HOURLOG_REFUSED_STRETCH);
+    const int64_t bag = hourlog_image_match(image.data(), static_cast<size_t>(length), 8);
+    assert(hourlog_matched_first(bag) == 3 && hourlog_matched_hours(bag) == 2);
+    assert(hourlog_matched_hours(hourlog_image_match(image.data(), static_cast<size_t>(length), 7)) == 0);
+    assert(hourlog_refusal(hourlog_image_match(image.data(), static_cast<size_t>(length), 0)) ==
+           HOURLOG_REFUSED_BAG);
 }
 
 int main()

@@ -41,6 +41,7 @@ static int64_t check(void) { return hourlog_image_check(IMAGE); }
 static int64_t image_count(void) { return hourlog_image_count(IMAGE, LAST); }
 static int64_t image_reading(void) { return hourlog_image_reading(IMAGE, LAST); }
 static int64_t image_reach(void) { return hourlog_image_reach(IMAGE, 5000000); }
+static int64_t image_match(void) { return hourlog_image_match(IMAGE, 5000001); }
 static int64_t image_busiest(void) { return hourlog_image_busiest(IMAGE, 1000); }
 
 /* Freeze at every page size: which one takes most is not said anywhere. */
@@ -76,6 +77,7 @@ static const struct measured all[] = {
     {"image reading", image_reading, HOURLOG_STACK},
     {"image reach", image_reach, HOURLOG_STACK},
     {"image busiest", image_busiest, HOURLOG_STACK},
+    {"image match", image_match, HOURLOG_STACK},
     {"fresh", fresh, HOURLOG_STACK},
 };
 

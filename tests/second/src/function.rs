@@ -63,7 +63,6 @@ impl Function {
     pub const fn is_there(self) -> bool {
         match self {
             Function::Insert | Function::Strike => cfg!(feature = "insert-strike"),
-            Function::ImageMatch => cfg!(feature = "match"),
             Function::ImageFromBook | Function::ImageToBook => cfg!(feature = "books"),
             _ => true,
         }

@@ -21,8 +21,3 @@ pub unsafe fn hourlog_insert(_: *mut u8, _: usize, _: u32, _: u32) -> i64 {
 pub unsafe fn hourlog_strike(_: *mut u8, _: usize, _: u32) -> i64 {
     unreachable!()
 }
-
-#[cfg(not(feature = "match"))]
-pub unsafe fn hourlog_image_match(_: *const u8, _: usize, _: u64) -> i64 {
-    unreachable!()
-}

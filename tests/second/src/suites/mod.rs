@@ -34,7 +34,7 @@ static ALL: [Suite; 13] = [
     suite("named faults of images", image_faults::play),
     suite("named faults of stores", store_faults::play),
     suite("busiest stretches", stretches::play),
-    suite("bags", bags::play).if_there(Function::ImageMatch.is_there()),
+    suite("bags", bags::play),
     suite("books", books::play).if_there(Function::ImageToBook.is_there()),
     suite("days with a clock change", days::play).if_there(CHANGED_DAYS),
     suite("insert and strike", insert_strike::play).if_there(Function::Insert.is_there()),
