@@ -53,7 +53,7 @@
  * and checked in time that grows with its hours; its count and reading take the
  * same few hundred instructions whatever its length, reach about twice as many.
  * The busiest stretch takes about three times as long as check, a bag's match
- * three to five times.
+ * three to seven times.
  * Threads and interrupts: any number of calls may run at once, unless one of
  * them changes a buffer that another is lent.
  * Power: a call is not atomic.  Cut off within fresh, append or set, it may
