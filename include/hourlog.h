@@ -21,8 +21,8 @@
  * one that is good for a uint32_t.  The two buffers of one call must not overlap.
  *
  * A 64-bit value handed to a uint32_t parameter is cut to its low 32 bits by C,
- * before the library sees it: test it first (hourlog_image_reach alone takes a
- * uint64_t).
+ * before the library sees it: test it first (hourlog_image_reach and
+ * hourlog_image_match alone take a uint64_t).
  *
  * THE CLOCK
  *
@@ -63,7 +63,8 @@
  * costs as much again for each page from its hour on.  An image is written
  * and checked in time that grows with its hours; its count and reading take the
  * same few hundred instructions whatever its length, reach about twice as many.
- * The busiest stretch takes about three times as long as check.
+ * The busiest stretch takes about three times as long as check, a bag's match
+ * three to seven times.
  * Threads and interrupts: any number of calls may run at once, unless one of
  * them changes a buffer that another is lent.
  * Power: a call is not atomic.  Cut off within fresh, append, set, insert or
@@ -90,7 +91,7 @@ extern "C" {
 /* Of this header.  MAJOR rises where a call takes or answers something else
  * than before, MINOR where something is added.  For #if: 1000*MAJOR + MINOR. */
 #define HOURLOG_VERSION_MAJOR 2
-#define HOURLOG_VERSION_MINOR 1
+#define HOURLOG_VERSION_MINOR 2
 #define HOURLOG_VERSION (1000 * HOURLOG_VERSION_MAJOR + HOURLOG_VERSION_MINOR)
 
 /* Of the bytes: what byte 0 of a store, and of an image, says. */
@@ -182,9 +183,9 @@ typedef uint64_t hourlog_size;
  * hourlog_refusal(answer) with them, never the answer itself.
  *
  * What to do at one:
- *   1, 2, 4, 7, 8, 9, 13  The arguments do not fit: a matter for the program.  At 4
- *       the macros above say what length suffices, for freeze and for write;
- *       for write hourlog_image_length says the exact one.
+ *   1, 2, 4, 7, 8, 9, 13, 17  The arguments do not fit: a matter for the program.
+ *       At 4 the macros above say what length suffices, for freeze and for
+ *       write; for write hourlog_image_length says the exact one.
  *   16  The list of changes is none (see THE CLOCK): set it right.  The log is
  *       whole; with the empty list every day has 24 hours.
  *   3   Nobody pays that much: look at the coin counter.  The refused hour is
@@ -224,6 +225,7 @@ typedef uint64_t hourlog_size;
 #define HOURLOG_REFUSED_BOOK 14     /* book: odd length, or a digit above 9    */
 #define HOURLOG_REFUSED_DIGITS 15   /* image to book: a count above 9999       */
 #define HOURLOG_REFUSED_CHANGES 16  /* day: the list of changes is wrong       */
+#define HOURLOG_REFUSED_BAG 17      /* match: a bag of no coins                */
 
 /* 1 if the call was refused, else 0. */
 static inline int hourlog_is_refused(int64_t answer)
@@ -258,6 +260,7 @@ static inline const char *hourlog_refusal_text(int number)
     case HOURLOG_REFUSED_BOOK: return "book is not packed decimal";
     case HOURLOG_REFUSED_DIGITS: return "a count needs more than four digits";
     case HOURLOG_REFUSED_CHANGES: return "list of changed days is wrong";
+    case HOURLOG_REFUSED_BAG: return "bag holds no coins";
     default: return "unknown refusal";
     }
 }
@@ -444,6 +447,16 @@ int64_t hourlog_image_reach(const uint8_t *image, hourlog_size len, uint64_t fig
 HOURLOG_MUST_USE
 int64_t hourlog_image_busiest(const uint8_t *image, hourlog_size len, uint32_t hours);
 
+/* The hours of a bag that was found without its label: a run of successive hours,
+ * one at least, that hold exactly so many coins.  Of all such runs the one that
+ * starts first, and of those the shortest: so it may begin with hours of 0, and
+ * never ends with one.  Answers its first hour and how many hours it has as a
+ * pair (see hourlog_matched_first, hourlog_matched_hours), or 0 if there is no
+ * such run: a run has an hour.  It checks the whole image first.
+ * Refuses: 5, 6 as check does, 17 (figure is 0). */
+HOURLOG_MUST_USE
+int64_t hourlog_image_match(const uint8_t *image, hourlog_size len, uint64_t figure);
+
 /* ---- old credit books --------------------------------------------------- */
 
 /* Writes the image of a book, pages of 2^e counts, and answers its length in
@@ -483,6 +496,17 @@ static inline uint32_t hourlog_busiest_first(int64_t answer)
 static inline uint64_t hourlog_busiest_sum(int64_t answer)
 {
     return HOURLOG_AS(uint64_t, answer) & 0xFFFFFFFFFFu;
+}
+
+/* The first hour, and how many hours, of a bag's run; 0 hours if there is none. */
+static inline uint32_t hourlog_matched_first(int64_t answer)
+{
+    return HOURLOG_AS(uint32_t, HOURLOG_AS(uint64_t, answer) & 0xFFFFFFFFu);
+}
+
+static inline uint32_t hourlog_matched_hours(int64_t answer)
+{
+    return HOURLOG_AS(uint32_t, HOURLOG_AS(uint64_t, answer) >> 32);
 }
 
 #ifdef __cplusplus

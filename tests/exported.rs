@@ -38,7 +38,6 @@ extern "C" {
     pub fn hourlog_image_reading(image: *const u8, len: usize, hour: u32) -> i64;
     pub fn hourlog_image_reach(image: *const u8, len: usize, figure: u64) -> i64;
     pub fn hourlog_image_busiest(image: *const u8, len: usize, hours: u32) -> i64;
-    #[cfg(feature = "match")]
     pub fn hourlog_image_match(image: *const u8, len: usize, figure: u64) -> i64;
     pub fn hourlog_image_from_bcd(
         book: *const u8,

@@ -218,7 +218,8 @@ static void texts()
     const char *const unknown = hourlog_refusal_text(99);
     assert(hourlog_refusal_text(-1) == unknown);
     assert(std::strcmp(hourlog_refusal_text(0), "no refusal") == 0);
-    std::vector<int> numbers{HOURLOG_REFUSED_STRETCH, HOURLOG_REFUSED_BOOK, HOURLOG_REFUSED_DIGITS, HOURLOG_REFUSED_CHANGES};
+    std::vector<int> numbers{HOURLOG_REFUSED_STRETCH, HOURLOG_REFUSED_BOOK, HOURLOG_REFUSED_DIGITS, HOURLOG_REFUSED_CHANGES,
+                             HOURLOG_REFUSED_BAG};
     for (int k = 0; k <= HOURLOG_REFUSED_CELLS; k++) {
         numbers.push_back(k);
     }
@@ -248,6 +249,7 @@ static void null_with_length_0()
     assert(hourlog_image_reading(nullptr, 0, 0) == -HOURLOG_REFUSED_HEADER);
     assert(hourlog_image_reach(nullptr, 0, 0) == -HOURLOG_REFUSED_HEADER);
     assert(hourlog_image_busiest(nullptr, 0, 0) == -HOURLOG_REFUSED_HEADER);
+    assert(hourlog_image_match(nullptr, 0, 0) == -HOURLOG_REFUSED_HEADER);
     assert(hourlog_image_to_bcd(nullptr, 0, nullptr, 0) == -HOURLOG_REFUSED_HEADER);
 
     // The calls with two buffers, either of them NULL and both. An image of no hours is its header.
@@ -272,7 +274,7 @@ static void null_with_length_0()
     }
 }
 
-// What a pair is taken apart into: the busiest two hours, first hour and sum.
+// What a pair is taken apart into: the busiest two hours, first hour and sum; a bag's first hour and hours.
 static void pairs_of_images()
 {
     const std::vector<uint32_t> counts{1, 0, HOURLOG_TOTAL_MAX - 9, 3, 5};
@@ -282,6 +284,11 @@ static void pairs_of_images()
     assert(hourlog_busiest_first(busiest) == 2 && hourlog_busiest_sum(busiest) == HOURLOG_TOTAL_MAX - 6);
     assert(hourlog_refusal(hourlog_image_busiest(image.data(), static_cast<size_t>(length), 6)) ==
            HOURLOG_REFUSED_STRETCH);
+    const int64_t bag = hourlog_image_match(image.data(), static_cast<size_t>(length), 8);
+    assert(hourlog_matched_first(bag) == 3 && hourlog_matched_hours(bag) == 2);
+    assert(hourlog_matched_hours(hourlog_image_match(image.data(), static_cast<size_t>(length), 7)) == 0);
+    assert(hourlog_refusal(hourlog_image_match(image.data(), static_cast<size_t>(length), 0)) ==
+           HOURLOG_REFUSED_BAG);
 }
 
 int main()

@@ -45,6 +45,7 @@ static int64_t check(void) { return hourlog_image_check(IMAGE); }
 static int64_t image_count(void) { return hourlog_image_count(IMAGE, LAST); }
 static int64_t image_reading(void) { return hourlog_image_reading(IMAGE, LAST); }
 static int64_t image_reach(void) { return hourlog_image_reach(IMAGE, 5000000); }
+static int64_t image_match(void) { return hourlog_image_match(IMAGE, 5000001); }
 static int64_t image_busiest(void) { return hourlog_image_busiest(IMAGE, 1000); }
 static int64_t to_bcd(void) { return hourlog_image_to_bcd(IMAGE, book, sizeof book); }
 static int64_t from_bcd(void) { return hourlog_image_from_bcd(book, sizeof book, IMAGE_E, image, sizeof image); }
@@ -84,6 +85,7 @@ static const struct measured all[] = {
     {"image reading", image_reading, HOURLOG_STACK},
     {"image reach", image_reach, HOURLOG_STACK},
     {"image busiest", image_busiest, HOURLOG_STACK},
+    {"image match", image_match, HOURLOG_STACK},
     {"image to bcd", to_bcd, HOURLOG_STACK},
     {"image from bcd", from_bcd, HOURLOG_STACK},
     {"fresh", fresh, HOURLOG_STACK},

@@ -9,14 +9,7 @@ use rival::{books, image, moves, runs, store, Code, Fast, Straightforward};
 #[path = "../../tests/exported.rs"]
 mod exported;
 
-#[path = "../../tests/second/src/not_yet.rs"]
-mod not_yet;
-
-mod c {
-    pub use super::exported::*;
-    #[allow(unused_imports)]
-    pub use super::not_yet::*;
-}
+use exported as c;
 
 pub struct Contender {
     pub name: &'static str,

@@ -239,11 +239,15 @@ static void image_call(uint64_t length, uint32_t hours)
     const uint8_t *image = first.at;
     uint32_t hour = hour_of(hours);
     uint64_t figure = any();
-    switch (below(8)) {
+    switch (below(9)) {
     case 0: say("check", length, 0, 0, hourlog_image_check(image, length)); break;
     case 1: case 2: say("image count", length, hour, 0, hourlog_image_count(image, length, hour)); break;
     case 3: case 4: say("image reading", length, hour, 0, hourlog_image_reading(image, length, hour)); break;
     case 5: say("busiest", length, hour, 0, hourlog_image_busiest(image, length, hour)); break;
+    case 6:
+        figure = figure % 16 == 0 ? figure << 32 | hour : figure % 2 == 0 ? figure_at(hourlog_image_count(image, length, hour), 0) : figure;
+        say("match", length, (uint32_t)figure, (uint32_t)(figure >> 32), hourlog_image_match(image, length, figure));
+        break;
     default:
         figure = figure % 16 == 0 ? figure << 32 | hour : figure % 2 == 0 ? figure_at(hourlog_image_reading(image, length, hour), hour) : figure;
         say("image reach", length, (uint32_t)figure, (uint32_t)(figure >> 32), hourlog_image_reach(image, length, figure));

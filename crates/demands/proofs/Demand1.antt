@@ -19,17 +19,18 @@ use Rattle.image.proofs.CallLaws.{write-refused}
 use Rattle.freeze.specs.Freeze.{freezeCall}
 use Rattle.freeze.proofs.Freezing.{freeze-refused}
 use Rattle.image_busiest.proofs.AnswerLaws.{some-answer}
+use Rattle.image_match.proofs.AnswerLaws.{some-answer as some-match}
 use Rattle.book_in.specs.FromBook.{fromCall}
 use Rattle.book_in.proofs.FromLaws.{from-refused}
 use Rattle.book_out.specs.ToBook.{toCall}
 use Rattle.book_out.proofs.ToLaws.{to-refused}
-use Rattle.hourlog_c.specs.Public.{End, Ends, Fresh, Freeze, ImageBusiest, ImageCheck, ImageCount, ImageFromBcd, ImageLength, ImageReach, ImageReading}
+use Rattle.hourlog_c.specs.Public.{End, Ends, Fresh, Freeze, ImageBusiest, ImageCheck, ImageCount, ImageFromBcd, ImageLength, ImageMatch, ImageReach, ImageReading}
 use Rattle.hourlog_c.specs.Public.{ImageToBcd, ImageWrite, Live}
-use Rattle.hourlog_c.specs.Public.{PublicCall, beside, lent, ofImage, ofStore, ofStretch, refusal, theCells, theNumber, theRun, theSums}
+use Rattle.hourlog_c.specs.Public.{PublicCall, beside, lent, noRun, ofBag, ofImage, ofStore, ofStretch, refusal, theCells, theHours, theNumber, theRun, theSums}
 use Rattle.hourlog_c.specs.ReadBack.{Reads}
 use Rattle.hourlog_c.proofs.RefusedTen.{image-refused, store-refused}
-use Rattle.demands.proofs.Refusals.{busiest-allowed, check-allowed, count-allowed, freeze-allowed, fresh-allowed, from-allowed, length-allowed, live-allowed, reach-allowed}
-use Rattle.demands.proofs.Refusals.{reading-allowed, to-allowed, write-allowed}
+use Rattle.demands.proofs.Refusals.{busiest-allowed, check-allowed, count-allowed, freeze-allowed, fresh-allowed, from-allowed, length-allowed, live-allowed, match-allowed}
+use Rattle.demands.proofs.Refusals.{reach-allowed, reading-allowed, to-allowed, write-allowed}
 use Rattle.demands.specs.Demand1.{Allowed, Demand1, Given, Refused, aNumber, cellsMoved, row}
 
 -- ---- all calls
@@ -46,6 +47,7 @@ allowed (ImageReach i p) a t d = subst (Allowed (row (ImageReach i p))) (sym (d 
 allowed (ImageBusiest i k) a t d = subst (Allowed (row (ImageBusiest i k))) (sym (d .0 .2)) (busiest-allowed i k (d .0 .0) (d .0 .1))
 allowed (ImageFromBcd b e i) a t d = subst (Allowed (row (ImageFromBcd b e i))) (sym (d .0)) (from-allowed b e i)
 allowed (ImageToBcd i b) a t d = subst (Allowed (row (ImageToBcd i b))) (sym (d .0)) (to-allowed i b)
+allowed (ImageMatch i q) a t d = subst (Allowed (row (ImageMatch i q))) (sym (d .0 .2)) (match-allowed i q (d .0 .0) (d .0 .1))
 
 -- ---- there is an answer
 may-reach : (s : List ℕ) (p : ℕ) → (a : Reply) × Reach s p a
@@ -70,6 +72,7 @@ some (ImageReach i p) = let r = may-reach i p in (ofImage (r .0), i ∷ [], ((r 
 some (ImageBusiest i k) = let r = some-answer i k in (ofStretch (r .0), i ∷ [], ((r .0, r .1, refl), refl))
 some (ImageFromBcd b e i) = (_, _, (refl, refl))
 some (ImageToBcd i b) = (_, _, (refl, refl))
+some (ImageMatch i q) = let r = some-match i q in (ofBag (r .0), i ∷ [], ((r .0, r .1, refl), refl))
 
 -- ---- what stays
 keeps : (c : PublicCall) (k : ℕ) (t : List (List ℕ)) → Ends c (refusal k) t → t ≡ lent c
@@ -90,6 +93,7 @@ keeps (ImageFromBcd b e i) k t d =
     d .1 ∙ ap (λ (z : List ℕ). b ∷ z ∷ []) (from-refused e b i k (image-refused (fromCall e b i .reply) k .0 (sym (d .0))))
 keeps (ImageToBcd i b) k t d =
     d .1 ∙ ap (λ (z : List ℕ). i ∷ z ∷ []) (to-refused i b k (image-refused (toCall i b .reply) k .0 (sym (d .0))))
+keeps (ImageMatch i q) k t d = d .1
 
 -- a live call that gives a number
 number-keeps : (c : Call) (s : List ℕ) → row (Live c s) .gives ≡ aNumber → call c s .bytes ≡ s
@@ -130,6 +134,7 @@ question-keeps (ImageReach i p) a t q d = d .1
 question-keeps (ImageBusiest i k) a t q d = d .1
 question-keeps (ImageFromBcd b e i) a t q d = absurd (true≢false (sym q))
 question-keeps (ImageToBcd i b) a t q d = absurd (true≢false (sym q))
+question-keeps (ImageMatch i p) a t q d = d .1
 
 -- ---- in words
 module _ (c : PublicCall) (w : ℕ) (t : List (List ℕ)) where
@@ -138,6 +143,8 @@ module _ (c : PublicCall) (w : ℕ) (t : List (List ℕ)) where
   is-below (theCells u v) d r l = absurd (omega (arith, r .0))
   is-below (theSums n s) d r l = absurd (omega (arith, r .0))
   is-below (theRun f s) d r l = absurd (omega (arith, r .0))
+  is-below (theHours f n) d r l = absurd (omega (arith, r .0))
+  is-below noRun d r l = absurd (omega (arith, r .0))
   is-below (refusal k) d r l =
       record { number = k; numbered = allowed c (refusal k) t d; minus = omega (arith, r .word, r .refusal); kept = keeps c k t d }
 
@@ -146,6 +153,8 @@ module _ (c : PublicCall) (w : ℕ) (t : List (List ℕ)) where
   is-above (theCells u v) d r l = record { result = theCells u v; kind = allowed c (theCells u v) t d; ends = d; reads = r }
   is-above (theSums n s) d r l = record { result = theSums n s; kind = allowed c (theSums n s) t d; ends = d; reads = r }
   is-above (theRun f s) d r l = record { result = theRun f s; kind = allowed c (theRun f s) t d; ends = d; reads = r }
+  is-above (theHours f n) d r l = record { result = theHours f n; kind = allowed c (theHours f n) t d; ends = d; reads = r }
+  is-above noRun d r l = record { result = noRun; kind = allowed c noRun t d; ends = d; reads = r }
   is-above (refusal k) d r l = absurd (omega (arith, r .sign))
 
 pub demand-1 : Demand1

@@ -13,3 +13,4 @@ pub mod Samples
 pub mod Demand3
 pub mod Sentences3
 pub mod Note1
+pub mod Note7

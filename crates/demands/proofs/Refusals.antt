@@ -32,15 +32,17 @@ use Rattle.image.specs.Read.{listOf, nOf, sOf}
 use Rattle.freeze.specs.Freeze.{freezeCall}
 use Rattle.freeze.proofs.Freezing.{only-page-size}
 use Rattle.lists.proofs.Tests.{left, right}
+use Rattle.answers.specs.declared.image.Bag.{Bag}
 use Rattle.answers.specs.declared.image.Stretch.{Stretch}
 use Rattle.image_cursor.proofs.AccessLaws.{five-or-six}
 use Rattle.image_busiest.specs.Busiest.{BusiestCall, no-such-run, not-accepted, the-run}
+use Rattle.image_match.specs.Match.{MatchCall, no-coins, none, not-accepted as no-image, the-run as the-hours}
 use Rattle.book.specs.Book.{bookOf, decimal, fourDigits, listOfBook}
 use Rattle.book_in.specs.FromBook.{fromCall}
 use Rattle.book_in.proofs.FromLaws.{only-long}
 use Rattle.book_out.specs.ToBook.{past, putBook, toCall}
-use Rattle.hourlog_c.specs.Public.{Fresh, Freeze, ImageBusiest, ImageCheck, ImageCount, ImageFromBcd, ImageLength, ImageReach, ImageReading, ImageToBcd, ImageWrite, Live}
-use Rattle.hourlog_c.specs.Public.{ofCheck, ofImage, ofStore, ofStretch}
+use Rattle.hourlog_c.specs.Public.{Fresh, Freeze, ImageBusiest, ImageCheck, ImageCount, ImageFromBcd, ImageLength, ImageMatch, ImageReach, ImageReading, ImageToBcd, ImageWrite}
+use Rattle.hourlog_c.specs.Public.{Live, ofBag, ofCheck, ofImage, ofStore, ofStretch}
 use Rattle.demands.specs.Demand1.{Allowed, Among, Row, aNumber, cellsMoved, row}
 
 -- ---- the live calls
@@ -207,9 +209,16 @@ check-among s j ks p a b = ⊎-elim (λ (e : j ≡ 5). rw e a) (λ (e : j ≡ 6)
 
 pub busiest-allowed : (s : List ℕ) (k : ℕ) (a : Stretch) → BusiestCall s k a → Allowed (row (ImageBusiest s k)) (ofStretch a)
 unfolding row occurrences one ofStretch
-busiest-allowed s k _ (not-accepted j p) = check-among s j (5 ∷ 6 ∷ 13 ∷ []) p (omega arith) (omega arith)
+busiest-allowed s k _ (not-accepted j p) = check-among s j (row (ImageBusiest s k) .refusals) p (omega arith) (omega arith)
 busiest-allowed s k _ (no-such-run a o) = omega arith
 busiest-allowed s k _ (the-run a l f t b) = refl
+
+pub match-allowed : (s : List ℕ) (q : ℕ) (a : Bag) → MatchCall s q a → Allowed (row (ImageMatch s q)) (ofBag a)
+unfolding row occurrences one ofBag
+match-allowed s q _ (no-image j p) = check-among s j (row (ImageMatch s q) .refusals) p (omega arith) (omega arith)
+match-allowed s q _ (no-coins a z) = omega arith
+match-allowed s q _ (the-hours a l f n m) = refl
+match-allowed s q _ (none a l m) = refl
 
 -- ---- books
 pub from-allowed : (b : List ℕ) (e : ℕ) (out : List ℕ) → Allowed (row (ImageFromBcd b e out)) (ofImage (fromCall e b out .reply))

@@ -3,7 +3,7 @@
 use mathlib.Core.Path.{_≡_, refl, sym, ap, _∙_, subst}
 use mathlib.Core.Bool.{true}
 use mathlib.Core.List.{List, [], _∷_}
-use mathlib.Core.Logic.{_↔_, Iff·trans}
+use mathlib.Core.Logic.{_⊎_, inl, inr, ⊎-elim, _↔_, Iff·trans}
 use Prim.Native.Nat.{ℕ, _-_, _*_, _^_, _≤_, _<_}
 use native.Mathlib.Omega.{arith}
 use Rattle.store.specs.Plain.{Append, Call, Count, Day, Free, Insert, Reach as ReachOf, Reading, Set, Strike}
@@ -20,12 +20,15 @@ use Rattle.freeze.specs.Freeze.{freezeCall}
 use Rattle.answers.specs.declared.image.Stretch.{Stretch}
 use Rattle.answers.specs.declared.image.Stretch.the-variants.{Run, Refused as NoStretch}
 use Rattle.image_busiest.specs.Busiest.{BusiestCall}
-use Rattle.hourlog_c.specs.Public.{End, Ends, Fresh, Freeze, ImageBusiest, ImageCheck, ImageCount, ImageLength, ImageReach, ImageReading, ImageWrite, Live}
-use Rattle.hourlog_c.specs.Public.{PublicCall, beside, lent, ofCheck, ofImage, ofStore, ofStretch, refusal, theCells, theNumber, theRun, theSums}
-use Rattle.hourlog_c.specs.ReadBack.{Reads, busiestFirst, busiestSum, checkedHours, checkedTotal, returned, taken}
+use Rattle.answers.specs.declared.image.Bag.{Bag}
+use Rattle.answers.specs.declared.image.Bag.the-variants.{Run as BagRun, None, Refused as NoBag}
+use Rattle.image_match.specs.Match.{MatchCall}
+use Rattle.hourlog_c.specs.Public.{End, Ends, Fresh, Freeze, ImageBusiest, ImageCheck, ImageCount, ImageLength, ImageMatch, ImageReach, ImageReading, ImageWrite, Live}
+use Rattle.hourlog_c.specs.Public.{PublicCall, beside, lent, noRun, ofBag, ofCheck, ofImage, ofStore, ofStretch, refusal, theCells, theHours, theNumber, theRun, theSums}
+use Rattle.hourlog_c.specs.ReadBack.{Reads, busiestFirst, busiestSum, checkedHours, checkedTotal, matchedFirst, matchedHours, returned, taken}
 use Rattle.hourlog_c.specs.Export.{Answers}
 use Rattle.hourlog_c.proofs.RefusedTen.{image-refused, store-refused}
-use Rattle.demands.specs.Demand1.{Among, Gives, Given, Kind, aNumber, cellsMoved, firstAndSum, hoursAndTotal, row}
+use Rattle.demands.specs.Demand1.{Among, Gives, Given, Kind, aNumber, cellsMoved, firstAndSum, hoursAndTotal, hoursOrNone, row}
 use Rattle.demands.proofs.Demand1.{demand-1}
 use Rattle.demands.proofs.Slices.{same-second, same-slice}
 
@@ -145,6 +148,11 @@ module _ (s : List ℕ) (k : ℕ) where
   unfolding row ofStretch
   busiest-refused n q = demand-1 .allowed (ImageBusiest s n) (refusal k) (s ∷ []) ((NoStretch k, q, refl), refl)
 
+  -- note 7: 'It refuses with 17, after 5 and 6'
+  pub match-refused : (q : ℕ) → MatchCall s q (NoBag k) → Among k (5 ∷ 6 ∷ 17 ∷ [])
+  unfolding row ofBag
+  match-refused q m = demand-1 .allowed (ImageMatch s q) (refusal k) (s ∷ []) ((NoBag k, m, refl), refl)
+
 -- ---- a question changes no byte
 module _ (s : List ℕ) where
   asks : (c : Call) → row (Live c s) .question ≡ true → call c s .bytes ≡ s
@@ -200,6 +208,10 @@ module _ (s : List ℕ) (a : End) (t : List (List ℕ)) where
   unfolding row
   busiest-asks k = demand-1 .question-keeps (ImageBusiest s k) a t refl
 
+  pub match-asks : (q : ℕ) → Ends (ImageMatch s q) a t → t ≡ s ∷ []
+  unfolding row
+  match-asks q = demand-1 .question-keeps (ImageMatch s q) a t refl
+
 -- ---- what C gets. A word of 2^63 or above is minus one of the call's refusals, and then no lent byte changed
 pub minus-refusal : (c : PublicCall) (w : ℕ) (t : List (List ℕ)) → Answers c w t → 2 ^ 63 ≤ w → Among (2 ^ 64 - w) (row c .refusals) × (t ≡ lent c)
 minus-refusal c w t a l =
@@ -213,6 +225,8 @@ number-in g (theNumber n) w k r = ap theNumber (sym (r .1))
 number-in g (theCells u v) w k r = let z : _≡_ {A = ℕ} 0 1 = cc in absurd (omega arith)
 number-in g (theSums n s) w k r = let z : _≡_ {A = ℕ} 0 1 = cc in absurd (omega arith)
 number-in g (theRun f s) w k r = let z : _≡_ {A = ℕ} 0 1 = cc in absurd (omega arith)
+number-in g (theHours f n) w k r = let z : _≡_ {A = ℕ} 0 1 = cc in absurd (omega arith)
+number-in g noRun w k r = let z : _≡_ {A = ℕ} 0 1 = cc in absurd (omega arith)
 number-in g (refusal j) w k r = absurd k
 
 cells-in : {K : Kind} → K ≡ cellsMoved → (a : End) (w : ℕ) → Gives K a → Reads a w → a ≡ theCells (taken w) (returned w)
@@ -220,6 +234,8 @@ cells-in g (theNumber n) w k r = let z : _≡_ {A = ℕ} 0 1 = cc in absurd (ome
 cells-in g (theCells u v) w k r = let x = r .1 in let y = r .2 in cc
 cells-in g (theSums n s) w k r = let z : _≡_ {A = ℕ} 0 1 = cc in absurd (omega arith)
 cells-in g (theRun f s) w k r = let z : _≡_ {A = ℕ} 0 1 = cc in absurd (omega arith)
+cells-in g (theHours f n) w k r = let z : _≡_ {A = ℕ} 0 1 = cc in absurd (omega arith)
+cells-in g noRun w k r = let z : _≡_ {A = ℕ} 0 1 = cc in absurd (omega arith)
 cells-in g (refusal j) w k r = absurd k
 
 sums-in : {K : Kind} → K ≡ hoursAndTotal → (a : End) (w : ℕ) → Gives K a → Reads a w → a ≡ theSums (checkedHours w) (checkedTotal w)
@@ -227,6 +243,8 @@ sums-in g (theNumber n) w k r = let z : _≡_ {A = ℕ} 0 1 = cc in absurd (omeg
 sums-in g (theCells u v) w k r = let z : _≡_ {A = ℕ} 0 1 = cc in absurd (omega arith)
 sums-in g (theSums n s) w k r = let x = r .1 in let y = r .2 in cc
 sums-in g (theRun f s) w k r = let z : _≡_ {A = ℕ} 0 1 = cc in absurd (omega arith)
+sums-in g (theHours f n) w k r = let z : _≡_ {A = ℕ} 0 1 = cc in absurd (omega arith)
+sums-in g noRun w k r = let z : _≡_ {A = ℕ} 0 1 = cc in absurd (omega arith)
 sums-in g (refusal j) w k r = absurd k
 
 run-in : {K : Kind} → K ≡ firstAndSum → (a : End) (w : ℕ) → Gives K a → Reads a w → a ≡ theRun (busiestFirst w) (busiestSum w)
@@ -234,7 +252,20 @@ run-in g (theNumber n) w k r = let z : _≡_ {A = ℕ} 0 1 = cc in absurd (omega
 run-in g (theCells u v) w k r = let z : _≡_ {A = ℕ} 0 1 = cc in absurd (omega arith)
 run-in g (theSums n s) w k r = let z : _≡_ {A = ℕ} 0 1 = cc in absurd (omega arith)
 run-in g (theRun f s) w k r = let x = r .1 in let y = r .2 in cc
+run-in g (theHours f n) w k r = let z : _≡_ {A = ℕ} 0 1 = cc in absurd (omega arith)
+run-in g noRun w k r = let z : _≡_ {A = ℕ} 0 1 = cc in absurd (omega arith)
 run-in g (refusal j) w k r = absurd k
+
+-- hours that are some are a run's, none say that there is none
+bag-in : {K : Kind} → K ≡ hoursOrNone → (a : End) (w : ℕ) → Gives K a → Reads a w
+    → ((a ≡ theHours (matchedFirst w) (matchedHours w)) × (1 ≤ matchedHours w)) ⊎ ((a ≡ noRun) × (matchedHours w ≡ 0))
+bag-in g (theNumber n) w k r = let z : _≡_ {A = ℕ} 0 1 = cc in absurd (omega arith)
+bag-in g (theCells u v) w k r = let z : _≡_ {A = ℕ} 0 1 = cc in absurd (omega arith)
+bag-in g (theSums n s) w k r = let z : _≡_ {A = ℕ} 0 1 = cc in absurd (omega arith)
+bag-in g (theRun f s) w k r = let z : _≡_ {A = ℕ} 0 1 = cc in absurd (omega arith)
+bag-in g (theHours f n) w k r = let x = r .1 in let y = r .2 in inl (cc, omega (arith, r .2, r .3))
+bag-in g noRun w k r = inr (refl, omega (arith, r .1))
+bag-in g (refusal j) w k r = absurd k
 
 store-number : (a : Answer) (n : ℕ) → theNumber n ≡ ofStore a → a ≡ answered n
 unfolding ofStore
@@ -262,6 +293,18 @@ stretch-run : (a : Stretch) (f s : ℕ) → theRun f s ≡ ofStretch a → a ≡
 unfolding ofStretch
 stretch-run (Run g u) f s e = cc
 stretch-run (NoStretch k) f s e = cc
+
+bag-run : (a : Bag) (f n : ℕ) → theHours f n ≡ ofBag a → a ≡ BagRun f n
+unfolding ofBag
+bag-run (BagRun g m) f n e = cc
+bag-run None f n e = cc
+bag-run (NoBag k) f n e = cc
+
+bag-none : (a : Bag) → noRun ≡ ofBag a → a ≡ None
+unfolding ofBag
+bag-none (BagRun g m) e = cc
+bag-none None e = cc
+bag-none (NoBag k) e = cc
 
 -- the word w is no refusal, and t is what was lent, afterwards
 module _ (w : ℕ) (l : w < 2 ^ 63) (t : List (List ℕ)) where
@@ -381,6 +424,24 @@ module _ (w : ℕ) (l : w < 2 ^ 63) (t : List (List ℕ)) where
       (stretch-run (G .ends .0 .0) (busiestFirst w) (busiestSum w) (sym (run-in refl (G .result) w (G .kind) (G .reads)) ∙ G .ends .0 .2))
       (G .ends .0 .1)
 
+  -- note 7: a run with its hours, or none
+  match-given : (s : List ℕ) (q : ℕ) → Answers (ImageMatch s q) w t
+      → (MatchCall s q (BagRun (matchedFirst w) (matchedHours w)) × (1 ≤ matchedHours w)) ⊎ (MatchCall s q None × (matchedHours w ≡ 0))
+  unfolding row
+  match-given s q a =
+      let G : Given (ImageMatch s q) w t = demand-1 .above (ImageMatch s q) w t a l in
+      let d = G .ends .0 in
+      ⊎-elim
+      (λ x. inl (subst (MatchCall s q) (bag-run (d .0) (matchedFirst w) (matchedHours w) (sym (x .0) ∙ d .2)) (d .1), x .1))
+      (λ x. inr (subst (MatchCall s q) (bag-none (d .0) (sym (x .0) ∙ d .2)) (d .1), x .1))
+      (bag-in refl (G .result) w (G .kind) (G .reads))
+
+  pub match-word : (s : List ℕ) (q : ℕ) → Answers (ImageMatch s q) w t → 1 ≤ matchedHours w → MatchCall s q (BagRun (matchedFirst w) (matchedHours w))
+  match-word s q a h = ⊎-elim (λ x. x .0) (λ x. absurd (omega (arith, x .1))) (match-given s q a)
+
+  pub none-word : (s : List ℕ) (q : ℕ) → Answers (ImageMatch s q) w t → matchedHours w ≡ 0 → MatchCall s q None
+  none-word s q a h = ⊎-elim (λ x. absurd (omega (arith, x .1))) (λ x. x .0) (match-given s q a)
+
 -- ---- 'store, every other live call and freeze: 10, not sound', soundness being told clause by clause: from the exports' promise itself
 no-minus : (w k : ℕ) → k ≤ 20 → w < 2 ^ 63 → w ≡ 2 ^ 64 - k → ⊥
 no-minus w k h l e = omega arith
@@ -391,6 +452,8 @@ minus-in k g h (theNumber n) w r = (λ q. absurd (no-minus w k h (r .0) q), λ q
 minus-in k g h (theCells u v) w r = (λ q. absurd (no-minus w k h (r .0) q), λ q. let z : _≡_ {A = ℕ} 0 1 = cc in absurd (omega arith))
 minus-in k g h (theSums n s) w r = (λ q. absurd (no-minus w k h (r .0) q), λ q. let z : _≡_ {A = ℕ} 0 1 = cc in absurd (omega arith))
 minus-in k g h (theRun f s) w r = (λ q. absurd (no-minus w k h (r .0) q), λ q. let z : _≡_ {A = ℕ} 0 1 = cc in absurd (omega arith))
+minus-in k g h (theHours f n) w r = (λ q. absurd (no-minus w k h (r .0) q), λ q. let z : _≡_ {A = ℕ} 0 1 = cc in absurd (omega arith))
+minus-in k g h noRun w r = (λ q. absurd (no-minus w k h (r .0) q), λ q. let z : _≡_ {A = ℕ} 0 1 = cc in absurd (omega arith))
 minus-in k g h (refusal j) w r = (
   λ (q : w ≡ 2 ^ 64 - k). ap refusal (omega (arith, r .refusal)),
   λ q. let z : j ≡ k = cc in omega (arith, r .word, r .refusal),

@@ -6,24 +6,28 @@ use mathlib.Core.Path.{_≡_}
 use Prim.Native.Nat.{ℕ, _+_, _^_, _≤_, _<_}
 use Rattle.lists.specs.Lists.{occurrences}
 use Rattle.store.specs.Plain.{Append, Count, Day, Free, Insert, Reach, Reading, Set, Strike}
-use Rattle.hourlog_c.specs.Public.{End, Ends, Fresh, Freeze, ImageBusiest, ImageCheck, ImageCount, ImageFromBcd, ImageLength, ImageReach, ImageReading}
+use Rattle.hourlog_c.specs.Public.{End, Ends, Fresh, Freeze, ImageBusiest, ImageCheck, ImageCount, ImageFromBcd, ImageLength, ImageMatch, ImageReach, ImageReading}
 use Rattle.hourlog_c.specs.Public.{ImageToBcd, ImageWrite, Live}
-use Rattle.hourlog_c.specs.Public.{PublicCall, lent, refusal, theCells, theNumber, theRun, theSums}
+use Rattle.hourlog_c.specs.Public.{PublicCall, lent, noRun, refusal, theCells, theHours, theNumber, theRun, theSums}
 use Rattle.hourlog_c.specs.ReadBack.{Reads}
 use Rattle.hourlog_c.specs.Export.{Answers}
 
--- what a call gives that is not refused: a number, the cells taken and given back, N and S, a run's first hour and its sum
+-- what a call gives that is not refused: a number, the cells taken and given back, N and S, a run's first hour and its sum, a
+-- run's first hour and its hours or that there is none
 pub data Kind : Type 0 where
   aNumber : Kind
   cellsMoved : Kind
   hoursAndTotal : Kind
   firstAndSum : Kind
+  hoursOrNone : Kind
 
 abbrev pub Gives : Kind → End → Type 0
 Gives k (theNumber n) = k ≡ aNumber
 Gives k (theCells t r) = k ≡ cellsMoved
 Gives k (theSums n s) = k ≡ hoursAndTotal
 Gives k (theRun f s) = k ≡ firstAndSum
+Gives k (theHours f n) = k ≡ hoursOrNone
+Gives k noRun = k ≡ hoursOrNone
 Gives k (refusal j) = ⊥
 
 -- A call's row of the table 'Where a call is turned down', or what its note in document 02 says of it: its refusals in their order; what it
@@ -55,6 +59,7 @@ row (ImageReach i p) = record { refusals = 5 ∷ 8 ∷ 6 ∷ []; gives = aNumber
 row (ImageBusiest i k) = record { refusals = 5 ∷ 6 ∷ 13 ∷ []; gives = firstAndSum; question = true }
 row (ImageFromBcd b e i) = record { refusals = 1 ∷ 14 ∷ 2 ∷ 4 ∷ []; gives = aNumber; question = false }
 row (ImageToBcd i b) = record { refusals = 5 ∷ 6 ∷ 15 ∷ 4 ∷ []; gives = aNumber; question = false }
+row (ImageMatch i q) = record { refusals = 5 ∷ 6 ∷ 17 ∷ []; gives = hoursOrNone; question = true }
 
 -- one of these numbers
 abbrev pub Among : ℕ → List ℕ → Type 0
@@ -66,6 +71,8 @@ Allowed r (theNumber n) = Gives (r .gives) (theNumber n)
 Allowed r (theCells t u) = Gives (r .gives) (theCells t u)
 Allowed r (theSums n s) = Gives (r .gives) (theSums n s)
 Allowed r (theRun f s) = Gives (r .gives) (theRun f s)
+Allowed r (theHours f n) = Gives (r .gives) (theHours f n)
+Allowed r noRun = Gives (r .gives) noRun
 Allowed r (refusal k) = Among k (r .refusals)
 
 -- C gets the word w, below zero as a signed number of 64 bits: minus one of the call's refusals, and nothing that was lent has changed

@@ -22,10 +22,14 @@ use Rattle.image.proofs.Sizes.{Small as SmallReply, SmallVerdict, check-small, 
 use Rattle.freeze.specs.Freeze.{freezeCall}
 use Rattle.answers.specs.declared.image.Stretch.{Stretch}
 use Rattle.answers.specs.declared.image.Stretch.the-variants.{Run, Refused as NoStretch}
+use Rattle.answers.specs.declared.image.Bag.{Bag}
+use Rattle.answers.specs.declared.image.Bag.the-variants.{Run as BagRun, None, Refused as NoBag}
 use Rattle.image_busiest.specs.Busiest.{BusiestCall}
 use Rattle.image_busiest.proofs.AnswerLaws.{Small as SmallStretch, small-answer}
-use Rattle.hourlog_c.specs.Public.{End, Ends, Fresh, Freeze, ImageBusiest, ImageCheck, ImageCount, ImageLength, ImageReach, ImageReading, ImageWrite, Live}
-use Rattle.hourlog_c.specs.Public.{PublicCall, Ten, beside, ofCheck, ofImage, ofStore, ofStretch}
+use Rattle.image_match.specs.Match.{MatchCall}
+use Rattle.image_match.proofs.AnswerLaws.{Small as SmallBag, small-answer as small-match}
+use Rattle.hourlog_c.specs.Public.{End, Ends, Fresh, Freeze, ImageBusiest, ImageCheck, ImageCount, ImageLength, ImageMatch, ImageReach, ImageReading, ImageWrite, Live}
+use Rattle.hourlog_c.specs.Public.{PublicCall, Ten, beside, ofBag, ofCheck, ofImage, ofStore, ofStretch}
 use Rattle.hourlog_c.specs.Words.{wordOf}
 use Rattle.hourlog_c.specs.ReadBack.{Reads}
 use Rattle.hourlog_c.specs.Export.{Answers, Costs}
@@ -57,6 +61,12 @@ small-stretch : (a : Stretch) → SmallStretch a → Small (ofStretch a)
 unfolding ofStretch
 small-stretch (Run f s) w = w
 small-stretch (NoStretch k) w = (w .0, omega (arith, w .1))
+
+small-bag : (a : Bag) → SmallBag a → Small (ofBag a)
+unfolding ofBag
+small-bag (BagRun f n) w = w
+small-bag None w = w
+small-bag (NoBag k) w = (w .0, omega (arith, w .1))
 
 freeze-small : (e : ℕ) (s out : List ℕ) → SmallReply (freezeCall e s out .reply)
 unfolding freezeCall pick unwritten
@@ -135,7 +145,11 @@ pub reach-answers : (s : List ℕ) (p w : ℕ) (r : Reply) → w ≡ wordOf (ofI
 reach-answers s p w r q d =
     answers (ImageReach s p) w (s ∷ []) (ofImage r) ((r, d, refl), refl) tt (small-image r (reach-small s p r d)) q
 
--- the answer that busiest has
+-- the answer that busiest has, and match
 pub busiest-answers : (s : List ℕ) (k w : ℕ) (r : Stretch) → w ≡ wordOf (ofStretch r) → BusiestCall s k r → Answers (ImageBusiest s k) w (s ∷ [])
 busiest-answers s k w r q d =
     answers (ImageBusiest s k) w (s ∷ []) (ofStretch r) ((r, d, refl), refl) tt (small-stretch r (small-answer s k r d)) q
+
+pub match-answers : (s : List ℕ) (q w : ℕ) (r : Bag) → w ≡ wordOf (ofBag r) → MatchCall s q r → Answers (ImageMatch s q) w (s ∷ [])
+match-answers s q w r e d =
+    answers (ImageMatch s q) w (s ∷ []) (ofBag r) ((r, d, refl), refl) tt (small-bag r (small-match s q r d)) e

@@ -3,7 +3,7 @@ use mathlib.Core.Path.{_≡_, refl, _∙_}
 use Prim.Native.Nat.{ℕ, _+_, _*_, _%_, _^_, _≤_, _<_}
 use native.Mathlib.Nat.{mod-eq-of-lt}
 use native.Mathlib.Omega.{arith}
-use Rattle.hourlog_c.specs.Public.{End, refusal, theCells, theNumber, theRun, theSums}
+use Rattle.hourlog_c.specs.Public.{End, noRun, refusal, theCells, theHours, theNumber, theRun, theSums}
 use Rattle.hourlog_c.specs.Words.{minus, pair, wordOf}
 use Rattle.hourlog_c.specs.ReadBack.{Reads}
 
@@ -29,6 +29,8 @@ Small (theNumber n) = n ≤ 4294967295
 Small (theCells t r) = (t ≤ 1800) × (r ≤ 1800)
 Small (theSums n s) = (n ≤ 65536) × (s ≤ 4294967295)
 Small (theRun f s) = (f ≤ 65536) × (s < 1099511627776)
+Small (theHours f n) = (f ≤ 65536) × (1 ≤ n) × (n ≤ 65536)
+Small noRun = Unit {0}
 Small (refusal k) = (1 ≤ k) × (k ≤ 20)
 
 pub small-reads : (a : End) → Small a → Reads a (wordOf a)
@@ -43,4 +45,8 @@ small-reads (theSums n s) w =
 small-reads (theRun f s) w =
     let e : pair 40 s f ≡ s + f * 2 ^ 40 = pair-exact 40 s f (omega (arith, w .0, w .1)) in
     rw e (omega (arith, w .0, w .1), omega (arith, w .0, w .1), omega (arith, w .0, w .1))
+small-reads (theHours f n) w =
+    let e : pair 32 f n ≡ f + n * 2 ^ 32 = pair-exact 32 f n (omega (arith, w .0, w .2)) in
+    rw e (omega (arith, w .0, w .2), omega (arith, w .0, w .2), omega (arith, w .0, w .2), w .1)
+small-reads noRun w = (omega arith, refl)
 small-reads (refusal k) w = record { sign = omega (arith, w .0, w .1); word = omega (arith, w .0, w .1); refusal = omega (arith, w .0, w .1) }

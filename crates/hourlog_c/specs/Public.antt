@@ -14,11 +14,14 @@ use Rattle.image.specs.Calls.{lengthCall, writeCall}
 use Rattle.image.specs.Query.{count, reading}
 use Rattle.image.specs.Reach.{Reach}
 use Rattle.image_busiest.specs.Busiest.{BusiestCall}
+use Rattle.image_match.specs.Match.{MatchCall}
 use Rattle.freeze.specs.Freeze.{freezeCall}
 use Rattle.answers.specs.declared.image.Stretch.{Stretch}
 use Rattle.answers.specs.declared.image.Stretch.the-variants.{Run, Refused as NoStretch}
 use Rattle.book_in.specs.FromBook.{fromCall}
 use Rattle.book_out.specs.ToBook.{toCall}
+use Rattle.answers.specs.declared.image.Bag.{Bag}
+use Rattle.answers.specs.declared.image.Bag.the-variants.{Run as BagRun, None, Refused as NoBag}
 
 -- a public call with its numbers and with the slices that it is lent; the live calls are nine
 pub data PublicCall : Type 0 where
@@ -34,6 +37,7 @@ pub data PublicCall : Type 0 where
   ImageBusiest : (image : List ℕ) (hours : ℕ) → PublicCall
   ImageFromBcd : (book : List ℕ) (e : ℕ) (image : List ℕ) → PublicCall
   ImageToBcd : (image book : List ℕ) → PublicCall
+  ImageMatch : (image : List ℕ) (figure : ℕ) → PublicCall
 
 -- what a live call is lent beside the store: day its list of changed days
 abbrev pub beside : Call → List (List ℕ)
@@ -61,14 +65,17 @@ lent (ImageReach i p) = i ∷ []
 lent (ImageBusiest i k) = i ∷ []
 lent (ImageFromBcd b e i) = b ∷ i ∷ []
 lent (ImageToBcd i b) = i ∷ b ∷ []
+lent (ImageMatch i q) = i ∷ []
 
--- what a call ends in: the number asked for, the cells taken and given back, N and S, a run's first hour and its sum, or 'a refusal is its
--- number alone'
+-- what a call ends in: the number asked for, the cells taken and given back, N and S, a run's first hour and its sum, a run's first hour and
+-- its hours, no run, or 'a refusal is its number alone'
 pub data End : Type 0 where
   theNumber : ℕ → End
   theCells : (taken returned : ℕ) → End
   theSums : (hours total : ℕ) → End
   theRun : (first total : ℕ) → End
+  theHours : (first hours : ℕ) → End
+  noRun : End
   refusal : ℕ → End
 
 unfoldable pub ofStore : Answer → End
@@ -88,6 +95,11 @@ unfoldable pub ofStretch : Stretch → End
 ofStretch (Run f s) = theRun f s
 ofStretch (NoStretch k) = refusal k
 
+unfoldable pub ofBag : Bag → End
+ofBag (BagRun f n) = theHours f n
+ofBag None = noRun
+ofBag (NoBag k) = refusal k
+
 -- The call may end in the answer a, and what it was lent is afterwards t. Reach alone may end in one of several answers; a call on runs of
 -- hours has one, though its definition speaks of all runs and computes none
 abbrev pub Ends : PublicCall → End → List (List ℕ) → Type 0
@@ -103,6 +115,7 @@ Ends (ImageReach i p) a t = ((r : Reply) × Reach i p r × (a ≡ ofImage r)) ×
 Ends (ImageBusiest i k) a t = ((r : Stretch) × BusiestCall i k r × (a ≡ ofStretch r)) × (t ≡ i ∷ [])
 Ends (ImageFromBcd b e i) a t = (a ≡ ofImage (fromCall e b i .reply)) × (t ≡ b ∷ fromCall e b i .bytes ∷ [])
 Ends (ImageToBcd i b) a t = (a ≡ ofImage (toCall i b .reply)) × (t ≡ i ∷ toCall i b .bytes ∷ [])
+Ends (ImageMatch i q) a t = ((r : Bag) × MatchCall i q r × (a ≡ ofBag r)) × (t ≡ i ∷ [])
 
 -- 'store, every other live call and freeze: 10, not sound', where a sound store is told clause by clause
 abbrev pub Ten : PublicCall → End → Type 0
@@ -118,3 +131,4 @@ Ten (ImageReach i p) a = Unit {0}
 Ten (ImageBusiest i k) a = Unit {0}
 Ten (ImageFromBcd b e i) a = Unit {0}
 Ten (ImageToBcd i b) a = Unit {0}
+Ten (ImageMatch i q) a = Unit {0}

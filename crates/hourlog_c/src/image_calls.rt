@@ -1,10 +1,11 @@
 // The frozen image, for C. Each contract states what every lent slice is afterwards, also of those that are lent to read only.
+use crate::word::of_bag;
 use crate::word::of_check;
 use crate::word::of_image;
 use crate::word::of_stretch;
 ghost use mathlib.Core.List.{[], _∷_};
-ghost use Rattle.hourlog_c.specs.Public.{Freeze, ImageBusiest, ImageCheck, ImageCount, ImageFromBcd, ImageLength, ImageReach, ImageReading};
-ghost use Rattle.hourlog_c.specs.Public.{ImageToBcd, ImageWrite};
+ghost use Rattle.hourlog_c.specs.Public.{Freeze, ImageBusiest, ImageCheck, ImageCount, ImageFromBcd, ImageLength, ImageMatch, ImageReach};
+ghost use Rattle.hourlog_c.specs.Public.{ImageReading, ImageToBcd, ImageWrite};
 ghost use Rattle.hourlog_c.specs.Export.{Answers};
 
 #[no_mangle]
@@ -75,4 +76,11 @@ pub extern "C" fn hourlog_image_to_bcd(image: &[u8], book: &mut [u8]) -> u64
     ensures { λ r. ⌜ Answers (ImageToBcd (now (image .entry)) (now (book .entry))) r (now (image .exit) ∷ now (book .exit) ∷ []) ⌝ }
 {
     of_image(book_out::to_bcd(image, book))
+}
+
+#[no_mangle]
+pub extern "C" fn hourlog_image_match(image: &[u8], figure: u64) -> u64
+    ensures { λ r. ⌜ Answers (ImageMatch (now (image .entry)) figure) r (now (image .exit) ∷ []) ⌝ }
+{
+    of_bag(image_match::matching(image, figure))
 }

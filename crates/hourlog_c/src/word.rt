@@ -5,7 +5,7 @@ ghost use mathlib.Core.Path.{_≡_};
 ghost use Prim.Native.Nat.{_<_};
 ghost use Rattle.answers.specs.Store.{told};
 ghost use Rattle.answers.specs.Image.{told as replied, ruled};
-ghost use Rattle.hourlog_c.specs.Public.{ofCheck, ofImage, ofStore, ofStretch};
+ghost use Rattle.hourlog_c.specs.Public.{ofBag, ofCheck, ofImage, ofStore, ofStretch};
 ghost use Rattle.hourlog_c.specs.Words.{minus as minusWord, pair as pairWord, wordOf};
 
 fn minus(k: u32) -> u64
@@ -55,5 +55,15 @@ pub(crate) fn of_stretch(a: answers::image::Stretch) -> u64
     match a {
         answers::image::Stretch::Run(first, total) => pair(40, total, first),
         answers::image::Stretch::Refused(k) => minus(k),
+    }
+}
+
+pub(crate) fn of_bag(a: answers::image::Bag) -> u64
+    ensures { λ r. ⌜ r ≡ wordOf (ofBag a) ⌝ }
+{
+    match a {
+        answers::image::Bag::Run(first, hours) => pair(32, first, hours),
+        answers::image::Bag::None => 0,
+        answers::image::Bag::Refused(k) => minus(k),
     }
 }

@@ -16,8 +16,7 @@ use Rattle.image.specs.Code.Head.{HeadOf}
 use Rattle.image.specs.Read.{listOf}
 use Rattle.image.specs.declared.head.Head.{Head}
 use Rattle.image.proofs.Accepted.{accepted-only, length-list}
-use Rattle.image.proofs.PageLaws.{hour-low}
-use Rattle.image_cursor.specs.Code.Cursor.{Ready}
+use Rattle.image_cursor.specs.Code.Cursor.{Ahead, Ready}
 use Rattle.image_cursor.proofs.CursorLaws.{count-of, place-in}
 use Rattle.runs.specs.Code.{Best}
 use Rattle.runs.specs.Runs.{Busiest, runSum}
@@ -67,14 +66,13 @@ module _ (s : List ℕ) (k : ℕ) (w : Window) (l : Looked s k w) (i : w .first 
         refl,
       )
 
--- ---- as far as no end leaves its page: the least of three
-pub along-least : (h : Head) (k j u v m r : ℕ) → j + k < h .hours → u + (j + k) % 2 ^ h .e ≡ 2 ^ h .e → v + j % 2 ^ h .e ≡ 2 ^ h .e
-    → m ≡ min u v → r ≡ min m (h .hours - (j + k)) → Along h k j r
-along-least h k j u v m r l e f g i = record {
-  some = omega (arith, hour-low (h .e) (j + k), hour-low (h .e) j);
-  inside = omega arith;
-  front-room = omega arith;
-  back-room = omega arith;
+-- ---- as far as no end leaves its page
+pub along-least : (h : Head) (k j u v r : ℕ) → j + k < h .hours → Ahead h (j + k) u → Ahead h j v → r ≡ min u v → Along h k j r
+along-least h k j u v r l e f g = record {
+  some = omega (arith, e .some l, f .some (omega arith));
+  inside = omega (arith, e .inside);
+  front-room = omega (arith, e .room);
+  back-room = omega (arith, f .room);
 }
 
 module _ (s : List ℕ) (a : accepted s ≡ true) {h : Head} (o : HeadOf s h) where

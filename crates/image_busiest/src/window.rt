@@ -2,8 +2,8 @@
 use answers::image::Answer;
 use bits_word::low_bits;
 use image::head::Head;
+use image_cursor::cursor::ahead;
 use image_cursor::cursor::read_page;
-use image_cursor::cursor::room;
 use image_cursor::cursor::turn;
 use lists::smaller;
 ghost use mathlib.Core.Bool.{true};
@@ -31,18 +31,18 @@ fn moved(w: Window, more: u64, less: u64) -> Window
     ensures { λ r. ⌜ r ≡ later w more less ⌝ }
 {
     let first = w.first + 1;
-    let sum = w.sum + more - less;
-    if w.most < sum {
+    let next = w.sum + more - less;
+    if w.most < next {
         return Window {
             first,
-            sum,
+            sum: next,
             best: first,
-            most: sum,
+            most: next,
         };
     }
     Window {
         first,
-        sum,
+        sum: next,
         best: w.best,
         most: w.most,
     }
@@ -53,8 +53,7 @@ fn stride(h: Head, k: u64, j: u64) -> usize
     requires { ⌜ (h .e ≤ 8) × (h .hours < 4294967296) × (j + k < h .hours) ⌝ }
     ensures { λ r. ⌜ Along h k j r ⌝ }
 {
-    let n = smaller(room(h.e, j + k) as usize, room(h.e, j) as usize);
-    smaller(n, (h.hours - (j + k)) as usize)
+    smaller(ahead(h, j + k), ahead(h, j))
 }
 
 // The window n hours later: front has the page of the hour behind it, back that of its first hour.

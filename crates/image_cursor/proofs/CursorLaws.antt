@@ -2,7 +2,7 @@
 use mathlib.Core.Bool.{true}
 use mathlib.Core.List.{List, _++_}
 use mathlib.Core.Path.{_≡_, ap, sym, _∙_}
-use Prim.Native.Nat.{ℕ, zero, suc, _+_, _*_, _/_, _%_, _^_, _≤_, _<_}
+use Prim.Native.Nat.{ℕ, _+_, _-_, _*_, _/_, _%_, _^_, _≤_, _<_, min}
 use native.Mathlib.Nat.{lt-of-mul-lt-mul-left}
 use native.Mathlib.Decide.{ℕ-discrete, decLe}
 use native.Mathlib.Omega.{arith}
@@ -18,7 +18,7 @@ use Rattle.image.specs.Read.{eOf, listOf, nOf, pagesOf}
 use Rattle.image.specs.declared.head.Head.{Head}
 use Rattle.image.proofs.Accepted.{accepted-only}
 use Rattle.image.proofs.PageLaws.{getD-page, hour-low, hour-page, hour-split, length-page}
-use Rattle.image_cursor.specs.Code.Cursor.{Ready}
+use Rattle.image_cursor.specs.Code.Cursor.{Ahead, Ready}
 
 -- the page of an hour that is logged
 pub in-pages : (s : List ℕ) (i : ℕ) → i < nOf s → i / 2 ^ eOf s < pagesOf s
@@ -84,10 +84,13 @@ module _ (s : List ℕ) {h : Head} (o : HeadOf s h) where
   pub ready-read : accepted s ≡ true → (i : ℕ) (c d : List ℕ) → length c ≡ 256 → d ≡ splice c 0 (page (eOf s) (listOf s) (i / 2 ^ h .e)) → Ready s i d
   ready-read a i c d l q = read-by s a i c d l (q ∙ ap (λ (z : ℕ). splice c 0 (page (eOf s) (listOf s) (i / 2 ^ z))) (o .e-is))
 
-  pub ready-stays : (i n j : ℕ) (c : List ℕ) → j ≡ (i + n) % 2 ^ h .e → (j ≡ 0 → ⊥) → i < h .hours → i % 2 ^ h .e + n ≤ 2 ^ h .e → Ready s i c
-      → Ready s (i + n) c
-  ready-stays i n j c q f l g r =
-      stays s i n c (rw (o .e-is) at g) (rw (q ∙ ap (λ (z : ℕ). (i + n) % 2 ^ z) (o .e-is)) at (above j f)) (omega (arith, o .hours-is)) r
+  pub ready-stays : (i n j : ℕ) (c : List ℕ) → j ≡ (i + n) % 2 ^ h .e → (j ≡ 0 → ⊥) → i % 2 ^ h .e + n ≤ 2 ^ h .e → Ready s i c → Ready s (i + n) c
+  ready-stays i n j c q f g r = go (decLe (h .hours) i)
+    where
+      go : Dec (h .hours ≤ i) → Ready s (i + n) c
+      go (yes l) = ready-end (i + n) c (omega arith) (r .long)
+      go (no l) =
+          stays s i n c (rw (o .e-is) at g) (rw (q ∙ ap (λ (z : ℕ). (i + n) % 2 ^ z) (o .e-is)) at (above j f)) (omega (arith, o .hours-is)) r
 
   pub small : accepted s ≡ true → h .e ≤ 8
   small a = omega (arith, o .e-is, low s a)
@@ -103,3 +106,11 @@ module _ (s : List ℕ) {h : Head} (o : HeadOf s h) where
       let e : j ≡ i % 2 ^ eOf s + n = q ∙ ap (λ (z : ℕ). i % 2 ^ z + n) (o .e-is) in
       let f : j < 2 ^ eOf s = rw (o .e-is) at g in
       rw e (count-is s i n c (omega (arith, o .hours-is)) (rw e at f) r)
+
+-- the lesser of what the page and what the list has
+pub ahead-least : (h : Head) (i u r : ℕ) → i ≤ h .hours → u + i % 2 ^ h .e ≡ 2 ^ h .e → r ≡ min u (h .hours - i) → Ahead h i r
+ahead-least h i u r l e g = record {
+  inside = omega arith;
+  room = omega arith;
+  some = λ (k : i < h .hours). omega (arith, hour-low (h .e) i);
+}

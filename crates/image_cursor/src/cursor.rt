@@ -2,6 +2,7 @@
 use bits_word::low_bits;
 use image::head::Head;
 use image_page::page_counts;
+use lists::smaller;
 use reserve::power;
 ghost use mathlib.Core.Bool.{true};
 ghost use mathlib.Core.Path.{_≡_};
@@ -9,14 +10,22 @@ ghost use Prim.Native.Nat.{_+_, _%_, _^_, _≤_, _<_};
 ghost use lib.ListN.{length};
 ghost use Rattle.image.specs.Check.{accepted};
 ghost use Rattle.image.specs.Code.Head.{HeadOf};
-ghost use Rattle.image_cursor.specs.Code.Cursor.{Ready};
+ghost use Rattle.image_cursor.specs.Code.Cursor.{Ahead, Ready};
 
 // How many hours the page of hour i has from hour i on: pages have 2^e.
-pub fn room(e: u32, i: u64) -> u64
+fn room(e: u32, i: u64) -> u64
     requires { ⌜ e ≤ 8 ⌝ }
     ensures { λ r. ⌜ r + i % 2 ^ e ≡ 2 ^ e ⌝ }
 {
     power(e) - low_bits(i, e)
+}
+
+// How many hours there are from hour i on to the end of its page, or of the list.
+pub fn ahead(h: Head, i: u64) -> usize
+    requires { ⌜ (h .e ≤ 8) × (h .hours < 4294967296) × (i ≤ h .hours) ⌝ }
+    ensures { λ r. ⌜ Ahead h i r ⌝ }
+{
+    smaller(room(h.e, i) as usize, (h.hours - i) as usize)
 }
 
 // Reads the page of hour i of the image s, whose header is h, if this hour is logged.
@@ -33,7 +42,7 @@ pub fn read_page(s: &[u8], h: Head, i: u64, counts: &mut [u32])
 // From hour i, whose page is in counts, n hours on: no further than to the first hour of the next page, which is then read.
 pub fn turn(s: &[u8], h: Head, i: u64, n: u64, counts: &mut [u32])
     requires { ⌜ (accepted (now s) ≡ true) × HeadOf (now s) h × Ready (now s) i (now counts) ⌝ }
-    requires { ⌜ (i < h .hours) × (i % 2 ^ h .e + n ≤ 2 ^ h .e) ⌝ }
+    requires { ⌜ (i ≤ h .hours) × (i % 2 ^ h .e + n ≤ 2 ^ h .e) ⌝ }
     ensures { λ _. ⌜ Ready (now (s .entry)) (i + n) (now (counts .exit)) ⌝ }
 {
     let next = i + n;

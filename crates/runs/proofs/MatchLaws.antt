@@ -1,7 +1,8 @@
--- The first run with a given sum, found by moving its two ends along the list; and that there is one alone. Assumes nothing.
+-- The first run with a given sum, found by moving its two ends along the list; that there is one or none, and one alone. Assumes nothing.
 use mathlib.Core.List.{List}
+use mathlib.Core.Logic.{_⊎_, inl, inr}
 use mathlib.Core.Path.{_≡_, ap}
-use Prim.Native.Nat.{ℕ, _+_, _-_, _≤_, _<_}
+use Prim.Native.Nat.{ℕ, zero, suc, _+_, _-_, _≤_, _<_}
 use native.Mathlib.Decide.{decLe}
 use native.Mathlib.Omega.{arith}
 use lib.ListN.{length, getD}
@@ -104,6 +105,32 @@ module _ (xs : List ℕ) (q lo hi total : ℕ) (s : Seeking xs q lo hi total) wh
           omega
           (arith, reading-grows xs lo j d, reading-grows xs (j + n) hi (omega (arith, m .inside)), run-reading xs j n, m .sum-is, s .total-is)
       go (no d) = s .passed j n (omega arith) m
+
+-- ---- there is one, or none
+abbrev pub Found : List ℕ → ℕ → Type 0
+Found xs q = ((first : ℕ) × (hours : ℕ) × FirstMatch xs q first hours) ⊎ NoMatch xs q
+
+-- one move, and then the search goes on
+step : (xs : List ℕ) (q : ℕ) → 1 ≤ q → (lo hi t : ℕ) → Seeking xs q lo hi t
+    → ((a b u : ℕ) → Seeking xs q a b u → a + b ≡ lo + hi + 1 → Found xs q) → Found xs q
+step xs q p lo hi t w on = go (decLe q t) (decLe t q) (decLe (length xs) hi)
+  where
+    go : Dec (q ≤ t) → Dec (t ≤ q) → Dec (length xs ≤ hi) → Found xs q
+    go (yes a) (yes b) d = inl (lo, hi - lo, seeking-found xs q lo hi t w p (omega arith))
+    go (yes a) (no b) d = on (lo + 1) hi (t - getD xs lo 0) (seeking-later xs q lo hi t w (omega arith)) (omega arith)
+    go (no a) b (yes d) = inr (seeking-none xs q lo hi t w (omega arith) (omega (arith, w .inside)))
+    go (no a) b (no d) = on lo (hi + 1) (t + getD xs hi 0) (seeking-longer xs q lo hi t w (omega arith) (omega arith)) (omega arith)
+
+-- no more moves than the list has hours, twice
+seek-on : (xs : List ℕ) (q : ℕ) → 1 ≤ q → (n lo hi t : ℕ) → Seeking xs q lo hi t → length xs + length xs ≤ n + (lo + hi) → Found xs q
+seek-on xs q p zero lo hi t w l =
+    let e : hi ≡ lo = omega (arith, w .ordered, w .inside) in
+    inr (seeking-none xs q lo hi t w (omega (arith, w .total-is, ap (reading xs) e)) (omega (arith, w .ordered, w .inside)))
+seek-on xs q p (suc n) lo hi t w l =
+    step xs q p lo hi t w (λ (a b u : ℕ) (v : Seeking xs q a b u) (e : a + b ≡ lo + hi + 1). seek-on xs q p n a b u v (omega arith))
+
+pub some-match : (xs : List ℕ) (q : ℕ) → 1 ≤ q → Found xs q
+some-match xs q p = seek-on xs q p (length xs + length xs) 0 0 0 (seeking-first xs q) (omega arith)
 
 -- ---- there is one alone
 pub one-match : (xs : List ℕ) (q f g m n : ℕ) → FirstMatch xs q f m → FirstMatch xs q g n → (f ≡ g) × (m ≡ n)

@@ -2,7 +2,6 @@
 //! drawn near the turning points of the state they will meet.
 
 use crate::days::{Changes, WRONG};
-use crate::function::Function;
 use crate::plain::Plain;
 use crate::random::{count, Random, Size};
 use crate::store_bytes::{self, fits};
@@ -51,18 +50,14 @@ pub fn calls(
 }
 
 fn draw(random: &mut Random, pages: u32, cells: u32, plain: &Plain, taste: &Taste) -> Call {
-    let moves = match Function::Insert.is_there() {
-        true => taste.moves,
-        false => 0,
-    };
-    let kind = random.below(taste.appends + taste.sets + moves + QUERIES);
+    let kind = random.below(taste.appends + taste.sets + taste.moves + QUERIES);
     if kind < taste.appends {
         return Call::Append(count(random, taste.size));
     }
     if kind < taste.appends + taste.sets {
         return Call::Set(hour(random, plain), count(random, taste.size));
     }
-    if kind < taste.appends + taste.sets + moves {
+    if kind < taste.appends + taste.sets + taste.moves {
         return insert_or_strike(random, pages, plain, taste.size);
     }
     match random.below(QUERIES) {

@@ -13,11 +13,7 @@ use crate::lent::Lender;
 #[path = "../../exported.rs"]
 mod exported;
 
-mod c {
-    pub use super::exported::*;
-    #[allow(unused_imports)]
-    pub use crate::not_yet::*;
-}
+use exported as c;
 
 /// What the self-test spoils in the library's first fitting call.
 #[derive(Clone, Copy, Debug, PartialEq, Eq)]

@@ -51,16 +51,8 @@ impl Function {
         Function::ImageToBook,
     ];
 
-    /// Those that the library has.
     pub fn all() -> impl Iterator<Item = Function> {
-        Function::ALL.into_iter().filter(|f| f.is_there())
-    }
-
-    pub const fn is_there(self) -> bool {
-        match self {
-            Function::ImageMatch => cfg!(feature = "match"),
-            _ => true,
-        }
+        Function::ALL.into_iter()
     }
 
     /// The refusals that documents 01 and 02 give this call; the comparison is

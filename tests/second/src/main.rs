@@ -24,7 +24,6 @@ mod function;
 mod image;
 mod image_calls;
 mod lent;
-mod not_yet;
 mod outside;
 mod plain;
 mod program;

@@ -3,7 +3,6 @@
 use crate::bag::matched;
 use crate::busiest::busiest;
 use crate::ffi::Library;
-use crate::function::Function;
 use crate::image::Reached;
 use crate::image_calls::ask_each;
 use crate::refusal::{Answer, Packed};
@@ -29,9 +28,6 @@ pub fn compare_match(
     list: &Answer<Vec<u64>>,
     bags: &[u64],
 ) -> Result<(), String> {
-    if !Function::ImageMatch.is_there() {
-        return Ok(());
-    }
     ask_each("match", bytes, bags, |lent, figure| {
         let expected = exactly(matched(list, figure));
         (library.image_match(lent, figure), expected)

@@ -3,7 +3,6 @@
 
 use crate::days::Changes;
 use crate::ffi::Library;
-use crate::function::Function;
 use crate::image;
 use crate::plain::Plain;
 use crate::refusal::word;
@@ -54,15 +53,6 @@ impl fmt::Display for Call {
 }
 
 impl Call {
-    /// Whether the library has this call.
-    pub fn is_there(&self) -> bool {
-        match self {
-            Call::Insert(..) => Function::Insert.is_there(),
-            Call::Strike(_) => Function::Strike.is_there(),
-            _ => true,
-        }
-    }
-
     fn by_library(self, library: &mut Library, store: &mut [u8], out: &mut [u8]) -> i64 {
         match self {
             Call::Fresh(pages, cells) => library.fresh(store, pages, cells),
@@ -145,9 +135,9 @@ pub fn compare(library: &mut Library, bytes: &mut [u8], call: Call) -> Result<Do
 }
 
 /// Several calls, each on a copy of its own: an append must not change what
-/// the next one sees. Those that the library does not have are left out.
+/// the next one sees.
 pub fn compare_all(library: &mut Library, bytes: &[u8], calls: &[Call]) -> Result<(), String> {
-    for &call in calls.iter().filter(|call| call.is_there()) {
+    for &call in calls {
         compare(library, &mut bytes.to_vec(), call)
             .map_err(|difference| format!("{call}: {difference}"))?;
     }

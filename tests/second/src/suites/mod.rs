@@ -15,18 +15,15 @@ mod store_damage;
 mod store_faults;
 mod stretches;
 
-use crate::function::Function;
 use crate::run::{Outcome, Run};
 
 pub struct Suite {
     pub name: &'static str,
     pub play: fn(&mut Run) -> Outcome,
-    there: bool,
 }
 
-/// All whose calls the library has.
 pub fn all() -> impl Iterator<Item = &'static Suite> {
-    ALL.iter().filter(|suite| suite.there)
+    ALL.iter()
 }
 
 /// The quick ones first.
@@ -36,10 +33,10 @@ static ALL: [Suite; 14] = [
     suite("named faults of images", image_faults::play),
     suite("named faults of stores", store_faults::play),
     suite("busiest stretches", stretches::play),
-    suite("bags", bags::play).if_there(Function::ImageMatch.is_there()),
+    suite("bags", bags::play),
     suite("books", books::play),
     suite("days with a clock change", days::play),
-    suite("insert and strike", insert_strike::play).if_there(Function::Insert.is_there()),
+    suite("insert and strike", insert_strike::play),
     suite("lists of calls on small stores", sessions::play),
     suite("images", images::play),
     suite("damaged images", image_damage::play),
@@ -48,12 +45,5 @@ static ALL: [Suite; 14] = [
 ];
 
 const fn suite(name: &'static str, play: fn(&mut Run) -> Outcome) -> Suite {
-    let there = true;
-    Suite { name, play, there }
-}
-
-impl Suite {
-    const fn if_there(self, there: bool) -> Suite {
-        Suite { there, ..self }
-    }
+    Suite { name, play }
 }

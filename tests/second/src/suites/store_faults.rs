@@ -196,7 +196,7 @@ fn verdict(library: &mut Library, bytes: &[u8], all: Option<i64>) -> Result<(), 
         Call::Freeze(3, 0),
         Call::Freeze(1, -1),
     ];
-    for call in calls.into_iter().filter(Call::is_there) {
+    for call in calls {
         let done = compare(library, &mut bytes.to_vec(), call)
             .map_err(|difference| format!("{call}: {difference}"))?;
         if let Some(expected) = all {

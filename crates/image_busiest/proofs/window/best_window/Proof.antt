@@ -78,7 +78,7 @@ turn-requires c κs =
     let n = c .before .before .before .before .before in
     let b = n .before .before .before .before in
     let a = b .before .before .before .before .before .before .before .before .before in
-    ((a .pre .0, a .pre .1, b .loop .inv .1), (n .before .if1 .taken, n .stride .ensures .front-room))
+    ((a .pre .0, a .pre .1, b .loop .inv .1), (omega (arith, n .before .if1 .taken), n .stride .ensures .front-room))
 
 slice-aggregate-turn-2 : tie.Need-slice-aggregate-turn-2 Inv-loop μ-loop
 slice-aggregate-turn-2 c = search needs

@@ -18,7 +18,7 @@ low-bits-requires c κs =
 returns : tie.Need-returns
 returns c =
     let a = c .before .before .before .before in
-    ready-stays _ (a .pre .0 .1) (a .args .i) (a .args .n) _ _ (c .before .low-bits .ensures) (c .if1 .taken) (a .pre .1 .0) (a .pre .1 .1) (a .pre .0 .2)
+    ready-stays _ (a .pre .0 .1) (a .args .i) (a .args .n) _ _ (c .before .low-bits .ensures) (c .if1 .taken) (a .pre .1 .1) (a .pre .0 .2)
 
 read-page-requires : tie.Need-read-page-requires
 read-page-requires c κs = search needs

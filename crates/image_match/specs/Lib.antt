@@ -1,0 +1,3 @@
+-- Definitions of the crate.
+pub mod Match
+pub mod Code
