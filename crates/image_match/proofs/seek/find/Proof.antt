@@ -109,8 +109,7 @@ returns c =
     seeking-none _ _ _ _ _ (l .0) (c .if2 .taken) (omega (arith, n .1 (c .if2 .taken), end-low _ (a .pre .0) (a .pre .1) _ _ _ _ (l .0), hours _ (a .pre .0) (a .pre .1)))
 
 sub-t26 : tie.Need-sub-t26 Inv-loop μ-loop
-sub-t26 c =
-    c .before .before .before .before .before .loop .inv .0 .ordered
+sub-t26 c = omega (arith, c .before .before .before .before .before .loop .inv .0 .ordered)
 
 returns-2 : tie.Need-returns-2 Inv-loop μ-loop
 returns-2 c =
