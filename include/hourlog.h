@@ -51,7 +51,7 @@
  * WebAssembly, whose figures docs/BOARDS.md has: those here are of x86-64.  The
  * bytes of a store or an image mean the same on every machine.
  * Memory: the buffers, which the macros below measure (the largest store has
- * 63,760 bytes); 23 KiB of code; memcpy and memset of the C library.
+ * 63,760 bytes); 30 KiB of code; memcpy and memset of the C library.
  * Stack: HOURLOG_STACK, for insert and strike HOURLOG_MOVE_STACK, for freeze
  * HOURLOG_FREEZE_STACK.  A board that has not so much sends its store's bytes as
  * they are, and the laptop freezes them.
@@ -68,11 +68,12 @@
  * Threads and interrupts: any number of calls may run at once, unless one of
  * them changes a buffer that another is lent.
  * Power: a call is not atomic.  Cut off within fresh, append, set, insert or
- * strike, it may leave bytes that are not sound, or that are sound and hold another count.
- * Where power can fail, keep two copies, as examples/board.c does.  See that
- * the copy in use is sound, lest damage be copied over the last good log.  Copy
- * it over the other one and change that.  Then, and only if the change was not
- * refused, say in a byte of your own beside the two that this one is in use.
+ * strike, it may leave bytes that are not sound, or that are sound and hold
+ * another count.  Where power can fail, keep two copies, as examples/board.c
+ * does.  See that the copy in use is sound, lest damage be copied over the last
+ * good log.  Copy it over the other one and change that.  Then, and only if the
+ * change was not refused, say in a byte of your own beside the two that this one
+ * is in use.
  * Memory that fails: a store has no checksum, and damage can leave it sound
  * with another count.  Where that is to be seen, keep a checksum of your own.
  */
@@ -184,10 +185,8 @@ typedef uint64_t hourlog_size;
  *
  * What to do at one:
  *   1, 2, 4, 7, 8, 9, 13, 17  The arguments do not fit: a matter for the program.
- *       At 4 the macros above say what length suffices, for freeze and for
- *       write; for write hourlog_image_length says the exact one.
- *   16  The list of changes is none (see THE CLOCK): set it right.  The log is
- *       whole; with the empty list every day has 24 hours.
+ *       At 4 the macros above say what length suffices, for freeze, for write
+ *       and for books; for write hourlog_image_length says the exact one.
  *   3   Nobody pays that much: look at the coin counter.  The refused hour is
  *       NOT logged: append it with the right count.
  *   5, 6  A laptop takes the image from the board again.  At 6, count and
@@ -207,6 +206,8 @@ typedef uint64_t hourlog_size;
  *   14  Read the book from the old board again: an odd number of bytes, or a
  *       digit above 9, was never written by one.  No hour of it came over.
  *   15  No old board could have held that hour: keep the image.
+ *   16  The list of changes is none (see THE CLOCK): set it right.  The log is
+ *       whole; with the empty list every day has 24 hours.
  */
 #define HOURLOG_REFUSED_PAGE_SIZE 1 /* e outside 2 to 8                        */
 #define HOURLOG_REFUSED_LIST 2      /* over 65,536 counts                      */
