@@ -24,11 +24,13 @@ use Rattle.book_in.specs.FromBook.{fromCall}
 use Rattle.book_in.proofs.FromLaws.{from-refused}
 use Rattle.book_out.specs.ToBook.{toCall}
 use Rattle.book_out.proofs.ToLaws.{to-refused}
-use Rattle.hourlog_c.specs.Public.{End, Ends, Fresh, Freeze, ImageBusiest, ImageCheck, ImageCount, ImageFromBcd, ImageLength, ImageMatch, ImageReach, ImageReading}
+use Rattle.hourlog_c.specs.Public.{Ends, Fresh, Freeze, ImageBusiest, ImageCheck, ImageCount, ImageFromBcd, ImageLength, ImageMatch, ImageReach, ImageReading}
+use Rattle.words.specs.End.{End}
 use Rattle.hourlog_c.specs.Public.{ImageToBcd, ImageWrite, Live}
-use Rattle.hourlog_c.specs.Public.{PublicCall, beside, lent, noRun, ofBag, ofImage, ofStore, ofStretch, refusal, theCells, theHours, theNumber, theRun, theSums}
-use Rattle.hourlog_c.specs.ReadBack.{Reads}
-use Rattle.hourlog_c.proofs.RefusedTen.{image-refused, store-refused}
+use Rattle.hourlog_c.specs.Public.{PublicCall, beside, lent}
+use Rattle.words.specs.End.{noRun, ofBag, ofImage, ofStore, ofStretch, refusal, theCells, theHours, theNumber, theRun, theSums}
+use Rattle.words.specs.ReadBack.{Reads}
+use Rattle.words.proofs.EndLaws.{image-refused, store-refused}
 use Rattle.demands.proofs.Refusals.{busiest-allowed, check-allowed, count-allowed, freeze-allowed, fresh-allowed, from-allowed, length-allowed, live-allowed, match-allowed}
 use Rattle.demands.proofs.Refusals.{reach-allowed, reading-allowed, to-allowed, write-allowed}
 use Rattle.demands.specs.Demand1.{Allowed, Demand1, Given, Refused, aNumber, cellsMoved, row}

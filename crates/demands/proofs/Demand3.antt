@@ -23,8 +23,9 @@ use Rattle.store.proofs.FreshLaws.{fresh-good}
 use Rattle.store.proofs.ItemLaws.{sound-items}
 use Rattle.store.proofs.Unchanged.{kept-at}
 use Rattle.store.proofs.Whole.{answer-at, change-never, change-when, end-cells, end-pages, ends, length-answers}
-use Rattle.hourlog_c.specs.Public.{Fresh, ofStore}
-use Rattle.hourlog_c.specs.Words.{wordOf}
+use Rattle.hourlog_c.specs.Public.{Fresh}
+use Rattle.words.specs.End.{ofStore}
+use Rattle.words.specs.Words.{wordOf}
 use Rattle.hourlog_c.specs.Export.{Answers}
 use Rattle.demands.proofs.Slices.{same-slice}
 use Rattle.demands.specs.Demand3.{Demand3, HoldsAfter, HoldsInWords, Passes, Run, StoreHolds, answerAt, appends, goes-on, inserts, listAfter, over, sets, storeAfter, strikes, wordsOf}

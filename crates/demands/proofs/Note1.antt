@@ -17,8 +17,9 @@ use Rattle.runs.specs.Runs.{Busiest}
 use Rattle.image_busiest.specs.Busiest.{BusiestCall, no-such-run, not-accepted, the-run}
 use Rattle.image_busiest.proofs.AnswerLaws.{one-answer}
 use Rattle.hourlog_c.specs.Export.{Answers}
-use Rattle.hourlog_c.specs.Public.{ImageBusiest, ofStretch, refusal}
-use Rattle.hourlog_c.specs.ReadBack.{busiestFirst, busiestSum}
+use Rattle.hourlog_c.specs.Public.{ImageBusiest}
+use Rattle.words.specs.End.{ofStretch, refusal}
+use Rattle.words.specs.ReadBack.{busiestFirst, busiestSum}
 use Rattle.demands.proofs.Sentences1.{busiest-word, minus-in}
 
 -- the run of a busiest answer

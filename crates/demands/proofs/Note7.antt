@@ -17,9 +17,10 @@ use Rattle.runs.specs.Runs.{FirstMatch, Matches, NoMatch}
 use Rattle.image_match.specs.Match.{MatchCall, no-coins, none, not-accepted, the-run}
 use Rattle.image_match.proofs.AnswerLaws.{one-answer}
 use Rattle.hourlog_c.specs.Export.{Answers}
-use Rattle.hourlog_c.specs.Public.{ImageMatch, noRun, ofBag, refusal}
-use Rattle.hourlog_c.specs.ReadBack.{Reads, matchedFirst, matchedHours}
-use Rattle.hourlog_c.specs.Words.{wordOf}
+use Rattle.hourlog_c.specs.Public.{ImageMatch}
+use Rattle.words.specs.End.{noRun, ofBag, refusal}
+use Rattle.words.specs.ReadBack.{Reads, matchedFirst, matchedHours}
+use Rattle.words.specs.Words.{wordOf}
 use Rattle.demands.proofs.Sentences1.{match-word, minus-in, none-word}
 
 -- the run of an answer, and that there is none

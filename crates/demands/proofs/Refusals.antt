@@ -42,7 +42,8 @@ use Rattle.book_in.specs.FromBook.{fromCall}
 use Rattle.book_in.proofs.FromLaws.{only-long}
 use Rattle.book_out.specs.ToBook.{past, putBook, toCall}
 use Rattle.hourlog_c.specs.Public.{Fresh, Freeze, ImageBusiest, ImageCheck, ImageCount, ImageFromBcd, ImageLength, ImageMatch, ImageReach, ImageReading, ImageToBcd, ImageWrite}
-use Rattle.hourlog_c.specs.Public.{Live, ofBag, ofCheck, ofImage, ofStore, ofStretch}
+use Rattle.hourlog_c.specs.Public.{Live}
+use Rattle.words.specs.End.{ofBag, ofCheck, ofImage, ofStore, ofStretch}
 use Rattle.demands.specs.Demand1.{Allowed, Among, Row, aNumber, cellsMoved, row}
 
 -- ---- the live calls

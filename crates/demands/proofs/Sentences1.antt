@@ -23,11 +23,13 @@ use Rattle.image_busiest.specs.Busiest.{BusiestCall}
 use Rattle.answers.specs.declared.image.Bag.{Bag}
 use Rattle.answers.specs.declared.image.Bag.the-variants.{Run as BagRun, None, Refused as NoBag}
 use Rattle.image_match.specs.Match.{MatchCall}
-use Rattle.hourlog_c.specs.Public.{End, Ends, Fresh, Freeze, ImageBusiest, ImageCheck, ImageCount, ImageLength, ImageMatch, ImageReach, ImageReading, ImageWrite, Live}
-use Rattle.hourlog_c.specs.Public.{PublicCall, beside, lent, noRun, ofBag, ofCheck, ofImage, ofStore, ofStretch, refusal, theCells, theHours, theNumber, theRun, theSums}
-use Rattle.hourlog_c.specs.ReadBack.{Reads, busiestFirst, busiestSum, checkedHours, checkedTotal, matchedFirst, matchedHours, returned, taken}
+use Rattle.hourlog_c.specs.Public.{Ends, Fresh, Freeze, ImageBusiest, ImageCheck, ImageCount, ImageLength, ImageMatch, ImageReach, ImageReading, ImageWrite, Live}
+use Rattle.words.specs.End.{End}
+use Rattle.hourlog_c.specs.Public.{PublicCall, beside, lent}
+use Rattle.words.specs.End.{noRun, ofBag, ofCheck, ofImage, ofStore, ofStretch, refusal, theCells, theHours, theNumber, theRun, theSums}
+use Rattle.words.specs.ReadBack.{Reads, busiestFirst, busiestSum, checkedHours, checkedTotal, matchedFirst, matchedHours, returned, taken}
 use Rattle.hourlog_c.specs.Export.{Answers}
-use Rattle.hourlog_c.proofs.RefusedTen.{image-refused, store-refused}
+use Rattle.words.proofs.EndLaws.{image-refused, store-refused}
 use Rattle.demands.specs.Demand1.{Among, Gives, Given, Kind, aNumber, cellsMoved, firstAndSum, hoursAndTotal, hoursOrNone, row}
 use Rattle.demands.proofs.Demand1.{demand-1}
 use Rattle.demands.proofs.Slices.{same-second, same-slice}

@@ -24,8 +24,9 @@ use Rattle.store.proofs.Inserting.{sum-struck}
 use Rattle.store.proofs.InsertLaws.{insert-end-bytes, strike-inserted}
 use Rattle.store.proofs.SoundFacts.{facts}
 use Rattle.store.proofs.Whole.{end-pages}
-use Rattle.hourlog_c.specs.Public.{Fresh, Live, ofStore}
-use Rattle.hourlog_c.specs.Words.{minus, pair, wordOf}
+use Rattle.hourlog_c.specs.Public.{Fresh, Live}
+use Rattle.words.specs.End.{ofStore}
+use Rattle.words.specs.Words.{minus, pair, wordOf}
 use Rattle.hourlog_c.specs.Export.{Answers}
 use Rattle.demands.specs.Demand3.{HoldsInWords, Passes, Run, StoreHolds, appends, inserts, listAfter, sets, storeAfter, strikes, wordsOf}
 use Rattle.demands.proofs.Demand3.{demand-3}

@@ -11,9 +11,10 @@ use Rattle.book_out.specs.ToBook.{toCall}
 use Rattle.book_trips.specs.RoundTrips.{Gave}
 use Rattle.book_trips.proofs.Trips.{round-trips}
 use Rattle.book_trips.proofs.Given.{from-long, to-long}
-use Rattle.hourlog_c.specs.Public.{Ends, ImageFromBcd, ImageToBcd, refusal}
+use Rattle.hourlog_c.specs.Public.{Ends, ImageFromBcd, ImageToBcd}
+use Rattle.words.specs.End.{refusal}
 use Rattle.hourlog_c.specs.Export.{Answers}
-use Rattle.hourlog_c.proofs.RefusedTen.{image-refused}
+use Rattle.words.proofs.EndLaws.{image-refused}
 use Rattle.demands.specs.Demand1.{Among, Given, row}
 use Rattle.demands.proofs.Demand1.{demand-1}
 use Rattle.demands.proofs.Sentences1.{image-number, number}

@@ -6,10 +6,12 @@ use mathlib.Core.Path.{_≡_}
 use Prim.Native.Nat.{ℕ, _+_, _^_, _≤_, _<_}
 use Rattle.lists.specs.Lists.{occurrences}
 use Rattle.store.specs.Plain.{Append, Count, Day, Free, Insert, Reach, Reading, Set, Strike}
-use Rattle.hourlog_c.specs.Public.{End, Ends, Fresh, Freeze, ImageBusiest, ImageCheck, ImageCount, ImageFromBcd, ImageLength, ImageMatch, ImageReach, ImageReading}
+use Rattle.hourlog_c.specs.Public.{Ends, Fresh, Freeze, ImageBusiest, ImageCheck, ImageCount, ImageFromBcd, ImageLength, ImageMatch, ImageReach, ImageReading}
+use Rattle.words.specs.End.{End}
 use Rattle.hourlog_c.specs.Public.{ImageToBcd, ImageWrite, Live}
-use Rattle.hourlog_c.specs.Public.{PublicCall, lent, noRun, refusal, theCells, theHours, theNumber, theRun, theSums}
-use Rattle.hourlog_c.specs.ReadBack.{Reads}
+use Rattle.hourlog_c.specs.Public.{PublicCall, lent}
+use Rattle.words.specs.End.{noRun, refusal, theCells, theHours, theNumber, theRun, theSums}
+use Rattle.words.specs.ReadBack.{Reads}
 use Rattle.hourlog_c.specs.Export.{Answers}
 
 -- what a call gives that is not refused: a number, the cells taken and given back, N and S, a run's first hour and its sum, a

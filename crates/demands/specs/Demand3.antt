@@ -17,8 +17,9 @@ use Rattle.store.specs.Reading.{Runs, firstIn, sumIn, chainIn, spareIn, read}
 use Rattle.store.specs.Sound.{sound, isCell}
 use Rattle.store.specs.Call.{call, storeEnd, storeAnswers, freshCall}
 use Rattle.store.specs.Items.{Items}
-use Rattle.hourlog_c.specs.Public.{Fresh, Live, beside, ofStore}
-use Rattle.hourlog_c.specs.Words.{wordOf}
+use Rattle.hourlog_c.specs.Public.{Fresh, Live, beside}
+use Rattle.words.specs.End.{ofStore}
+use Rattle.words.specs.Words.{wordOf}
 use Rattle.hourlog_c.specs.Export.{Answers}
 
 -- a store that fresh made in the buffer b, after a list of calls; and the plain list that was fed the same calls

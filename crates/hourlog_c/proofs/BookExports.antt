@@ -18,11 +18,12 @@ use Rattle.book.specs.Book.{bookOf, decimal, fourDigits, listOfBook}
 use Rattle.book.proofs.BookLaws.{length-book}
 use Rattle.book_in.specs.FromBook.{fromCall}
 use Rattle.book_out.specs.ToBook.{past, putBook, toCall}
-use Rattle.hourlog_c.specs.Public.{ImageFromBcd, ImageToBcd, ofImage}
-use Rattle.hourlog_c.specs.Words.{wordOf}
+use Rattle.hourlog_c.specs.Public.{ImageFromBcd, ImageToBcd}
+use Rattle.words.specs.End.{ofImage}
+use Rattle.words.specs.Words.{wordOf}
 use Rattle.hourlog_c.specs.Export.{Answers}
 use Rattle.hourlog_c.proofs.Exports.{answers, reply-word, small-image}
-use Rattle.hourlog_c.proofs.WordLaws.{Small}
+use Rattle.words.proofs.WordLaws.{Small}
 
 -- ---- every answer is small
 from-small : (e : ℕ) (b out : List ℕ) → Small (ofImage (fromCall e b out .reply))

@@ -28,13 +28,15 @@ use Rattle.image_busiest.specs.Busiest.{BusiestCall}
 use Rattle.image_busiest.proofs.AnswerLaws.{Small as SmallStretch, small-answer}
 use Rattle.image_match.specs.Match.{MatchCall}
 use Rattle.image_match.proofs.AnswerLaws.{Small as SmallBag, small-answer as small-match}
-use Rattle.hourlog_c.specs.Public.{End, Ends, Fresh, Freeze, ImageBusiest, ImageCheck, ImageCount, ImageLength, ImageMatch, ImageReach, ImageReading, ImageWrite, Live}
-use Rattle.hourlog_c.specs.Public.{PublicCall, Ten, beside, ofBag, ofCheck, ofImage, ofStore, ofStretch}
-use Rattle.hourlog_c.specs.Words.{wordOf}
-use Rattle.hourlog_c.specs.ReadBack.{Reads}
+use Rattle.hourlog_c.specs.Public.{Ends, Fresh, Freeze, ImageBusiest, ImageCheck, ImageCount, ImageLength, ImageMatch, ImageReach, ImageReading, ImageWrite, Live}
+use Rattle.words.specs.End.{End}
+use Rattle.hourlog_c.specs.Public.{PublicCall, Ten, beside}
+use Rattle.words.specs.End.{ofBag, ofCheck, ofImage, ofStore, ofStretch}
+use Rattle.words.specs.Words.{wordOf}
+use Rattle.words.specs.ReadBack.{Reads}
 use Rattle.hourlog_c.specs.Export.{Answers, Costs}
 use Rattle.hourlog_c.proofs.RefusedTen.{freeze-ten, live-ten}
-use Rattle.hourlog_c.proofs.WordLaws.{Small, small-reads}
+use Rattle.words.proofs.WordLaws.{Small, small-reads}
 
 -- a small answer, and its word
 pub answers : (c : PublicCall) (w : ℕ) (t : List (List ℕ)) (a : End) → Ends c a t → Ten c a → Small a → w ≡ wordOf a → Answers c w t

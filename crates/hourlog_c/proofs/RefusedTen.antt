@@ -9,7 +9,6 @@ use lib.ListN.{length, getD, drop}
 use lib.Dec.{leb}
 use Rattle.lists.specs.Lists.{pick}
 use Rattle.store.specs.Plain.{Call}
-use Rattle.answers.specs.Store.{Answer, answered, changed, refused as turned}
 use Rattle.store.specs.Call.{call}
 use Rattle.store.specs.Items.{Items}
 use Rattle.store.specs.Reading.{listIn}
@@ -22,19 +21,9 @@ use Rattle.answers.specs.Image.{Reply, given, refused}
 use Rattle.freeze.specs.Freeze.{freezeCall}
 use Rattle.freeze.proofs.Freezing.{freeze-10, freeze-sound, only-page-size}
 use Rattle.hourlog_c.specs.Public.{Freeze, Live}
-use Rattle.hourlog_c.specs.Public.{Ten, ofImage, ofStore, refusal}
-
--- ---- an answer is told as a refusal exactly where it is one
-pub store-refused : (a : Answer) (k : ℕ) → (ofStore a ≡ refusal k) ↔ (a ≡ turned k)
-unfolding ofStore
-store-refused (changed t r) k = (λ e. cc, λ e. cc)
-store-refused (answered n) k = (λ e. cc, λ e. cc)
-store-refused (turned j) k = (λ e. cc, λ e. cc)
-
-pub image-refused : (r : Reply) (k : ℕ) → (ofImage r ≡ refusal k) ↔ (r ≡ refused k)
-unfolding ofImage
-image-refused (given n) k = (λ e. cc, λ e. cc)
-image-refused (refused j) k = (λ e. cc, λ e. cc)
+use Rattle.hourlog_c.specs.Public.{Ten}
+use Rattle.words.specs.End.{ofImage, ofStore}
+use Rattle.words.proofs.EndLaws.{image-refused, store-refused}
 
 -- ---- refused 10 exactly where a clause of soundness does not hold: what is lent is bytes, each below 256
 items-exactly : (s : List ℕ) → ((j : ℕ) → getD s j 0 < 256) → (sound s ≡ false) ↔ (Items s → ⊥)

@@ -3,9 +3,10 @@ use mathlib.Core.List.{List}
 use mathlib.Core.Path.{_≡_}
 use Prim.Native.Nat.{ℕ, _≤_}
 use Rattle.coin_cost.specs.Cost.{cellsFor}
-use Rattle.hourlog_c.specs.Public.{End, Ends, PublicCall, Ten}
-use Rattle.hourlog_c.specs.Words.{wordOf}
-use Rattle.hourlog_c.specs.ReadBack.{Above, Reads, taken}
+use Rattle.hourlog_c.specs.Public.{Ends, PublicCall, Ten}
+use Rattle.words.specs.End.{End}
+use Rattle.words.specs.Words.{wordOf}
+use Rattle.words.specs.ReadBack.{Above, Reads, taken}
 
 -- The call c answers the word w, and the slices that it was lent are afterwards t: those of an answer that the call may end in. C reads
 -- this answer in the word, so nothing is lost modulo 2^64, whatever bytes and numbers the call was given

@@ -1,5 +1,3 @@
 -- Definitions of the crate.
 pub mod Public
-pub mod Words
-pub mod ReadBack
 pub mod Export

@@ -5,10 +5,9 @@ use mathlib.Core.Logic.{_↔_}
 use mathlib.Core.Path.{_≡_}
 use Prim.Native.Nat.{ℕ}
 use Rattle.store.specs.Plain.{Append, Call, Count, Day, Free, Insert, Reach as ReachOf, Reading, Set, Strike}
-use Rattle.answers.specs.Store.{Answer, answered, changed, refused as turned}
 use Rattle.store.specs.Call.{call, freshCall}
 use Rattle.store.specs.Items.{Items}
-use Rattle.answers.specs.Image.{Reply, given, refused, Verdict, fails, holds}
+use Rattle.answers.specs.Image.{Reply}
 use Rattle.image.specs.Check.{check}
 use Rattle.image.specs.Calls.{lengthCall, writeCall}
 use Rattle.image.specs.Query.{count, reading}
@@ -17,11 +16,10 @@ use Rattle.image_busiest.specs.Busiest.{BusiestCall}
 use Rattle.image_match.specs.Match.{MatchCall}
 use Rattle.freeze.specs.Freeze.{freezeCall}
 use Rattle.answers.specs.declared.image.Stretch.{Stretch}
-use Rattle.answers.specs.declared.image.Stretch.the-variants.{Run, Refused as NoStretch}
 use Rattle.book_in.specs.FromBook.{fromCall}
 use Rattle.book_out.specs.ToBook.{toCall}
 use Rattle.answers.specs.declared.image.Bag.{Bag}
-use Rattle.answers.specs.declared.image.Bag.the-variants.{Run as BagRun, None, Refused as NoBag}
+use Rattle.words.specs.End.{End, ofBag, ofCheck, ofImage, ofStore, ofStretch, refusal}
 
 -- a public call with its numbers and with the slices that it is lent; the live calls are nine
 pub data PublicCall : Type 0 where
@@ -66,39 +64,6 @@ lent (ImageBusiest i k) = i ∷ []
 lent (ImageFromBcd b e i) = b ∷ i ∷ []
 lent (ImageToBcd i b) = i ∷ b ∷ []
 lent (ImageMatch i q) = i ∷ []
-
--- what a call ends in: the number asked for, the cells taken and given back, N and S, a run's first hour and its sum, a run's first hour and
--- its hours, no run, or 'a refusal is its number alone'
-pub data End : Type 0 where
-  theNumber : ℕ → End
-  theCells : (taken returned : ℕ) → End
-  theSums : (hours total : ℕ) → End
-  theRun : (first total : ℕ) → End
-  theHours : (first hours : ℕ) → End
-  noRun : End
-  refusal : ℕ → End
-
-unfoldable pub ofStore : Answer → End
-ofStore (changed t r) = theCells t r
-ofStore (answered n) = theNumber n
-ofStore (turned k) = refusal k
-
-unfoldable pub ofImage : Reply → End
-ofImage (given n) = theNumber n
-ofImage (refused k) = refusal k
-
-unfoldable pub ofCheck : Verdict → End
-ofCheck (holds n s) = theSums n s
-ofCheck (fails k) = refusal k
-
-unfoldable pub ofStretch : Stretch → End
-ofStretch (Run f s) = theRun f s
-ofStretch (NoStretch k) = refusal k
-
-unfoldable pub ofBag : Bag → End
-ofBag (BagRun f n) = theHours f n
-ofBag None = noRun
-ofBag (NoBag k) = refusal k
 
 -- The call may end in the answer a, and what it was lent is afterwards t. Reach alone may end in one of several answers; a call on runs of
 -- hours has one, though its definition speaks of all runs and computes none

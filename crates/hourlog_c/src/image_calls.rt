@@ -1,8 +1,8 @@
 // The frozen image, for C. Each contract states what every lent slice is afterwards, also of those that are lent to read only.
-use crate::word::of_bag;
-use crate::word::of_check;
-use crate::word::of_image;
-use crate::word::of_stretch;
+use words::of_bag;
+use words::of_check;
+use words::of_image;
+use words::of_stretch;
 ghost use mathlib.Core.List.{[], _∷_};
 ghost use Rattle.hourlog_c.specs.Public.{Freeze, ImageBusiest, ImageCheck, ImageCount, ImageFromBcd, ImageLength, ImageMatch, ImageReach};
 ghost use Rattle.hourlog_c.specs.Public.{ImageReading, ImageToBcd, ImageWrite};

@@ -1,5 +1,5 @@
 // The live store, for C.
-use crate::word::of_store;
+use words::of_store;
 ghost use mathlib.Core.List.{[], _∷_};
 ghost use Rattle.store.specs.Plain.{Append, Set, Insert, Strike, Count, Reading, Reach, Day, Free};
 ghost use Rattle.store.specs.Reading.{listIn};

@@ -1,11 +1,11 @@
--- `hourlog_c::word::of_check` meets its contract. Assumes nothing.
+-- `words::of_check` meets its contract. Assumes nothing.
 use mathlib.Core.Path.{sym, ap, _∙_}
 use Rattle.answers.specs.Image.{ruled}
-use Rattle.hourlog_c.specs.Public.{ofCheck}
-use Rattle.hourlog_c.specs.Words.{wordOf}
+use Rattle.words.specs.End.{ofCheck}
+use Rattle.words.specs.Words.{wordOf}
 use borrow.Author.Needs.{needs}
-use Rattle.hourlog_c.proofs.word.of_check.Statement.{statement}
-use Rattle.hourlog_c.proofs.word.of_check.Tie as tie
+use Rattle.words.proofs.of_check.Statement.{statement}
+use Rattle.words.proofs.of_check.Tie as tie
 
 enum-known-v : tie.Need-enum-known-v
 enum-known-v c = search needs

@@ -1,7 +1,7 @@
 -- The words that C gets: 64 bits, read as a signed number. Zero or above is the answer, below zero is minus the refusal's number.
 -- Assumes nothing.
 use Prim.Native.Nat.{ℕ, _+_, _-_, _*_, _%_, _^_}
-use Rattle.hourlog_c.specs.Public.{End, noRun, refusal, theCells, theHours, theNumber, theRun, theSums}
+use Rattle.words.specs.End.{End, noRun, refusal, theCells, theHours, theNumber, theRun, theSums}
 
 -- minus k, in 64 bits
 unfoldable pub minus : ℕ → ℕ

@@ -5,8 +5,8 @@ ghost use mathlib.Core.Path.{_≡_};
 ghost use Prim.Native.Nat.{_<_};
 ghost use Rattle.answers.specs.Store.{told};
 ghost use Rattle.answers.specs.Image.{told as replied, ruled};
-ghost use Rattle.hourlog_c.specs.Public.{ofBag, ofCheck, ofImage, ofStore, ofStretch};
-ghost use Rattle.hourlog_c.specs.Words.{minus as minusWord, pair as pairWord, wordOf};
+ghost use Rattle.words.specs.End.{ofBag, ofCheck, ofImage, ofStore, ofStretch};
+ghost use Rattle.words.specs.Words.{minus as minusWord, pair as pairWord, wordOf};
 
 fn minus(k: u32) -> u64
     ensures { λ r. ⌜ r ≡ minusWord k ⌝ }
@@ -21,7 +21,7 @@ fn pair(k: u32, a: u64, b: u64) -> u64
     wrapping_add_u64(a, b << k)
 }
 
-pub(crate) fn of_store(a: answers::store::Answer) -> u64
+pub fn of_store(a: answers::store::Answer) -> u64
     ensures { λ r. ⌜ r ≡ wordOf (ofStore (told a)) ⌝ }
 {
     match a {
@@ -31,7 +31,7 @@ pub(crate) fn of_store(a: answers::store::Answer) -> u64
     }
 }
 
-pub(crate) fn of_image(a: answers::image::Answer) -> u64
+pub fn of_image(a: answers::image::Answer) -> u64
     ensures { λ r. ⌜ r ≡ wordOf (ofImage (replied a)) ⌝ }
 {
     match a {
@@ -40,7 +40,7 @@ pub(crate) fn of_image(a: answers::image::Answer) -> u64
     }
 }
 
-pub(crate) fn of_check(v: answers::image::Verdict) -> u64
+pub fn of_check(v: answers::image::Verdict) -> u64
     ensures { λ r. ⌜ r ≡ wordOf (ofCheck (ruled v)) ⌝ }
 {
     match v {
@@ -49,7 +49,7 @@ pub(crate) fn of_check(v: answers::image::Verdict) -> u64
     }
 }
 
-pub(crate) fn of_stretch(a: answers::image::Stretch) -> u64
+pub fn of_stretch(a: answers::image::Stretch) -> u64
     ensures { λ r. ⌜ r ≡ wordOf (ofStretch a) ⌝ }
 {
     match a {
@@ -58,7 +58,7 @@ pub(crate) fn of_stretch(a: answers::image::Stretch) -> u64
     }
 }
 
-pub(crate) fn of_bag(a: answers::image::Bag) -> u64
+pub fn of_bag(a: answers::image::Bag) -> u64
     ensures { λ r. ⌜ r ≡ wordOf (ofBag a) ⌝ }
 {
     match a {

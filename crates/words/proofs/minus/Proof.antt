@@ -1,8 +1,8 @@
--- `hourlog_c::word::minus` meets its contract. Assumes nothing.
-use Rattle.hourlog_c.proofs.WordLaws.{minus-is}
+-- `words::minus` meets its contract. Assumes nothing.
+use Rattle.words.proofs.WordLaws.{minus-is}
 use borrow.Author.Needs.{needs}
-use Rattle.hourlog_c.proofs.word.minus.Statement.{statement}
-use Rattle.hourlog_c.proofs.word.minus.Tie as tie
+use Rattle.words.proofs.minus.Statement.{statement}
+use Rattle.words.proofs.minus.Tie as tie
 
 wrapping-sub-u64-requires : tie.Need-wrapping-sub-u64-requires
 wrapping-sub-u64-requires c κs = search needs

@@ -1,10 +1,10 @@
--- `hourlog_c::word::of_bag` meets its contract. Assumes nothing.
+-- `words::of_bag` meets its contract. Assumes nothing.
 use mathlib.Core.Path.{sym, ap, _∙_}
-use Rattle.hourlog_c.specs.Public.{ofBag}
-use Rattle.hourlog_c.specs.Words.{wordOf}
+use Rattle.words.specs.End.{ofBag}
+use Rattle.words.specs.Words.{wordOf}
 use borrow.Author.Needs.{needs}
-use Rattle.hourlog_c.proofs.word.of_bag.Statement.{statement}
-use Rattle.hourlog_c.proofs.word.of_bag.Tie as tie
+use Rattle.words.proofs.of_bag.Statement.{statement}
+use Rattle.words.proofs.of_bag.Tie as tie
 
 enum-known-a : tie.Need-enum-known-a
 enum-known-a c = search needs

@@ -1,8 +1,8 @@
--- `hourlog_c::word::pair` meets its contract. Assumes nothing.
-use Rattle.hourlog_c.proofs.WordLaws.{pair-is}
+-- `words::pair` meets its contract. Assumes nothing.
+use Rattle.words.proofs.WordLaws.{pair-is}
 use borrow.Author.Needs.{needs}
-use Rattle.hourlog_c.proofs.word.pair.Statement.{statement}
-use Rattle.hourlog_c.proofs.word.pair.Tie as tie
+use Rattle.words.proofs.pair.Statement.{statement}
+use Rattle.words.proofs.pair.Tie as tie
 
 shl-wrapping-add-u64 : tie.Need-shl-wrapping-add-u64
 shl-wrapping-add-u64 c = search needs

@@ -1,7 +1,7 @@
 -- What C reads in a word, by the functions of include/hourlog.h. Assumes nothing.
 use mathlib.Core.Path.{_≡_}
 use Prim.Native.Nat.{ℕ, _-_, _/_, _%_, _^_, _≤_, _<_}
-use Rattle.hourlog_c.specs.Public.{End, noRun, refusal, theCells, theHours, theNumber, theRun, theSums}
+use Rattle.words.specs.End.{End, noRun, refusal, theCells, theHours, theNumber, theRun, theSums}
 
 -- as a signed number of 64 bits: zero or above; or below zero, and then minus k
 abbrev pub Above : ℕ → Type 0

@@ -1,0 +1,4 @@
+-- Definitions of the crate.
+pub mod End
+pub mod Words
+pub mod ReadBack
