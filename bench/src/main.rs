@@ -11,38 +11,42 @@ mod timing;
 
 use contender::Contender;
 use data::Kind;
+use std::collections::HashMap;
 use tasks::Task;
 
 fn main() {
     let contenders = contender::all();
     println!(
-        "{:<32} {:>9} {:>9} {:>9}   {:>9} {:>9}",
+        "{:<38} {:>9} {:>9} {:>9}   {:>9} {:>9}",
         "", "library", "straight", "fast", "lib/strai", "lib/fast"
     );
     for kind in Kind::ALL {
         let counts = data::counts(kind);
-        for task in tasks::over_image(&counts) {
-            measure(&contenders, kind.name(), task);
-        }
+        measure_all(&contenders, kind.name(), tasks::over_image(&counts));
     }
     for pages in [16, 64, 256, 1_024] {
-        measure(&contenders, &format!("{pages} pages"), tasks::append(pages));
+        let on = format!("{pages} pages");
+        measure_all(&contenders, &on, vec![tasks::append(pages)]);
     }
-    for task in tasks::freezes(1_024) {
-        measure(&contenders, "1024 pages", task);
-    }
-    for task in tasks::moves(1_024) {
-        measure(&contenders, "1024 pages", task);
-    }
+    measure_all(&contenders, "1024 pages", tasks::freezes(1_024));
+    measure_all(&contenders, "1024 pages", tasks::moves(1_024));
 }
 
-/// Times one task for each contender and prints a row of the table.
-fn measure(contenders: &[Contender; 3], on: &str, mut task: Task) {
-    let [library, straightforward, fast] = timing::best_of_many(contenders, &mut task);
-    println!(
-        "{:<32} {library:>9.2} {straightforward:>9.2} {fast:>9.2}   {:>9.2} {:>9.2}",
-        format!("{} {on}, {}", task.name, task.unit),
-        library / straightforward,
-        library / fast
-    );
+/// Times each task for each contender and prints a row of the table; behind it
+/// the library's time to that of the task that it is set beside.
+fn measure_all(contenders: &[Contender; 3], on: &str, tasks: Vec<Task>) {
+    let mut times = HashMap::new();
+    for mut task in tasks {
+        let [library, straightforward, fast] = timing::best_of_many(contenders, &mut task);
+        times.insert(task.name, library);
+        let beside = task.beside.map_or(String::new(), |other| {
+            format!("   {:.2} times {other}", library / times[other])
+        });
+        println!(
+            "{:<38} {library:>9.2} {straightforward:>9.2} {fast:>9.2}   {:>9.2} {:>9.2}{beside}",
+            format!("{} {on}, {}", task.name, task.unit),
+            library / straightforward,
+            library / fast
+        );
+    }
 }

@@ -25,6 +25,17 @@ pub struct Task {
     pub start: Vec<u8>,
     /// Works on the bytes; the number stands for all its answers.
     pub work: Work,
+    /// The task on the same input whose time is to be set beside its own.
+    pub beside: Option<&'static str>,
+}
+
+impl Task {
+    fn beside(self, other: &'static str) -> Task {
+        Task {
+            beside: Some(other),
+            ..self
+        }
+    }
 }
 
 /// Each image call over the image of some counts.
@@ -48,12 +59,11 @@ pub fn over_image(counts: &[u32]) -> Vec<Task> {
             (by.write)(&written, E, bytes)
         }),
         whole("check", &image, |by, bytes| (by.check)(bytes)),
-        whole("busiest day", &image, |by, bytes| {
-            (by.busiest)(bytes, DAY)
-        }),
+        whole("busiest day", &image, |by, bytes| (by.busiest)(bytes, DAY)).beside("check"),
         whole("busiest year", &image, |by, bytes| {
             (by.busiest)(bytes, YEAR)
-        }),
+        })
+        .beside("check"),
     ];
     tasks.extend(matches(counts));
     tasks.extend(books(counts));
@@ -67,16 +77,21 @@ fn image_of(counts: &[u32]) -> Vec<u8> {
 }
 
 /// The last count alone is odd: a bag of as many coins is found there and
-/// nowhere else, an odd one of less coins nowhere.
+/// nowhere else, an odd one of less coins nowhere. Nor is a tenth of all coins,
+/// made odd: a bag of many hours.
 fn matches(counts: &[u32]) -> Vec<Task> {
     let mut counts: Vec<u32> = counts.iter().map(|count| count & !1).collect();
     *counts.last_mut().expect("hours") = 1_001;
     let image = image_of(&counts);
+    let tenth = counts.iter().map(|&count| u64::from(count)).sum::<u64>() / 10;
+    let matching = |name, figure: u64| {
+        whole(name, &image, move |by, bytes| (by.matched)(bytes, figure)).beside("check of bags")
+    };
     vec![
-        whole("match at end", &image, |by, bytes| {
-            (by.matched)(bytes, 1_001)
-        }),
-        whole("match none", &image, |by, bytes| (by.matched)(bytes, 999)),
+        whole("check of bags", &image, |by, bytes| (by.check)(bytes)),
+        matching("match at end", 1_001),
+        matching("match none", 999),
+        matching("match none of many", (tenth | 1) - 2),
     ]
 }
 
@@ -88,12 +103,18 @@ fn books(counts: &[u32]) -> Vec<Task> {
     rival::books::from_image::<rival::Fast>(&image, &mut book);
     let (no_image, no_book) = (vec![0xFF; image.len()], vec![0xFF; book.len()]);
     vec![
+        whole("write of books", &no_image, move |by, bytes| {
+            (by.write)(&counts, E, bytes)
+        }),
         whole("from book", &no_image, move |by, bytes| {
             (by.from_book)(&book, E, bytes)
-        }),
+        })
+        .beside("write of books"),
+        whole("check of books", &image, |by, bytes| (by.check)(bytes)),
         whole("to book", &no_book, move |by, bytes| {
             (by.to_book)(&image, bytes)
-        }),
+        })
+        .beside("check of books"),
     ]
 }
 
@@ -152,6 +173,7 @@ fn over_store(
         rounds: 600,
         start,
         work: Box::new(work),
+        beside: None,
     }
 }
 
@@ -187,6 +209,7 @@ fn asking(
         rounds: 250,
         start: image.to_vec(),
         work: Box::new(work),
+        beside: None,
     }
 }
 

@@ -85,6 +85,32 @@ struct Four {
 const ONE_LOAD: u32 = 19;
 
 impl Four {
+    /// Out of a word with the tree's first bit as its highest: three times the
+    /// digits of `s` are 57 at most, and the tree is exact.
+    #[inline(always)]
+    fn of_word(word: u64, s: u64) -> Four {
+        let t = digits(s);
+        let l = first_bits(word, t);
+        let left = word << t;
+        let left_t = digits(l);
+        Four {
+            s,
+            l,
+            left_l: first_bits(left, left_t),
+            right_l: first_bits(left << left_t, digits(s - l)),
+            left_over: 0,
+        }
+    }
+
+    /// The four counts.
+    #[inline(always)]
+    fn put(&self, counts: &mut [u32]) {
+        counts[0] = self.left_l as u32;
+        counts[1] = (self.l - self.left_l) as u32;
+        counts[2] = self.right_l as u32;
+        counts[3] = (self.s - self.l - self.right_l) as u32;
+    }
+
     /// `None` at a left sum above its node at the root.
     #[inline(always)]
     fn at(bytes: &[u8], at: usize, s: u64, own: usize) -> Option<Four> {
@@ -148,18 +174,31 @@ fn exact_node(bytes: &[u8], mut at: usize, mut h: u32, mut s: u64, mut own: usiz
     Four::at(bytes, at, s, own).is_some_and(|four| four.is_exact())
 }
 
+/// Eight counts with a smaller sum have 38 bits at most.
+const EIGHT_IN_A_WORD: u64 = 64;
+
+/// Takes eight counts out of one word.
+#[inline(always)]
+fn read_eight(word: u64, s: u64, counts: &mut [u32]) {
+    let t = digits(s);
+    let l = first_bits(word, t);
+    let (left, right) = counts.split_at_mut(4);
+    let word = word << t;
+    Four::of_word(word, l).put(left);
+    Four::of_word(word << Fast::reserve(2, l), s - l).put(right);
+}
+
 /// Takes the counts out of an exact node with h ≥ 2 and these own bits.
 fn read_node(bytes: &[u8], at: usize, s: u64, own: usize, counts: &mut [u32]) {
     if s == 0 {
         return counts.fill(0);
     }
-    if let [a, b, c, d] = counts {
+    if counts.len() == 4 {
         let four = Four::at(bytes, at, s, own).expect("the node is exact");
-        *a = four.left_l as u32;
-        *b = (four.l - four.left_l) as u32;
-        *c = four.right_l as u32;
-        *d = (s - four.l - four.right_l) as u32;
-        return;
+        return four.put(counts);
+    }
+    if counts.len() == 8 && s < EIGHT_IN_A_WORD {
+        return read_eight(bits_from(bytes, at), s, counts);
     }
     let node = halves(at, counts.len().ilog2(), s, get(bytes, at, digits(s)));
     let (left, right) = counts.split_at_mut(counts.len() / 2);

@@ -262,6 +262,16 @@ impl<'a> Image<'a> {
                 .is_ok_and(|found| found.before + found.count == self.total)
     }
 
+    pub fn page_hours(&self) -> usize {
+        1 << self.e
+    }
+
+    /// The coins of the page at an hour of an accepted image.
+    pub fn page_sum<C: Code>(&self, hour: usize) -> u64 {
+        let page = self.page::<C>(hour >> self.e);
+        page.expect("an accepted image").sum
+    }
+
     /// The counts of the page at an hour of an accepted image.
     #[inline(always)]
     pub fn read_page<C: Code>(&self, hour: usize, counts: &mut [u32; LARGEST_PAGE]) -> usize {
