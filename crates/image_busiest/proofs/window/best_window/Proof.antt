@@ -32,12 +32,12 @@ read-page-requires-2 c κs = search needs
 first-sum-requires : tie.Need-first-sum-requires Inv-loop μ-loop
 first-sum-requires c κs =
     let a = c .before .before .before .before .before .before .before in
-    (a .pre .0, omega (arith, a .pre .2, hours _ (a .pre .0) (a .pre .1)))
+    a .pre
 
 loop-holds : tie.Need-loop-holds Inv-loop μ-loop
 loop-holds c =
     let a = c .before .before .before .before .before .before .before .before in (
-      looked-first _ (a .pre .0) (a .pre .1) (a .args .k) _ (a .pre .2) (c .first-sum .ensures),
+      looked-first _ (a .pre .0) (a .pre .1) (a .args .k) _ (a .pre .3) (c .first-sum .ensures),
       rw zero-add (c .before .before .before .before .before .read-page .ensures),
       c .before .before .read-page2 .ensures,
     )
