@@ -2,6 +2,7 @@
 use bits_word::low_bits;
 use image::head::Head;
 use image_cursor::cursor::ahead;
+use image_cursor::cursor::follow;
 use image_cursor::cursor::read_page;
 use image_cursor::cursor::turn;
 use image_query::look;
@@ -99,8 +100,10 @@ pub(crate) fn best_window(s: &[u8], h: Head, k: u64) -> Window
     while at.first + k < h.hours {
         let n = stride(h, k, at.first);
         let next = slide(s, h, k, at, n, &front, &back);
-        turn(s, h, at.first + k, n as u64, &mut front);
-        turn(s, h, at.first, n as u64, &mut back);
+        let end = at.first + k;
+        // Before the front's turn: where k is no more than a page, the back's next page is the front's.
+        follow(s, h, at.first, n as u64, &mut back, &front, end);
+        turn(s, h, end, n as u64, &mut front);
         at = next;
     }
     at
