@@ -1,33 +1,37 @@
--- The sum of the first hours of an accepted image, by its reading. Assumes nothing.
+-- The sum of the first hours of an accepted image, by the way to the last of them. Assumes nothing.
 use mathlib.Core.Bool.{true}
 use mathlib.Core.List.{List}
-use mathlib.Core.Path.{_≡_, sym, ap, _∙_}
-use Prim.Native.Nat.{ℕ, _≤_}
+use mathlib.Core.Path.{_≡_, ap, _∙_}
+use Prim.Native.Nat.{ℕ, _+_, _-_, _≤_, _<_}
 use native.Mathlib.Omega.{arith}
-use lib.ListN.{length}
-use borrow.Author.Tests.{le-ltb}
-use Rattle.answers.specs.Image.{given, refused}
-use Rattle.lists.specs.Lists.{pick, reading as readingOf}
+use lib.ListN.{length, getD}
+use Rattle.lists.specs.Lists.{reading}
+use Rattle.tree.specs.Read.{found}
+use Rattle.tree_walk.specs.Code.Answers.{walkAnswer}
 use Rattle.image.specs.Check.{accepted}
-use Rattle.image.specs.Query.{reading, readingAt}
-use Rattle.image.specs.Read.{eOf, listOf, nOf}
+use Rattle.image.specs.Code.Head.{HeadOf, Opened}
+use Rattle.image.specs.Query.{look}
+use Rattle.image.specs.Read.{eOf, listOf}
+use Rattle.image.specs.declared.head.Head.{Head}
 use Rattle.image.proofs.Accepted.{accepted-only, length-list}
-use Rattle.image.proofs.QueryLaws.{reading-at}
+use Rattle.image.proofs.QueryLaws.{look-is}
 use Rattle.image_cursor.proofs.AccessLaws.{past-5}
 use Rattle.runs.specs.Runs.{runSum}
+use Rattle.runs.proofs.PrefixSums.{reading-next}
 
-module _ (s : List ℕ) (a : accepted s ≡ true) (k : ℕ) (l : k ≤ length (listOf s)) where
-  reading-is : reading s k ≡ given (readingOf (listOf s) k)
-  unfolding reading pick
-  reading-is =
-      rw (past-5 s a, le-ltb (nOf s) k (omega (arith, length-list s)))
-      (ap (λ (z : List ℕ). readingAt z k) (accepted-only s a .bytes) ∙ reading-at (eOf s) (listOf s) (accepted-only s a .limits) k l)
+module _ (s : List ℕ) (a : accepted s ≡ true) {h : Head} (o : HeadOf s h) where
+  pub opened : Opened s h
+  opened = record { head = o; passed = past-5 s a }
 
-  pub reading-first : (n : ℕ) → reading s k ≡ given n → n ≡ runSum (listOf s) 0 k
-  reading-first n e = let q : given n ≡ given (readingOf (listOf s) k) = sym e ∙ reading-is in cc
+  -- the way finds the reading at the hour and its count
+  look-finds : (i : ℕ) → i < length (listOf s) → look s i ≡ found (reading (listOf s) i) (getD (listOf s) i 0)
+  look-finds i l = ap (λ (z : List ℕ). look z i) (accepted-only s a .bytes) ∙ look-is (eOf s) (listOf s) (accepted-only s a .limits) i l
 
-  pub reading-not : (j : ℕ) → reading s k ≡ refused j → ⊥
-  reading-not j e =
-      let q : refused j ≡ given (readingOf (listOf s) k) = sym e ∙ reading-is in
-      let z : _≡_ {A = ℕ} 0 1 = cc in
-      omega arith
+  to-last : (k r : ℕ) → k < length (listOf s) → r ≡ walkAnswer 0 1 (look s k) → r ≡ runSum (listOf s) 0 (k + 1)
+  unfolding walkAnswer
+  to-last k r l e = e ∙ ap (walkAnswer 0 1) (look-finds k l) ∙ omega (arith, reading-next (listOf s) k l)
+
+  pub first-sum-is : (k r : ℕ) → 1 ≤ k → k ≤ h .hours → r ≡ walkAnswer 0 1 (look s (k - 1)) → r ≡ runSum (listOf s) 0 k
+  first-sum-is k r g l e =
+      let z : k - 1 + 1 ≡ k = omega arith in
+      to-last (k - 1) r (omega (arith, length-list s, o .hours-is)) e ∙ ap (runSum (listOf s) 0) z

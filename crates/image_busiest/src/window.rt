@@ -1,15 +1,15 @@
 // A window of k hours, moved along the hours of an accepted image, so many hours at a time that neither end leaves its page.
-use answers::image::Answer;
 use bits_word::low_bits;
 use image::head::Head;
 use image_cursor::cursor::ahead;
+use image_cursor::cursor::follow;
 use image_cursor::cursor::read_page;
 use image_cursor::cursor::turn;
+use image_query::look;
 use lists::smaller;
 ghost use mathlib.Core.Bool.{true};
 ghost use mathlib.Core.Path.{_≡_};
 ghost use Prim.Native.Nat.{_+_, _^_, _≤_, _<_};
-ghost use lib.ListN.{length};
 ghost use Rattle.image.specs.Check.{accepted};
 ghost use Rattle.image.specs.Code.Head.{HeadOf};
 ghost use Rattle.image.specs.Read.{listOf};
@@ -73,27 +73,24 @@ fn slide(s: &[u8], h: Head, k: u64, at: Window, n: usize, front: &[u32], back: &
     w
 }
 
-// The sum of the first k hours, which is the reading at k: an accepted image refuses it nowhere.
-fn first_sum(s: &[u8], k: u64) -> u64
-    requires { ⌜ (accepted (now s) ≡ true) × (k ≤ length (listOf (now s))) ⌝ }
+// The sum of the first k hours, which the way to the last of them finds: an accepted image has no damage there.
+fn first_sum(s: &[u8], h: Head, k: u64) -> u64
+    requires { ⌜ (accepted (now s) ≡ true) × HeadOf (now s) h × (1 ≤ k) × (k ≤ h .hours) ⌝ }
     ensures { λ r. ⌜ r ≡ runSum (listOf (now (s .entry))) 0 k ⌝ }
 {
-    match image_query::reading(s, k) {
-        Answer::Number(sum) => sum,
-        Answer::Refused(_) => 0,
-    }
+    look(s, h, k - 1, 1)
 }
 
 // The busiest window of k hours.
 pub(crate) fn best_window(s: &[u8], h: Head, k: u64) -> Window
-    requires { ⌜ (accepted (now s) ≡ true) × HeadOf (now s) h × (k ≤ h .hours) ⌝ }
+    requires { ⌜ (accepted (now s) ≡ true) × HeadOf (now s) h × (1 ≤ k) × (k ≤ h .hours) ⌝ }
     ensures { λ r. ⌜ Busiest (listOf (now (s .entry))) k (r .best) (r .most) ⌝ }
 {
     let mut front = [0u32; 256];
     let mut back = [0u32; 256];
     read_page(s, h, k, &mut front);
     read_page(s, h, 0, &mut back);
-    let sum = first_sum(s, k);
+    let sum = first_sum(s, h, k);
     let mut at = Window {
         first: 0,
         sum,
@@ -103,8 +100,10 @@ pub(crate) fn best_window(s: &[u8], h: Head, k: u64) -> Window
     while at.first + k < h.hours {
         let n = stride(h, k, at.first);
         let next = slide(s, h, k, at, n, &front, &back);
-        turn(s, h, at.first + k, n as u64, &mut front);
-        turn(s, h, at.first, n as u64, &mut back);
+        let end = at.first + k;
+        // Before the front's turn: where k is no more than a page, the back's next page is the front's.
+        follow(s, h, at.first, n as u64, &mut back, &front, end);
+        turn(s, h, end, n as u64, &mut front);
         at = next;
     }
     at

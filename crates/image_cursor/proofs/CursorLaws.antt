@@ -1,14 +1,15 @@
 -- Laws of a page of an image held in an array, hour after hour. Assumes nothing.
 use mathlib.Core.Bool.{true}
-use mathlib.Core.List.{List, _++_}
-use mathlib.Core.Path.{_≡_, ap, sym, _∙_}
+use mathlib.Core.List.{List, [], _∷_, _++_}
+use mathlib.Core.Path.{_≡_, ap, ap₂, sym, _∙_}
 use Prim.Native.Nat.{ℕ, _+_, _-_, _*_, _/_, _%_, _^_, _≤_, _<_, min}
 use native.Mathlib.Nat.{lt-of-mul-lt-mul-left}
 use native.Mathlib.Decide.{ℕ-discrete, decLe}
+use native.Mathlib.Numerals.{add-one}
 use native.Mathlib.Omega.{arith}
-use lib.ListN.{length, getD, take, drop, replicate, length-replicate}
+use lib.ListN.{length, getD, take, drop, set, length-set}
 use lib.Pow.{pow-mono, pow-pos}
-use lib.Seq.{getD-take, take-at}
+use lib.Seq.{getD-set-same, getD-take, take-at, take-set-le, take-suc}
 use Rattle.lists.specs.Lists.{splice}
 use Rattle.lists.proofs.Parts.{length-splice}
 use Rattle.image.specs.Check.{accepted}
@@ -69,6 +70,15 @@ stays s i n c f l h r = record {
   page-is = λ g. r .page-is h ∙ ap (page (eOf s) (listOf s)) (same-page (eOf s) i n f l);
 }
 
+-- one count more copied out of another array
+pub copied-next : (c d : List ℕ) (i : ℕ) → i < length c → i < length d → take i c ≡ take i d → take (i + 1) (set c i (getD d i 0)) ≡ take (i + 1) d
+copied-next c d i l k e =
+    let x : ℕ = getD d i 0 in
+    rw add-one
+    (take-suc (set c i x) i 0 (omega (arith, length-set c i x, l))
+    ∙ ap₂ (λ (p : List ℕ) (y : ℕ). p ++ y ∷ []) (take-set-le i c i x (omega arith) ∙ e) (getD-set-same c i x 0 l)
+    ∙ sym (take-suc d i 0 k))
+
 above : (k : ℕ) → (k ≡ 0 → ⊥) → 1 ≤ k
 above k n = omega arith
 
@@ -91,6 +101,17 @@ module _ (s : List ℕ) {h : Head} (o : HeadOf s h) where
       go (yes l) = ready-end (i + n) c (omega arith) (r .long)
       go (no l) =
           stays s i n c (rw (o .e-is) at g) (rw (q ∙ ap (λ (z : ℕ). (i + n) % 2 ^ z) (o .e-is)) at (above j f)) (omega (arith, o .hours-is)) r
+
+  -- the page of hour j, which is that of hour i, was copied
+  pub ready-copied : (i j m : ℕ) (c d : List ℕ) → i / 2 ^ h .e ≡ j / 2 ^ h .e → j < h .hours → m ≡ 2 ^ h .e → Ready s j c
+      → length d ≡ 256 → take m d ≡ take m c → Ready s i d
+  ready-copied i j m c d q l k r f e =
+      let z : m ≡ 2 ^ eOf s = k ∙ ap (λ (y : ℕ). 2 ^ y) (o .e-is) in
+      let p : j / 2 ^ eOf s ≡ i / 2 ^ eOf s = sym (rw (o .e-is) at q) in
+      record {
+        long = f;
+        page-is = λ g. (rw z at e) ∙ r .page-is (omega (arith, o .hours-is)) ∙ ap (page (eOf s) (listOf s)) p;
+      }
 
   pub small : accepted s ≡ true → h .e ≤ 8
   small a = omega (arith, o .e-is, low s a)

@@ -7,7 +7,7 @@ use reserve::power;
 ghost use mathlib.Core.Bool.{true};
 ghost use mathlib.Core.Path.{_≡_};
 ghost use Prim.Native.Nat.{_+_, _%_, _^_, _≤_, _<_};
-ghost use lib.ListN.{length};
+ghost use lib.ListN.{length, take};
 ghost use Rattle.image.specs.Check.{accepted};
 ghost use Rattle.image.specs.Code.Head.{HeadOf};
 ghost use Rattle.image_cursor.specs.Code.Cursor.{Ahead, Ready};
@@ -47,6 +47,35 @@ pub fn turn(s: &[u8], h: Head, i: u64, n: u64, counts: &mut [u32])
 {
     let next = i + n;
     if low_bits(next, h.e) != 0 {
+        return;
+    }
+    read_page(s, h, next, counts);
+}
+
+// Copies the first m counts of lead.
+fn copy_page(m: usize, lead: &[u32], counts: &mut [u32])
+    requires { ⌜ (m ≤ 256) × (length (now lead) ≡ 256) × (length (now counts) ≡ 256) ⌝ }
+    ensures { λ _. ⌜ take m (now (counts .exit)) ≡ take m (now (lead .entry)) ⌝ }
+{
+    let mut i = 0;
+    while i < m {
+        counts[i] = lead[i];
+        i = i + 1;
+    }
+}
+
+// The same behind a cursor that has the page of hour j in lead: where this is the next page, it is copied, and not read again.
+pub fn follow(s: &[u8], h: Head, i: u64, n: u64, counts: &mut [u32], lead: &[u32], j: u64)
+    requires { ⌜ (accepted (now s) ≡ true) × HeadOf (now s) h × Ready (now s) i (now counts) × Ready (now s) j (now lead) ⌝ }
+    requires { ⌜ (i ≤ h .hours) × (i % 2 ^ h .e + n ≤ 2 ^ h .e) × (j < h .hours) ⌝ }
+    ensures { λ _. ⌜ Ready (now (s .entry)) (i + n) (now (counts .exit)) ⌝ }
+{
+    let next = i + n;
+    if low_bits(next, h.e) != 0 {
+        return;
+    }
+    if next >> h.e == j >> h.e {
+        copy_page(power(h.e) as usize, lead, counts);
         return;
     }
     read_page(s, h, next, counts);

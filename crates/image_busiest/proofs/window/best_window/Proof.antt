@@ -32,12 +32,12 @@ read-page-requires-2 c κs = search needs
 first-sum-requires : tie.Need-first-sum-requires Inv-loop μ-loop
 first-sum-requires c κs =
     let a = c .before .before .before .before .before .before .before in
-    (a .pre .0, omega (arith, a .pre .2, hours _ (a .pre .0) (a .pre .1)))
+    a .pre
 
 loop-holds : tie.Need-loop-holds Inv-loop μ-loop
 loop-holds c =
     let a = c .before .before .before .before .before .before .before .before in (
-      looked-first _ (a .pre .0) (a .pre .1) (a .args .k) _ (a .pre .2) (c .first-sum .ensures),
+      looked-first _ (a .pre .0) (a .pre .1) (a .args .k) _ (a .pre .3) (c .first-sum .ensures),
       rw zero-add (c .before .before .before .before .before .read-page .ensures),
       c .before .before .read-page2 .ensures,
     )
@@ -67,44 +67,48 @@ slide-requires c κs =
     let l = b .loop .inv in
     ((a .pre .0, a .pre .1, l .0, n .stride .ensures), (l .1, l .2))
 
-add-turn : tie.Need-add-turn Inv-loop μ-loop
-add-turn c = search needs
+add-end : tie.Need-add-end Inv-loop μ-loop
+add-end c = search needs
+
+slice-aggregate-follow : tie.Need-slice-aggregate-follow Inv-loop μ-loop
+slice-aggregate-follow c = search needs
+
+slice-aggregate-follow-2 : tie.Need-slice-aggregate-follow-2 Inv-loop μ-loop
+slice-aggregate-follow-2 c = search needs
+
+follow-requires : tie.Need-follow-requires Inv-loop μ-loop
+follow-requires c κs =
+    let n = c .before .before .before .before .before .before in
+    let b = n .before .before .before .before in
+    let a = b .before .before .before .before .before .before .before .before .before in
+    ((a .pre .0, a .pre .1, b .loop .inv .2, b .loop .inv .1), (omega (arith, n .before .if1 .taken), n .stride .ensures .back-room, n .before .if1 .taken))
 
 slice-aggregate-turn : tie.Need-slice-aggregate-turn Inv-loop μ-loop
 slice-aggregate-turn c = search needs
 
 turn-requires : tie.Need-turn-requires Inv-loop μ-loop
 turn-requires c κs =
-    let n = c .before .before .before .before .before in
+    let n = c .before .before .before .before .before .before .before .before .before in
     let b = n .before .before .before .before in
     let a = b .before .before .before .before .before .before .before .before .before in
     ((a .pre .0, a .pre .1, b .loop .inv .1), (omega (arith, n .before .if1 .taken), n .stride .ensures .front-room))
 
-slice-aggregate-turn-2 : tie.Need-slice-aggregate-turn-2 Inv-loop μ-loop
-slice-aggregate-turn-2 c = search needs
-
-turn-requires-2 : tie.Need-turn-requires-2 Inv-loop μ-loop
-turn-requires-2 c κs =
-    let n = c .before .before .before .before .before .before .before .before in
-    let b = n .before .before .before .before in
-    let a = b .before .before .before .before .before .before .before .before .before in
-    ((a .pre .0, a .pre .1, b .loop .inv .2), (omega (arith, n .before .if1 .taken), n .stride .ensures .back-room))
-
 loop-less : tie.Need-loop-less Inv-loop μ-loop
 loop-less c =
-    let d = c .before .before .before .before .before .before .before in
+    let d = c .before .before .before .before .before .before .before .before in
     let n = d .before .before .before in
     omega (arith, d .slide .ensures .1, n .stride .ensures .some, n .before .if1 .taken)
 
 loop-again : tie.Need-loop-again Inv-loop μ-loop
 loop-again c =
-    let d = c .before .before .before .before .before .before .before in
-    let at = d .before .before .before .before .before .before .before .loop .at in
-    let k = d .before .before .before .before .before .before .before .before .before .before .before .before .before .before .before .before .args .k in
+    let d = c .before .before .before .before .before .before .before .before in
+    let b = d .before .before .before .before .before .before .before in
+    let at = b .loop .at in
+    let k = b .before .before .before .before .before .before .before .before .before .args .k in
     let n = d .before .before .before .stride .result in
     let e = d .slide .ensures .1 in
     let f : at .first + k + n ≡ d .slide .result .first + k = omega (arith, e) in
-    (d .slide .ensures .0, rw f at (c .before .before .before .before .turn .ensures), rw (sym e) at (c .before .turn2 .ensures))
+    (d .slide .ensures .0, rw f at (c .before .turn .ensures), rw (sym e) at (c .before .before .before .before .follow .ensures))
 
 returns : tie.Need-returns Inv-loop μ-loop
 returns c =
@@ -129,11 +133,12 @@ best-window-spec =
     slice-aggregate-slide
     slice-aggregate-slide-2
     slide-requires
-    add-turn
+    add-end
+    slice-aggregate-follow
+    slice-aggregate-follow-2
+    follow-requires
     slice-aggregate-turn
     turn-requires
-    slice-aggregate-turn-2
-    turn-requires-2
     loop-less
     loop-again
     returns)
