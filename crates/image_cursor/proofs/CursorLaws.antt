@@ -4,11 +4,11 @@ use mathlib.Core.List.{List, [], _∷_, _++_}
 use mathlib.Core.Path.{_≡_, ap, ap₂, sym, _∙_}
 use Prim.Native.Nat.{ℕ, _+_, _-_, _*_, _/_, _%_, _^_, _≤_, _<_, min}
 use native.Mathlib.Nat.{lt-of-mul-lt-mul-left}
-use native.Mathlib.Decide.{ℕ-discrete, decLe}
+use native.Mathlib.Decide.{decLe}
 use native.Mathlib.Numerals.{add-one}
 use native.Mathlib.Omega.{arith}
 use lib.ListN.{length, getD, take, drop, set, length-set}
-use lib.Pow.{pow-mono, pow-pos}
+use lib.Pow.{pow-mono}
 use lib.Seq.{getD-set-same, getD-take, take-at, take-set-le, take-suc}
 use Rattle.lists.specs.Lists.{splice}
 use Rattle.lists.proofs.Parts.{length-splice}
@@ -64,6 +64,16 @@ same-page e i n h l =
     let y : (i + n) / m < i / m + 1 = lt-of-mul-lt-mul-left m (omega arith) in
     omega arith
 
+-- the first hour of another's page
+page-first : (e i j : ℕ) → i + j % 2 ^ e ≡ j → j / 2 ^ e ≡ i / 2 ^ e
+page-first e i j h =
+    let m : ℕ = 2 ^ e in
+    let u : m * (i / m) + i % m ≡ i = hour-split e i in
+    let v : m * (j / m) + j % m ≡ j = hour-split e j in
+    let x : i / m < j / m + 1 = lt-of-mul-lt-mul-left m (omega (arith, hour-low e j)) in
+    let y : j / m < i / m + 1 = lt-of-mul-lt-mul-left m (omega (arith, hour-low e i)) in
+    omega arith
+
 stays : (s : List ℕ) (i n : ℕ) (c : List ℕ) → i % 2 ^ eOf s + n ≤ 2 ^ eOf s → 1 ≤ (i + n) % 2 ^ eOf s → i < nOf s → Ready s i c → Ready s (i + n) c
 stays s i n c f l h r = record {
   long = r .long;
@@ -102,15 +112,17 @@ module _ (s : List ℕ) {h : Head} (o : HeadOf s h) where
       go (no l) =
           stays s i n c (rw (o .e-is) at g) (rw (q ∙ ap (λ (z : ℕ). (i + n) % 2 ^ z) (o .e-is)) at (above j f)) (omega (arith, o .hours-is)) r
 
-  -- the page of hour j, which is that of hour i, was copied
-  pub ready-copied : (i j m : ℕ) (c d : List ℕ) → i / 2 ^ h .e ≡ j / 2 ^ h .e → j < h .hours → m ≡ 2 ^ h .e → Ready s j c
-      → length d ≡ 256 → take m d ≡ take m c → Ready s i d
-  ready-copied i j m c d q l k r f e =
+  -- the page of hour j, whose first hour is hour i, was copied
+  pub ready-copied : (i j u m : ℕ) (c d : List ℕ) → u ≡ j % 2 ^ h .e → i + u ≡ j → j < h .hours → m ≡ 2 ^ h .e → Ready s j c → length d ≡ 256
+      → take m d ≡ take m c → Ready s i d
+  ready-copied i j u m c d v q l k r f e =
       let z : m ≡ 2 ^ eOf s = k ∙ ap (λ (y : ℕ). 2 ^ y) (o .e-is) in
-      let p : j / 2 ^ eOf s ≡ i / 2 ^ eOf s = sym (rw (o .e-is) at q) in
+      let w : u ≡ j % 2 ^ eOf s = v ∙ ap (λ (y : ℕ). j % 2 ^ y) (o .e-is) in
       record {
         long = f;
-        page-is = λ g. (rw z at e) ∙ r .page-is (omega (arith, o .hours-is)) ∙ ap (page (eOf s) (listOf s)) p;
+        page-is =
+            λ g. (rw z at e) ∙ r .page-is (omega (arith, o .hours-is))
+            ∙ ap (page (eOf s) (listOf s)) (page-first (eOf s) i j (omega (arith, w, q)));
       }
 
   pub small : accepted s ≡ true → h .e ≤ 8

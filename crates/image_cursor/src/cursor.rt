@@ -64,19 +64,15 @@ fn copy_page(m: usize, lead: &[u32], counts: &mut [u32])
     }
 }
 
-// The same behind a cursor that has the page of hour j in lead: where this is the next page, it is copied, and not read again.
+// As turn, behind a cursor that has the page of hour j in lead: where it is the next page, it is copied, and not read again.
 pub fn follow(s: &[u8], h: Head, i: u64, n: u64, counts: &mut [u32], lead: &[u32], j: u64)
     requires { ⌜ (accepted (now s) ≡ true) × HeadOf (now s) h × Ready (now s) i (now counts) × Ready (now s) j (now lead) ⌝ }
     requires { ⌜ (i ≤ h .hours) × (i % 2 ^ h .e + n ≤ 2 ^ h .e) × (j < h .hours) ⌝ }
     ensures { λ _. ⌜ Ready (now (s .entry)) (i + n) (now (counts .exit)) ⌝ }
 {
-    let next = i + n;
-    if low_bits(next, h.e) != 0 {
-        return;
-    }
-    if next >> h.e == j >> h.e {
+    if i + n + low_bits(j, h.e) == j {
         copy_page(power(h.e) as usize, lead, counts);
         return;
     }
-    read_page(s, h, next, counts);
+    turn(s, h, i, n, counts);
 }

@@ -1,12 +1,13 @@
 -- `image_cursor::cursor::follow` meets its contract. Assumes nothing.
 use native.Mathlib.Omega.{arith}
 use borrow.Author.Needs.{needs}
-use Rattle.image_cursor.proofs.CursorLaws.{page-small, ready-copied, ready-stays, small}
+use Rattle.image.proofs.PageLaws.{hour-low}
+use Rattle.image_cursor.proofs.CursorLaws.{page-small, ready-copied, small}
 use Rattle.image_cursor.proofs.cursor.follow.Statement.{statement}
 use Rattle.image_cursor.proofs.cursor.follow.Tie as tie
 
-add-next : tie.Need-add-next
-add-next c =
+add-if1 : tie.Need-add-if1
+add-if1 c =
     let a = c .before .before .before in
     record { fits = omega (arith, a .pre .0 .1 .hours-small, a .pre .1 .0, a .pre .1 .1, page-small _ (a .pre .0 .1) (a .pre .0 .0)) }
 
@@ -15,72 +16,54 @@ low-bits-requires c κs =
     let a = c .before .before .before in
     omega (arith, small _ (a .pre .0 .1) (a .pre .0 .0))
 
-returns : tie.Need-returns
-returns c =
-    let a = c .before .before .before .before .before in
-    ready-stays _ (a .pre .0 .1) (a .args .i) (a .args .n) _ _ (c .before .low-bits .ensures) (c .if1 .taken) (a .pre .1 .1) (a .pre .0 .2)
-
-cast-if2 : tie.Need-cast-if2
-cast-if2 c = search needs
-
-shr-if2 : tie.Need-shr-if2
-shr-if2 c =
-    let a = c .before .before .before .before .before .before in
-    omega (arith, small _ (a .pre .0 .1) (a .pre .0 .0))
-
-cast-if2-2 : tie.Need-cast-if2-2
-cast-if2-2 c = search needs
-
-shr-if2-2 : tie.Need-shr-if2-2
-shr-if2-2 c =
-    let a = c .before .before .before .before .before .before .before in
-    omega (arith, small _ (a .pre .0 .1) (a .pre .0 .0))
+add-if1-2 : tie.Need-add-if1-2
+add-if1-2 c =
+    let a = c .before .before .before .before in
+    record {
+      fits = omega (arith, a .pre .0 .1 .hours-small, a .pre .1 .0, a .pre .1 .1, page-small _ (a .pre .0 .1) (a .pre .0 .0), c .low-bits .ensures, hour-low (a .args .h .e) (a .args .j));
+    }
 
 power-requires : tie.Need-power-requires
 power-requires c κs =
-    let a = c .before .before .before .before .before .before .before .before in
+    let a = c .before .before .before .before .before in
     omega (arith, small _ (a .pre .0 .1) (a .pre .0 .0))
 
 copy-page-requires : tie.Need-copy-page-requires
 copy-page-requires c κs =
-    let a = c .before .before .before .before .before .before .before .before .before .before in
+    let a = c .before .before .before .before .before .before .before in
     (omega (arith, c .before .power .ensures, page-small _ (a .pre .0 .1) (a .pre .0 .0)), a .pre .0 .3 .long, a .pre .0 .2 .long)
 
 same-length : tie.Need-same-length
 same-length c = search needs
 
-returns-2 : tie.Need-returns-2
-returns-2 c =
+returns : tie.Need-returns
+returns c =
     let p = c .before .before in
     let w = p .before .before in
     let q = w .before in
-    let a = q .before .before .before .before .before .before .before .before in
-    ready-copied _ (a .pre .0 .1) _ (a .args .j) _ _ _ (q .if2 .taken) (a .pre .1 .2) (w .power .ensures) (a .pre .0 .3) (search needs) (p .copy-page .ensures)
+    let a = q .before .before .before .before .before in
+    ready-copied _ (a .pre .0 .1) _ (a .args .j) _ _ _ _ (q .before .low-bits .ensures) (q .if1 .taken) (a .pre .1 .2) (w .power .ensures) (a .pre .0 .3) (search needs) (p .copy-page .ensures)
 
-read-page-requires : tie.Need-read-page-requires
-read-page-requires c κs = search needs
+turn-requires : tie.Need-turn-requires
+turn-requires c κs = search needs
 
 same-length-2 : tie.Need-same-length-2
 same-length-2 c = search needs
 
-returns-3 : tie.Need-returns-3
-returns-3 c = search needs
+returns-2 : tie.Need-returns-2
+returns-2 c = search needs
 
 pub follow-spec : {M : Type 1} → statement M
 follow-spec =
     tie.close
     (tie.spec
-    add-next
+    add-if1
     low-bits-requires
-    returns
-    cast-if2
-    shr-if2
-    cast-if2-2
-    shr-if2-2
+    add-if1-2
     power-requires
     copy-page-requires
     same-length
-    returns-2
-    read-page-requires
+    returns
+    turn-requires
     same-length-2
-    returns-3)
+    returns-2)
