@@ -1,19 +1,20 @@
 -- The hours of a book, put into a list one after another. Assumes nothing.
 use mathlib.Core.Path.{_≡_, refl, sym, ap, ap₂, _∙_}
-use mathlib.Core.Bool.{true, false}
+use mathlib.Core.Bool.{true, false, _&&_, and-true, and-assoc}
 use mathlib.Core.List.{List, map}
-use Prim.Native.Nat.{ℕ, _+_, _*_, _%_, _≤_, _<_}
+use Prim.Native.Nat.{ℕ, _+_, _%_, _≤_, _<_, max}
 use native.Mathlib.Numerals.{add-one}
 use native.Mathlib.Omega.{arith}
-use lib.ListN.{length, getD, set, drop, drop-of-length-le, List·getD-eq-default}
+use lib.ListN.{length, getD, set, drop, drop-of-length-le}
 use lib.Seq.{drop-cons, length-sets, sets}
-use borrow.Author.Tests.{eq-eqb, ne-eqb}
+use lib.Dec.{eqb}
+use borrow.Author.Tests.{eq-eqb, eqb-true, ne-eqb}
 use Rattle.lists.specs.Lists.{every, splice, sum, tabulate, window}
 use Rattle.lists.proofs.Parts.{sets-snoc, sets-splice}
 use Rattle.lists.proofs.Sums.{sum-next}
+use Rattle.lists.proofs.Tests.{agree, both, left, right}
 use Rattle.lists.proofs.Tables.{length-tabulate, tabulate-snoc}
-use Rattle.book.specs.Book.{decimal, decimalByte, listOfBook}
-use Rattle.book.proofs.BookLaws.{length-listed}
+use Rattle.book.specs.Book.{decimal, decimalByte}
 
 -- ---- the bytes from i on, tested one after another
 pub odd : (b : List ℕ) → (length b % 2 ≡ 0 → ⊥) → false ≡ decimal b
@@ -24,22 +25,27 @@ pub even : (b : List ℕ) → length b % 2 ≡ 0 → decimal b ≡ every (map de
 unfolding decimal
 even b h = rw (eq-eqb (length b % 2) 0 h)
 
-pub rest-on : (b : List ℕ) (i : ℕ) → i < length b → decimalByte (getD b i 0) ≡ true
-    → every (map decimalByte (drop i b)) ≡ every (map decimalByte (drop (i + 1) b))
-unfolding every
-rest-on b i l h = rw (add-one, drop-cons b i 0 l, h)
+-- the worse of two faults is none where both are none
+worse : (w d : ℕ) → eqb (max w d) 0 ≡ (eqb w 0 && eqb d 0)
+worse w d = agree (eqb (max w d) 0) (eqb w 0 && eqb d 0) on back
+  where
+    on : eqb (max w d) 0 ≡ true → (eqb w 0 && eqb d 0) ≡ true
+    on h = let q : max w d ≡ 0 = eqb-true (max w d) 0 h in both (eq-eqb w 0 (omega arith)) (eq-eqb d 0 (omega arith))
 
-pub rest-stop : (b : List ℕ) (i : ℕ) → i < length b → decimalByte (getD b i 0) ≡ false → every (map decimalByte (drop i b)) ≡ false
-unfolding every
-rest-stop b i l h = rw (drop-cons b i 0 l, h)
+    back : (eqb w 0 && eqb d 0) ≡ true → eqb (max w d) 0 ≡ true
+    back h =
+        let p : w ≡ 0 = eqb-true w 0 (left (eqb w 0) (eqb d 0) h) in
+        let q : d ≡ 0 = eqb-true d 0 (right (eqb w 0) (eqb d 0) h) in
+        eq-eqb (max w d) 0 (omega arith)
 
-pub rest-end : (b : List ℕ) (i : ℕ) → length b ≤ i → every (map decimalByte (drop i b)) ≡ true
+pub rest-on : (b : List ℕ) (i w d r : ℕ) → i < length b → eqb d 0 ≡ decimalByte (getD b i 0) → r ≡ max w d
+    → (eqb w 0 && every (map decimalByte (drop i b))) ≡ (eqb r 0 && every (map decimalByte (drop (i + 1) b)))
 unfolding every
-rest-end b i l = rw (drop-of-length-le b {i = i} l)
+rest-on b i w d r l h q = rw (add-one, drop-cons b i 0 l, ← h, q, worse w d, and-assoc)
 
--- ---- behind the last hour
-pub hour-out : (b : List ℕ) (i : ℕ) → length b ≤ 2 * i + 1 → 0 ≡ getD (listOfBook b) i 0
-hour-out b i l = sym (List·getD-eq-default (listOfBook b) 0 {n = i} (omega (arith, length-listed b)))
+pub rest-end : (b : List ℕ) (i w : ℕ) → length b ≤ i → (eqb w 0 && every (map decimalByte (drop i b))) ≡ eqb w 0
+unfolding every
+rest-end b i w l = rw (drop-of-length-le b {i = i} l) (and-true (eqb w 0))
 
 -- ---- one hour more
 pub hour-put : (l xs : List ℕ) (from i x : ℕ) → x ≡ getD xs (from + i) 0 → set (sets l 0 (window xs from i)) i x ≡ sets l 0 (window xs from (i + 1))

@@ -22,21 +22,24 @@ pub fn is_narrow(counts: &[u32], n: usize) -> bool
     true
 }
 
-// The byte with the two digits of a number.
-fn packed(n: u32) -> u8
+// The byte with the two digits of a number: each ten of it counts 16 there, 6 more.
+fn packed(n: u16) -> u8
     requires { ⌜ n < 100 ⌝ }
     ensures { λ r. ⌜ r ≡ packedByte n ⌝ }
 {
-    (16 * (n / 10) + n % 10) as u8
+    (n + 6 * (n / 10)) as u8
 }
 
-// Puts the four digits of a count into two bytes of a book.
+// Puts the four digits of a count into two bytes of a book. In numbers of 16 bits: the compiler then packs eight counts at once.
 fn put_hour(book: &mut [u8], at: usize, count: u32)
     requires { ⌜ (at + 1 < length (now book)) × (count ≤ 9999) ⌝ }
     ensures { λ _. ⌜ now (book .exit) ≡ splice (now (book .entry)) at (bookOf (count ∷ [])) ⌝ }
 {
-    book[at] = packed(count / 100);
-    book[at + 1] = packed(count % 100);
+    let c = count as u16;
+    let high = c / 100;
+    let low = c - 100 * high;
+    book[at] = packed(high);
+    book[at + 1] = packed(low);
 }
 
 // Puts the first n counts into a book, from hour from on.

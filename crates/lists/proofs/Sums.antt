@@ -3,10 +3,11 @@ use mathlib.Core.Path.{_≡_, refl, sym, ap, _∙_}
 use mathlib.Core.List.{List, [], _∷_, _++_}
 use Prim.Native.Nat.{ℕ, zero, suc, _+_, _-_, _*_, _≤_, _<_}
 use native.Mathlib.Nat.{not-suc-le-zero, le-of-suc-le-suc, mul-suc}
+use native.Mathlib.Decide.{decLe}
 use native.Mathlib.Numerals.{add-one}
 use native.Mathlib.Omega.{arith}
-use lib.ListN.{getD, take, drop, take-append-drop}
-use Rattle.lists.specs.Lists.{tabulate, concat, sum}
+use lib.ListN.{length, getD, take, drop, take-append-drop, List·getD-eq-default}
+use Rattle.lists.specs.Lists.{tabulate, concat, sum, window}
 use Rattle.lists.proofs.Tables.{tabulate-ext, tabulate-snoc}
 
 -- ---- parts of a list
@@ -46,6 +47,25 @@ sum-two (suc n) f g k h = omega (arith, h 0, sum-two n (λ j. f (suc j)) (λ j. 
 -- one entry more
 pub sum-next : (f : ℕ → ℕ) (n : ℕ) → sum (tabulate (n + 1) f) ≡ sum (tabulate n f) + f n
 sum-next f n = ap (λ (z : ℕ). sum (tabulate z f)) (add-one n) ∙ ap sum (tabulate-snoc n f) ∙ sum-snoc (tabulate n f) (f n)
+
+-- entries of 0 from i on
+sum-behind : (f : ℕ → ℕ) (i k : ℕ) → ((j : ℕ) → i ≤ j → f j ≡ 0) → sum (tabulate (i + k) f) ≡ sum (tabulate i f)
+sum-behind f i zero h = ap (λ (z : ℕ). sum (tabulate z f)) {x = i + 0} {y = i} (omega arith)
+sum-behind f i (suc k) h =
+    ap (λ (z : ℕ). sum (tabulate z f)) {x = i + suc k} {y = i + k + 1} (omega arith)
+    ∙ omega (arith, sum-next f (i + k), h (i + k) (omega arith), sum-behind f i k h)
+
+-- a window's sum is complete at its end, or at the list's
+pub window-whole : (xs : List ℕ) (from i n : ℕ) → i ≤ n → (i < n → length xs ≤ from + i) → sum (window xs from i) ≡ sum (window xs from n)
+unfolding window
+window-whole xs from i n l h = go (decLe n i)
+  where
+    go : Dec (n ≤ i) → sum (window xs from i) ≡ sum (window xs from n)
+    go (yes q) = ap (λ (z : ℕ). sum (window xs from z)) {x = i} {y = n} (omega arith)
+    go (no q) =
+        let m : length xs ≤ from + i = h (omega arith) in
+        sym (ap (λ (z : ℕ). sum (window xs from z)) {x = n} {y = i + (n - i)} (omega arith)
+        ∙ sum-behind (λ j. getD xs (from + j) 0) i (n - i) (λ j g. List·getD-eq-default xs 0 {n = from + j} (omega (arith, g))))
 
 -- the sum of a list's first n elements, zeros behind it
 pub sum-tabulate : (n : ℕ) (xs : List ℕ) → sum (tabulate n (λ j. getD xs j 0)) ≡ sum (take n xs)

@@ -1,11 +1,10 @@
 -- Windows of a list of counts: their halves and their sums. Assumes nothing.
-use mathlib.Core.Path.{_≡_, refl, sym, ap, _∙_}
+use mathlib.Core.Path.{_≡_, sym, ap, _∙_}
 use mathlib.Core.List.{List, _∷_, _++_}
-use Prim.Native.Nat.{ℕ, zero, suc, _+_, _-_, _^_, _≤_, _<_}
+use Prim.Native.Nat.{ℕ, zero, suc, _+_, _-_, _^_, _≤_}
 use native.Mathlib.Nat.{pow-succ'}
 use native.Mathlib.Omega.{arith}
-use native.Mathlib.Decide.{decLe}
-use lib.ListN.{length, getD, take, drop, List·getD-eq-default}
+use lib.ListN.{length, getD, take, drop}
 use lib.Seq.{take-at, drop-at}
 use Rattle.lists.specs.Lists.{tabulate, sum, window}
 use Rattle.lists.proofs.Tables.{tabulate-ext, length-tabulate}
@@ -40,15 +39,6 @@ window-add xs i m n =
 sum-window-add : (xs : List ℕ) (i m n : ℕ) → sum (window xs i (m + n)) ≡ sum (window xs i m) + sum (window xs (i + m) n)
 sum-window-add xs i m n = ap sum (window-add xs i m n) ∙ sum-append (window xs i m) (window xs (i + m) n)
 
--- beyond the list's end stand zeros
-sum-window-past : (xs : List ℕ) (i n : ℕ) → length xs ≤ i → sum (window xs i n) ≡ 0
-unfolding window tabulate sum
-sum-window-past xs i zero l = refl
-sum-window-past xs i (suc n) l =
-    let z : getD xs (i + 0) 0 ≡ 0 = List·getD-eq-default xs 0 (omega arith) in
-    let e = tabulate-ext n (λ j. getD xs (i + suc j) 0) (λ j. getD xs (suc i + j) 0) (λ j _. same-place xs (i + suc j) (suc i + j) (omega arith)) in
-    omega (arith, z, ap sum e, sum-window-past xs (suc i) n (omega arith))
-
 -- ---- the sum of a window, count by count
 
 pub window-none : (xs : List ℕ) (from : ℕ) → 0 ≡ sum (window xs from (from - from))
@@ -62,18 +52,6 @@ window-more xs from i t l e =
     let k : i + 1 - from ≡ i - from + 1 = omega arith in
     let b = same-place xs (from + (i - from) + 0) i (omega arith) in
     omega (arith, ap (λ (z : ℕ). sum (window xs from z)) k, sum-window-add xs from (i - from) 1, b)
-
--- a window's sum is complete at its end, or at the list's
-pub window-whole : (xs : List ℕ) (from n i : ℕ) → from ≤ i → i ≤ from + n → (i < from + n → length xs ≤ i)
-    → sum (window xs from (i - from)) ≡ sum (window xs from n)
-window-whole xs from n i l u p = go (decLe (from + n) i)
-  where
-    go : Dec (from + n ≤ i) → sum (window xs from (i - from)) ≡ sum (window xs from n)
-    go (yes h) = ap (λ (z : ℕ). sum (window xs from z)) {x = i - from} {y = n} (omega arith)
-    go (no h) =
-        let e : n ≡ i - from + (n - (i - from)) = omega arith in
-        let q = sum-window-past xs (from + (i - from)) (n - (i - from)) (omega (arith, p (omega arith))) in
-        omega (arith, ap (λ (z : ℕ). sum (window xs from z)) e, sum-window-add xs from (i - from) (n - (i - from)), q)
 
 -- ---- windows of one count and of two
 pub one-count : (xs : List ℕ) (i : ℕ) → sum (window xs i 1) ≡ getD xs i 0

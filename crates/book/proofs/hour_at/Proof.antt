@@ -3,48 +3,40 @@ use mathlib.Core.Path.{sym, ap₂, _∙_}
 use Prim.Native.Nat.{ℕ, _+_, _*_}
 use native.Mathlib.Omega.{arith}
 use borrow.Author.Needs.{needs}
-use Rattle.book.proofs.BookLaws.{hour-in}
-use Rattle.book.proofs.HourLaws.{hour-out}
+use Rattle.book.proofs.BookLaws.{hour-in, length-listed}
 use Rattle.book.proofs.hour_at.Statement.{statement}
 use Rattle.book.proofs.hour_at.Tie as tie
 
 mul-at : tie.Need-mul-at
-mul-at c = search needs
-
-add-if1 : tie.Need-add-if1
-add-if1 c = search needs
-
-returns : tie.Need-returns
-returns c =
-    let a = c .before .before .args in
-    (hour-out (a .book .now) (a .i) (c .if1 .taken), omega arith)
+mul-at c = omega (arith, length-listed (c .before .args .book .now))
 
 shared-slice-read-unpacked : tie.Need-shared-slice-read-unpacked
-shared-slice-read-unpacked c = search needs
+shared-slice-read-unpacked c = omega (arith, length-listed (c .before .before .args .book .now))
 
 unpacked-requires : tie.Need-unpacked-requires
 unpacked-requires c κs = search needs
 
-mul-result : tie.Need-mul-result
-mul-result c = search needs
-
 add-unpacked : tie.Need-add-unpacked
-add-unpacked c = search needs
+add-unpacked c = omega (arith, length-listed (c .before .before .before .args .book .now))
 
 shared-slice-read-unpacked-2 : tie.Need-shared-slice-read-unpacked-2
-shared-slice-read-unpacked-2 c = search needs
+shared-slice-read-unpacked-2 c = omega (arith, length-listed (c .before .before .before .before .args .book .now))
 
 unpacked-requires-2 : tie.Need-unpacked-requires-2
 unpacked-requires-2 c κs = search needs
 
+mul-result : tie.Need-mul-result
+mul-result c = search needs
+
 add-result : tie.Need-add-result
 add-result c = search needs
 
-returns-2 : tie.Need-returns-2
-returns-2 c =
-    let a = c .before .before .before .before .before .before .args in
+returns : tie.Need-returns
+returns c =
+    let a = c .before .before .before .before .before .args in
     let u = c .before .before .unpacked .ensures in (
-      ap₂ (λ (y z : ℕ). 100 * y + z) (u .0) (c .unpacked2 .ensures .0) ∙ sym (hour-in (a .book .now) (a .i) (omega arith)),
+      ap₂ (λ (y z : ℕ). 100 * y + z) (u .0) (c .unpacked2 .ensures .0)
+          ∙ sym (hour-in (a .book .now) (a .i) (omega (arith, length-listed (a .book .now)))),
       omega (arith, u .1, c .unpacked2 .ensures .1),
     )
 
@@ -53,8 +45,6 @@ hour-at-spec =
     tie.close
     (tie.spec
     mul-at
-    add-if1
-    returns
     shared-slice-read-unpacked
     unpacked-requires
     add-unpacked
@@ -62,4 +52,4 @@ hour-at-spec =
     unpacked-requires-2
     mul-result
     add-result
-    returns-2)
+    returns)

@@ -4,7 +4,8 @@ use mathlib.Core.Path.{_≡_, _∙_}
 use Prim.Native.Nat.{_-_, _*_, _≤_, max}
 use native.Mathlib.Omega.{arith}
 use Rattle.lists.specs.Lists.{sum, window}
-use Rattle.tree.proofs.Windows.{window-none, window-more, window-whole}
+use Rattle.lists.proofs.Sums.{window-whole}
+use Rattle.tree.proofs.Windows.{window-none, window-more}
 use Rattle.tree.proofs.sums.sum_of.Statement.{statement}
 use Rattle.tree.proofs.sums.sum_of.Tie as tie
 
@@ -56,7 +57,7 @@ returns : tie.Need-returns Inv-loop μ-loop
 returns c =
     let a = c .before .before .before .before .args in
     let w = c .before .loop in
-    w .inv .2 ∙ window-whole (a .counts .now) (a .from) (a .n) (w .i) (w .inv .0) (omega arith) (λ l. omega arith)
+    w .inv .2 ∙ window-whole (a .counts .now) (a .from) (w .i - a .from) (a .n) (omega arith) (λ l. omega (arith, l))
 
 pub sum-of-spec : {M : Type 1} → statement M
 sum-of-spec =
