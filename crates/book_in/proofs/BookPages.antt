@@ -1,14 +1,12 @@
 -- The pages of a book's list. Assumes nothing.
 use mathlib.Core.Path.{_≡_, ap, _∙_}
 use mathlib.Core.List.{List, _++_}
-use Prim.Native.Nat.{ℕ, _+_, _*_, _^_, _≤_, _<_}
+use Prim.Native.Nat.{ℕ, _+_, _*_, _^_, _<_}
 use native.Mathlib.Omega.{arith}
 use lib.ListN.{length, getD, drop, List·getD-append}
-use lib.Pow.{pow-mono}
-use Rattle.lists.specs.Lists.{splice, sum, tabulate, window}
+use Rattle.lists.specs.Lists.{splice, tabulate, window}
 use Rattle.lists.proofs.Tables.{getD-tabulate, length-tabulate, tabulate-ext}
 use Rattle.image.specs.Image.{page}
-use Rattle.image_steps.specs.Code.Planning.{PageSum}
 
 -- numbers put at the front of a list are its first ones
 front : (l w : List ℕ) (n j : ℕ) → length w ≡ n → j < n → getD (splice l 0 w) (0 + j) 0 ≡ getD w j 0
@@ -27,11 +25,3 @@ pub page-front : (e m p : ℕ) (xs l c : List ℕ) → m ≡ 2 ^ e → c ≡ spl
 unfolding page
 page-front e m p xs l c em q =
     ap (λ (z : List ℕ). window z 0 (2 ^ e)) (q ∙ ap (λ (k : ℕ). splice l 0 (window xs (k * p) k)) em) ∙ window-front l xs (2 ^ e * p) (2 ^ e)
-
--- the sum of page p
-pub page-sum : (e m p s : ℕ) (xs : List ℕ) → e ≤ 8 → m ≡ 2 ^ e → s ≡ sum (window xs (m * p) m) → s ≤ 16665 * m → PageSum e xs p s
-unfolding page
-page-sum e m p s xs h em q b = record {
-  page-is = q ∙ ap (λ (k : ℕ). sum (window xs (k * p) k)) em;
-  small = omega (arith, em, pow-mono {i = e} {j = 8} h);
-}

@@ -5,3 +5,4 @@ pub mod Writing
 pub mod PageSteps
 pub mod PagesLaid
 pub mod Answering
+pub mod PageByPage

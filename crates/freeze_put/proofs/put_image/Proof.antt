@@ -1,18 +1,17 @@
 -- `freeze_put::put_image` meets its contract. Assumes nothing.
 use lib.Pow.{pow-pos}
 use Rattle.image.proofs.PageLaws as L
-use Rattle.image_steps.specs.Code.Writing.{Filled}
 use Rattle.freeze_put.specs.Code.Steps.{Blocked}
 use Rattle.freeze_put.proofs.Blocks.{blocks-few}
 use Rattle.store.proofs.SoundFacts.{facts}
-use borrow.Author.Needs.{needs}
 use mathlib.Core.List.{List}
 use mathlib.Core.Path.{_≡_}
-use Prim.Native.Nat.{ℕ, _+_, _-_, _*_, _^_, _≤_, _<_}
+use Prim.Native.Nat.{ℕ, _-_, _*_, _^_, _<_}
 use native.Mathlib.Omega.{arith}
 use lib.ListN.{length}
 use Rattle.store.specs.Reading.{listIn}
-use Rattle.image_steps.specs.Code.Writing.{Laid}
+use Rattle.image_steps.specs.Code.Writing.{Filled, Laid}
+use Rattle.image_steps.proofs.PageByPage.{filled, laid-since}
 use Rattle.freeze_put.proofs.put_image.Statement.{statement}
 use Rattle.freeze_put.proofs.put_image.Tie as tie
 
@@ -40,8 +39,8 @@ module _ (c : tie.After-put-block-arg Inv-loop μ-loop) where
 
   so-far : Laid (listIn (call .args .s .now)) (call .args .out .now) (c .before .before .before .before .loop .out) (call .args .r) (c .before .before .before .before .loop .at)
   so-far =
-      c .before .before .before .before .loop .inv .1 (call .args .out .now)
-      (c .before .before .before .before .before .before .before .begin .ensures .1 (record { xs = listIn (call .args .s .now); room = call .pre .1 }))
+      laid-since (call .pre .1) (c .before .before .before .before .before .before .before .begin .ensures .1)
+      (c .before .before .before .before .loop .inv .1)
 
   abbrev blocked : (first : List ℕ) → Laid (listIn (call .args .s .now)) first (c .before .before .before .before .loop .out) (call .args .r) (c .before .before .before .before .loop .at)
       → Blocked (c .before .before .before .before .loop .out) (call .args .s .now) (call .args .r) (c .before .before .before .before .before .before .before .before .before .of .result .pages) (c .before .before .before .before .loop .b) (c .before .before .before .before .loop .at)
@@ -83,28 +82,19 @@ module _ (c : tie.After-end-arg Inv-loop μ-loop) where
   abbrev start : tie.Start Inv-loop μ-loop
   start = c .before .before .before .before .before .before .before .before .before .before .before .before
 
-  whole : Laid (listIn (start .args .s .now)) (start .args .out .now) (c .before .before .before .before .loop .out) (start .args .r) (c .before .before .before .before .loop .at)
+  abbrev whole : Filled (start .args .r) (c .before .before .before .before .loop .out)
   whole =
-      c .before .before .before .before .loop .inv .1 (start .args .out .now)
-      (c .before .before .before .before .before .before .before .begin .ensures .1 (record { xs = listIn (start .args .s .now); room = start .pre .1 }))
-
-  abbrev filled : Filled (start .args .r) (c .before .before .before .before .loop .out)
-  filled = record {
-    xs = listIn (start .args .s .now);
-    first = start .args .out .now;
-    at = c .before .before .before .before .loop .at;
-    so-far = whole;
-    all = c .before .if1 .left;
-  }
+      filled (start .pre .1) (c .before .before .before .before .before .before .before .begin .ensures .1) (c .before .before .before .before .loop .inv .1)
+      (c .before .if1 .left)
 
 end-requires : tie.Need-end-requires Inv-loop μ-loop
-end-requires c κs = filled c
+end-requires c κs = whole c
 
 same-length : tie.Need-same-length Inv-loop μ-loop
-same-length c = omega (arith, c .before .before .end .kept .0, whole (c .before .before .before) .long)
+same-length c = omega (arith, c .before .before .end .kept .0, whole (c .before .before .before) .so-far .long)
 
 returns : tie.Need-returns Inv-loop μ-loop
-returns c = c .before .before .end .ensures (filled (c .before .before .before))
+returns c = c .before .before .end .ensures (whole (c .before .before .before))
 
 pub put-image-spec : {M : Type 1} → statement M
 put-image-spec =

@@ -1,11 +1,10 @@
 -- `book_in::plan::add_pages` meets its contract. Assumes nothing.
-use Prim.Native.Nat.{_-_, _*_, _≤_, _<_}
+use Prim.Native.Nat.{ℕ, _-_, _*_, _≤_, _<_}
 use native.Mathlib.Omega.{arith}
-use Rattle.image_steps.specs.Code.Planning.{Awaits, Drafted, PageSum}
+use Rattle.image_steps.specs.Code.Planning.{Awaits, Drafted}
 use Rattle.image_steps.specs.declared.plan.Plan.{Plan}
-use Rattle.image_write.proofs.ListPages.{page-from}
+use Rattle.image_steps.proofs.PageByPage.{awaited, fewer, page-from}
 use Rattle.book.specs.Book.{listOfBook}
-use Rattle.book_in.proofs.BookPages.{page-sum}
 use Rattle.book_in.proofs.plan.add_pages.Statement.{statement}
 use Rattle.book_in.proofs.plan.add_pages.Tie as tie
 
@@ -29,33 +28,22 @@ module _ (c : tie.After-struct-known2 Inv-loop μ-loop) where
   abbrev next : Plan
   next = c .before .before .before .loop .next
 
+  abbrev m : ℕ
+  m = c .before .before .before .before .power .result
+
   so-far : Drafted (call .args .e) (listOfBook (call .args .book .now)) next
   so-far = c .before .before .before .loop .inv
 
-  size : (c .before .before .before .before .power .result * next .done < 65536) × (c .before .before .before .before .power .result ≤ 256)
+  size : (m * next .done < 65536) × (m ≤ 256)
   size =
-      page-from (call .args .e) (listOfBook (call .args .book .now)) (next .done) (c .before .before .before .before .power .result) (so-far .e-high)
-      (so-far .short) (omega (arith, c .before .if1 .taken, so-far .pages-are)) (c .before .before .before .before .power .ensures)
+      page-from (call .args .e) (listOfBook (call .args .book .now)) (next .done) m (so-far .e-high) (so-far .short)
+      (omega (arith, c .before .if1 .taken, so-far .pages-are)) (c .before .before .before .before .power .ensures)
 
--- its sum
-module _ (c : tie.After-sum-at Inv-loop μ-loop) where
-  abbrev at : tie.After-struct-known2 Inv-loop μ-loop
-  at = c .before
-
-  sum-is : PageSum (call at .args .e) (listOfBook (call at .args .book .now)) (next at .done) (c .sum-at .result)
-  sum-is =
-      page-sum (call at .args .e) (at .before .before .before .before .power .result) (next at .done) (c .sum-at .result)
-      (listOfBook (call at .args .book .now)) (so-far at .e-high) (at .before .before .before .before .power .ensures) (c .sum-at .ensures .0)
-      (c .sum-at .ensures .1)
-
-  abbrev awaits : Awaits (next at) (c .sum-at .result)
-  awaits = record {
-    e = call at .args .e;
-    xs = listOfBook (call at .args .book .now);
-    drafted = so-far at;
-    more = at .before .if1 .taken;
-    sum-is = sum-is;
-  }
+abbrev awaits : (c : tie.After-sum-at Inv-loop μ-loop) → Awaits (next (c .before)) (c .sum-at .result)
+awaits c =
+    let k = c .before in
+    awaited (m k) (c .sum-at .result) (so-far k) (k .before .if1 .taken) (k .before .before .before .before .power .ensures) (c .sum-at .ensures .0)
+    (omega (arith, c .sum-at .ensures .1))
 
 mul-sum-at : tie.Need-mul-sum-at Inv-loop μ-loop
 mul-sum-at c = omega (arith, size c)
@@ -68,8 +56,8 @@ add-page-requires c κs = awaits c
 
 loop-less : tie.Need-loop-less Inv-loop μ-loop
 loop-less c =
-    let d = c .add-page .ensures .1 (awaits (c .before)) in
-    omega (arith, c .add-page .ensures .0, c .before .before .before .if1 .taken, d .pages-are, so-far (c .before .before) .pages-are)
+    let k = c .before .before in
+    fewer (so-far k) (k .before .if1 .taken) (c .add-page .ensures .0) (c .add-page .ensures .1 (awaits (c .before)))
 
 loop-again : tie.Need-loop-again Inv-loop μ-loop
 loop-again c = c .add-page .ensures .1 (awaits (c .before))

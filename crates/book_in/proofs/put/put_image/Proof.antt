@@ -8,7 +8,7 @@ use native.Mathlib.Omega.{arith}
 use Rattle.book.specs.Book.{listOfBook}
 use Rattle.image_steps.specs.Code.Writing.{Filled, Handed, Laid}
 use Rattle.image_steps.specs.declared.put.Place.{Place}
-use Rattle.image_write.proofs.ListPages.{page-from}
+use Rattle.image_steps.proofs.PageByPage.{filled, laid-since, page-from}
 use Rattle.book_in.proofs.BookPages.{page-front}
 use Rattle.book_in.proofs.put.put_image.Statement.{statement}
 use Rattle.book_in.proofs.put.put_image.Tie as tie
@@ -47,7 +47,7 @@ module _ (c : tie.After-struct-known3 Inv-loop μ-loop) where
   m = c .before .before .before .before .before .before .before .before .before .power .result
 
   so-far : Laid xs (call .args .out .now) out-now (call .args .r) place
-  so-far = c .before .before .before .before .loop .inv .1 (call .args .out .now) (c .before .before .before .before .before .before .before .begin .ensures .1 (record { xs = xs; room = call .pre }))
+  so-far = laid-since (call .pre) (c .before .before .before .before .before .before .before .begin .ensures .1) (c .before .before .before .before .loop .inv .1)
 
   size : (m * place .page < 65536) × (m ≤ 256)
   size =
@@ -109,28 +109,19 @@ module _ (c : tie.After-end-arg Inv-loop μ-loop) where
   abbrev start : tie.Start Inv-loop μ-loop
   start = c .before .before .before .before .before .before .before .before .before .before .before .before
 
-  whole : Laid (listOfBook (start .args .book .now)) (start .args .out .now) (c .before .before .before .before .loop .out) (start .args .r) (c .before .before .before .before .loop .at)
+  abbrev whole : Filled (start .args .r) (c .before .before .before .before .loop .out)
   whole =
-      c .before .before .before .before .loop .inv .1 (start .args .out .now)
-      (c .before .before .before .before .before .before .before .begin .ensures .1 (record { xs = listOfBook (start .args .book .now); room = start .pre }))
-
-  abbrev filled : Filled (start .args .r) (c .before .before .before .before .loop .out)
-  filled = record {
-    xs = listOfBook (start .args .book .now);
-    first = start .args .out .now;
-    at = c .before .before .before .before .loop .at;
-    so-far = whole;
-    all = c .before .if1 .left;
-  }
+      filled (start .pre) (c .before .before .before .before .before .before .before .begin .ensures .1) (c .before .before .before .before .loop .inv .1)
+      (c .before .if1 .left)
 
 end-requires : tie.Need-end-requires Inv-loop μ-loop
-end-requires c κs = filled c
+end-requires c κs = whole c
 
 same-length : tie.Need-same-length Inv-loop μ-loop
-same-length c = omega (arith, c .before .before .end .kept .0, whole (c .before .before .before) .long)
+same-length c = omega (arith, c .before .before .end .kept .0, whole (c .before .before .before) .so-far .long)
 
 returns : tie.Need-returns Inv-loop μ-loop
-returns c = c .before .before .end .ensures (filled (c .before .before .before))
+returns c = c .before .before .end .ensures (whole (c .before .before .before))
 
 pub put-image-spec : {M : Type 1} → statement M
 put-image-spec =

@@ -4,8 +4,8 @@ use Prim.Native.Nat.{ℕ, _-_, _*_, _<_}
 use native.Mathlib.Omega.{arith}
 use Rattle.image_steps.specs.Code.Writing.{Filled, Handed, Laid}
 use Rattle.image_steps.specs.declared.put.Place.{Place}
-use Rattle.image_write.proofs.ListPages.{page-from, page-window}
-use borrow.Author.Needs.{needs}
+use Rattle.image_steps.proofs.PageByPage.{filled, laid-since, page-from}
+use Rattle.image_write.proofs.ListPages.{page-window}
 use Rattle.image_write.proofs.put.put_image.Statement.{statement}
 use Rattle.image_write.proofs.put.put_image.Tie as tie
 
@@ -32,29 +32,29 @@ module _ (c : tie.After-struct-known3 Inv-loop μ-loop) where
   abbrev place : Place
   place = c .before .before .before .before .before .loop .at
 
+  abbrev m : ℕ
+  m = c .before .before .before .before .before .before .before .before .before .before .power .result
+
   so-far : Laid (call .args .counts .now) (call .args .out .now) (c .before .before .before .before .before .loop .out) (call .args .r) place
   so-far =
-      c .before .before .before .before .before .loop .inv (call .args .out .now)
-      (c .before .before .before .before .before .before .before .before .begin .ensures .1 (record { xs = call .args .counts .now; room = call .pre }))
+      laid-since (call .pre) (c .before .before .before .before .before .before .before .before .begin .ensures .1)
+      (c .before .before .before .before .before .loop .inv)
 
-  size : c .before .before .before .before .before .before .before .before .before .before .power .result * place .page < 65536
+  size : m * place .page < 65536
   size =
-      page-from (call .args .r .e) (call .args .counts .now) (place .page)
-      (c .before .before .before .before .before .before .before .before .before .before .power .result) (call .pre .limits .e-high)
-      (call .pre .limits .hours) (omega (arith, c .before .before .if1 .taken, call .pre .layout .pages-are))
+      page-from (call .args .r .e) (call .args .counts .now) (place .page) m (call .pre .limits .e-high) (call .pre .limits .hours)
+      (omega (arith, c .before .before .if1 .taken, call .pre .layout .pages-are))
       (c .before .before .before .before .before .before .before .before .before .before .power .ensures) .0
 
   abbrev handed : (first : List ℕ) → Laid (call .args .counts .now) first (c .before .before .before .before .before .loop .out) (call .args .r) place
-      → Handed (call .args .r) place (call .args .counts .now)
-      (c .before .before .before .before .before .before .before .before .before .before .power .result * place .page)
+      → Handed (call .args .r) place (call .args .counts .now) (m * place .page)
       (c .before .before .before .before .before .loop .out)
   handed first a = record {
     xs = call .args .counts .now;
     first = first;
     so-far = a;
     more = c .before .before .if1 .taken;
-    counts-are = page-window (call .args .r .e) (call .args .counts .now) (place .page)
-        (c .before .before .before .before .before .before .before .before .before .before .power .result)
+    counts-are = page-window (call .args .r .e) (call .args .counts .now) (place .page) m
         (c .before .before .before .before .before .before .before .before .before .before .power .ensures);
     near = omega (arith, size);
   }
@@ -80,29 +80,19 @@ module _ (c : tie.After-end-arg Inv-loop μ-loop) where
   abbrev start : tie.Start Inv-loop μ-loop
   start = c .before .before .before .before .before .before .before .before .before .before .before .before
 
-  whole : Laid (start .args .counts .now) (start .args .out .now) (c .before .before .before .before .loop .out) (start .args .r)
-      (c .before .before .before .before .loop .at)
+  abbrev whole : Filled (start .args .r) (c .before .before .before .before .loop .out)
   whole =
-      c .before .before .before .before .loop .inv (start .args .out .now)
-      (c .before .before .before .before .before .before .before .begin .ensures .1 (record { xs = start .args .counts .now; room = start .pre }))
-
-  abbrev filled : Filled (start .args .r) (c .before .before .before .before .loop .out)
-  filled = record {
-    xs = start .args .counts .now;
-    first = start .args .out .now;
-    at = c .before .before .before .before .loop .at;
-    so-far = whole;
-    all = c .before .if1 .left;
-  }
+      filled (start .pre) (c .before .before .before .before .before .before .before .begin .ensures .1) (c .before .before .before .before .loop .inv)
+      (c .before .if1 .left)
 
 end-requires : tie.Need-end-requires Inv-loop μ-loop
-end-requires c κs = filled c
+end-requires c κs = whole c
 
 same-length : tie.Need-same-length Inv-loop μ-loop
-same-length c = omega (arith, c .before .before .end .kept .0, whole (c .before .before .before) .long)
+same-length c = omega (arith, c .before .before .end .kept .0, whole (c .before .before .before) .so-far .long)
 
 returns : tie.Need-returns Inv-loop μ-loop
-returns c = c .before .before .end .ensures (filled (c .before .before .before))
+returns c = c .before .before .end .ensures (whole (c .before .before .before))
 
 pub put-image-spec : {M : Type 1} → statement M
 put-image-spec =
