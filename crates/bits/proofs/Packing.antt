@@ -2,15 +2,17 @@
 use mathlib.Core.Path.{_≡_, refl, sym, ap, ap₂, _∙_}
 use mathlib.Core.List.{List, [], _∷_, _++_, append-assoc, append-nil}
 use Prim.Native.Nat.{ℕ, zero, suc, _+_, _-_, _*_, _/_, _%_, _^_, _≤_, _<_}
-use native.Mathlib.Nat.{add-zero, mul-le-mul-right, pow-succ'}
+use native.Mathlib.Nat.{add-zero, mod-lt, mul-le-mul-right, pow-succ'}
 use native.Mathlib.Omega.{arith}
 use lib.ListN.{length, getD, take, drop, replicate, length-append, length-take, length-drop, length-replicate, take-append-drop}
-use lib.Seq.{take-nil, take-at, take-append-le, take-append-add, drop-at, drop-append-le}
-use Rattle.lists.specs.Lists.{fill}
+use lib.Pow.{pow-pos}
+use lib.Seq.{take-all, take-nil, take-at, take-append-le, take-append-add, drop-at, drop-append-le}
+use Rattle.lists.specs.Lists.{fill, part}
 use Rattle.lists.proofs.Zeros.{zeros-split}
 use Rattle.bits.specs.Bits.{field, valueFrom, value, bits}
 use Rattle.bits.specs.Pack.{pack}
 use Rattle.bits.proofs.Laws.{length-field, valueFrom-field}
+use Rattle.bits.proofs.Words.{field-get}
 
 -- each is 0 or 1
 abbrev pub Bits : List ℕ → Type 0
@@ -64,6 +66,18 @@ field-value bs h = ap (λ (z : ℕ). field z (value bs)) {x = length bs} {y = 0 
 
 pub value-field : (w v : ℕ) → v < 2 ^ w → value (field w v) ≡ v
 value-field w v h = valueFrom-field w 0 v h ∙ omega arith
+
+-- a piece of a field, as a field and as a number
+pub field-piece : (r v k n : ℕ) → k + n ≤ r → part (field r v) k n ≡ field n (v / 2 ^ (r - (k + n)) % 2 ^ n)
+field-piece r v k n l =
+    let g : field r v ≡ take r (drop 0 (field r v)) = sym (take-all r (field r v) (omega (arith, length-field r v))) in
+    ap (λ (z : ℕ). part (field r v) z n) {x = k} {y = 0 + k} (omega arith)
+    ∙ field-get (field r v) 0 r k n (r - (k + n)) v (omega arith) g (omega (arith, length-field r v))
+
+pub value-piece : (r v k n : ℕ) → k + n ≤ r → value (part (field r v) k n) ≡ v / 2 ^ (r - (k + n)) % 2 ^ n
+value-piece r v k n l =
+    let low : ℕ = r - (k + n) in
+    ap value (field-piece r v k n l) ∙ value-field n (v / 2 ^ low % 2 ^ n) (mod-lt (v / 2 ^ low) (pow-pos n))
 
 -- the number that bits make has no more digits
 pub value-lt : (bs : List ℕ) (a : ℕ) → Bits bs → valueFrom a bs < (a + 1) * 2 ^ length bs

@@ -2,14 +2,16 @@
 use mathlib.Core.Path.{_≡_, refl, sym, ap, _∙_}
 use mathlib.Core.List.{List}
 use Prim.Native.Nat.{ℕ, zero, suc, _+_, _-_, _*_, _/_, _%_, _^_, _≤_, _<_, min}
-use native.Mathlib.Nat.{mod-eq-of-lt, mul-mod-left, add-zero}
+use native.Mathlib.Nat.{mod-eq-of-lt, mod-mod, mul-mod-left, add-zero}
 use native.Mathlib.Omega.{arith}
 use lib.ListN.{length, take, drop}
 use lib.Pow.{mod-pow-add, shl-shr, shr-shr, mod-mod-pow}
 use lib.Pow.{field as middle}
+use Rattle.lists.specs.Lists.{part}
 use Rattle.bits.specs.Bits.{field, value, valueFrom, bits}
 use Rattle.bits_field.specs.Code.Front.{Front}
 use Rattle.bits.proofs.Laws.{length-bits}
+use Rattle.bits.proofs.Packing.{field-piece}
 use Rattle.bits.proofs.Words.{get-is}
 
 -- of a word shifted up by k its low digits are left
@@ -36,6 +38,17 @@ part-is w k n l i =
     shr-shr ((w * 2 ^ k) % 2 ^ 64) 1 (63 - n)
     ∙ ap (λ (x : ℕ). (w * 2 ^ k) % 2 ^ 64 / 2 ^ x) e
     ∙ behind w k n q (omega arith)
+
+-- the first n bits of a word shifted up are those behind its k high ones
+pub up-part : (w k n : ℕ) → k + n ≤ 64 → part (field 64 ((w * 2 ^ k) % 2 ^ 64)) 0 n ≡ part (field 64 w) k n
+up-part w k n l =
+    let q : ℕ = 64 - (k + n) in
+    let e : 64 - (0 + n) ≡ k + q = omega arith in
+    field-piece 64 ((w * 2 ^ k) % 2 ^ 64) 0 n (omega arith)
+    ∙ ap (λ (x : ℕ). field n ((w * 2 ^ k) % 2 ^ 64 / 2 ^ x % 2 ^ n)) e
+    ∙ ap (λ (x : ℕ). field n (x % 2 ^ n)) (behind w k n q (omega arith))
+    ∙ ap (field n) (mod-mod (w / 2 ^ q) (2 ^ n))
+    ∙ sym (field-piece 64 w k n l)
 
 -- nothing is 0 either way
 none : (x : ℕ) → 0 ≡ x % 2 ^ 0

@@ -2,13 +2,13 @@
 use mathlib.Core.Path.{_≡_, _∙_, subst, sym}
 use mathlib.Core.Bool.{Bool, true, false}
 use mathlib.Core.List.{List, [], _∷_}
-use Prim.Native.Nat.{ℕ, zero, suc, _+_, _*_, _/_, _%_, _≤_, _<_}
-use native.Mathlib.Nat.{add-zero, zero-add, add-suc, suc-add, le-of-suc-le-suc, not-suc-le-zero}
+use Prim.Native.Nat.{ℕ, zero, suc, _+_, _*_, _/_, _%_, _<_}
+use native.Mathlib.Nat.{add-zero, add-suc, suc-add, le-of-suc-le-suc, not-suc-le-zero}
 use native.Mathlib.Omega.{arith}
 use lib.Dec.{T, eqb, eqb→eq}
 use lib.ListN.{length, getD}
 use Rattle.reserve.specs.Reserve.{reserve}
-use Rattle.reserve_table.specs.Code.Tabled.{Tabled}
+use Rattle.reserve_table.specs.Code.Tabled.{Tabled, Fours}
 
 abbrev both : Bool → Bool → Bool
 both true b = b
@@ -39,16 +39,18 @@ from (x ∷ xs) i t (suc k) h =
     subst (λ (m : ℕ). T (right m (getD xs k 0))) (suc-add i k ∙ sym (add-suc i k))
     (from xs (suc i) (both-right (right i x) (rightFrom (suc i) xs) t) k (le-of-suc-le-suc h))
 
-at : (xs : List ℕ) → T (rightFrom 0 xs) → (k : ℕ) → k < length xs → getD xs k 0 ≡ reserve (k / 64) (k % 64)
+-- a list of right entries from place i on
+at : (xs : List ℕ) (i : ℕ) → T (rightFrom i xs) → (k h s : ℕ) → k < length xs → s < 64 → i + k ≡ h * 64 + s → getD xs k 0 ≡ reserve h s
 unfolding right
-at xs t k h = eqb→eq (getD xs k 0) (reserve (k / 64) (k % 64)) (subst (λ (m : ℕ). T (right m (getD xs k 0))) (zero-add k) (from xs 0 t k h))
+at xs i t k h s l m e =
+    let q : (i + k) / 64 ≡ h = omega arith in
+    let r : (i + k) % 64 ≡ s = omega arith in
+    eqb→eq (getD xs k 0) (reserve ((i + k) / 64) ((i + k) % 64)) (from xs i t k l) ∙ rw (q, r)
 
 -- a table of 512 entries, each of them right
 pub tabled : (xs : List ℕ) → length xs ≡ 512 → T (rightFrom 0 xs) → Tabled xs
-tabled xs n t = record { entry = entry }
-  where
-    entry : (h s : ℕ) → h ≤ 7 → s < 64 → getD xs (h * 64 + s) 0 ≡ reserve h s
-    entry h s l k =
-        let q : (h * 64 + s) / 64 ≡ h = omega arith in
-        let r : (h * 64 + s) % 64 ≡ s = omega arith in
-        at xs t (h * 64 + s) (omega (arith, n)) ∙ rw (q, r)
+tabled xs n t = record { entry = λ h s l k. at xs 0 t (h * 64 + s) h s (omega (arith, n)) k (omega arith) }
+
+-- the entries that stand at height 2 of such a table
+pub row-of-four : (xs : List ℕ) → length xs ≡ 64 → T (rightFrom 128 xs) → Fours xs
+row-of-four xs n t = record { entry = λ s k. at xs 128 t s 2 s (omega (arith, n)) k (omega arith) }

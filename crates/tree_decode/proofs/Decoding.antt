@@ -1,8 +1,9 @@
 -- The counts of a tree that is some list's code, half by half. Assumes nothing.
-use mathlib.Core.Path.{_≡_, refl, sym, ap, _∙_}
+use mathlib.Core.Path.{_≡_, sym, ap, _∙_, subst}
 use mathlib.Core.Bool.{true}
 use mathlib.Core.List.{List, [], _∷_, _++_}
-use Prim.Native.Nat.{ℕ, zero, suc, _+_, _-_, _^_, _≤_, _<_}
+use Prim.Native.Nat.{ℕ, suc, _+_, _-_, _^_, _≤_, _<_}
+use native.Mathlib.Nat.{pow-succ'}
 use native.Mathlib.Numerals.{add-one}
 use native.Mathlib.Omega.{arith}
 use lib.Dec.{leb}
@@ -10,13 +11,14 @@ use lib.ListN.{length, set}
 use lib.Seq.{set-split}
 use Rattle.lists.specs.Lists.{splice}
 use Rattle.lists.proofs.Tests.{each}
+use Rattle.bits.specs.Bits.{bits}
 use Rattle.tree.specs.Read.{leftOf, leftAt, rightAt, counts}
 use Rattle.tree.specs.Exact.{clear, spareAt, spareLen, exact}
-use Rattle.tree.specs.Code.Node.{Rooted}
+use Rattle.tree.specs.Code.Node.{Lies, Rooted}
 use Rattle.tree.specs.declared.node.Split.{Split}
 use Rattle.tree.proofs.Shape.{length-counts}
 use Rattle.lists.proofs.Parts.{splice-then}
-use Rattle.tree.proofs.Rooting.{Inner, halved}
+use Rattle.tree.proofs.Rooting.{Inner}
 
 -- ---- the halves of a code are codes
 
@@ -55,29 +57,39 @@ pub one-count : (l b : List ℕ) (i h s a : ℕ) → h ≡ 0 → i < length l �
 unfolding splice counts
 one-count l b i h s a e k = rw e (set-split l i s k ∙ rw add-one)
 
-counts-halves : (h s : ℕ) (b : List ℕ) (a : ℕ) → (h ≡ 0 → ⊥)
-    → counts h s b a ≡ counts (h - 1) (leftOf s b a) b (leftAt s a) ++ counts (h - 1) (s - leftOf s b a) b (rightAt (h - 1) s (leftOf s b a) a)
+counts-node : (h s l : ℕ) (b : List ℕ) (a : ℕ) → leftOf s b a ≡ l → counts (suc h) s b a ≡ counts h l b (leftAt s a) ++ counts h (s - l) b (rightAt h s l a)
 unfolding counts
-counts-halves zero s b a p = absurd (p refl)
-counts-halves (suc k) s b a p = let e : suc k - 1 ≡ k = omega arith in rw e
+counts-node h s l b a e = rw e
 
--- the left half's counts and then the right half's are the node's
-module _ {b : List ℕ} {a h s : ℕ} {r : Split} (i : Inner b a h s r) where
-  abbrev X : List ℕ
-  X = counts (h - 1) (r .left) b (r .first)
+-- the counts of a node's left half, whose sum is l, and then those of its right half are the node's
+pub halves-written : (h s l : ℕ) (b : List ℕ) (a : ℕ) → leftOf s b a ≡ l → (o m r : List ℕ) (i half : ℕ) → half ≡ 2 ^ h → i + 2 ^ suc h ≤ length o
+    → m ≡ splice o i (counts h l b (leftAt s a)) → r ≡ splice m (i + half) (counts h (s - l) b (rightAt h s l a)) → r ≡ splice o i (counts (suc h) s b a)
+halves-written h s l b a el o m r i half eh fits em er =
+    let X : List ℕ = counts h l b (leftAt s a) in
+    let Y : List ℕ = counts h (s - l) b (rightAt h s l a) in
+    let lX : length X ≡ 2 ^ h = length-counts h l b (leftAt s a) in
+    let lY : length Y ≡ 2 ^ h = length-counts h (s - l) b (rightAt h s l a) in
+    splice-then o m r X Y i (i + half) em er (omega arith) (omega (arith, pow-succ' 2 h)) ∙ ap (splice o i) (sym (counts-node h s l b a el))
 
-  abbrev Y : List ℕ
-  Y = counts (h - 1) (s - r .left) b (r .second)
+-- the same of a node that was read
+module _ {b : List ℕ} {a h s : ℕ} {r : Split} (n : Inner b a h s r) where
+  pub both-halves : (l m o : List ℕ) (i half : ℕ) → half ≡ 2 ^ (h - 1) → i + 2 ^ h ≤ length l → m ≡ splice l i (counts (h - 1) (r .left) b (r .first))
+      → o ≡ splice m (i + half) (counts (h - 1) (s - r .left) b (r .second)) → o ≡ splice l i (counts h s b a)
+  both-halves l m o i half eh fits em eo =
+      let up : suc (h - 1) ≡ h = omega (arith, n .high) in
+      halves-written (h - 1) s (r .left) b a (sym (n .root .left-is (n .sound))) l m o i half eh (rw up fits)
+      (em ∙ ap (λ (k : ℕ). splice l i (counts (h - 1) (r .left) b k)) (n .root .first-is (n .sound)))
+      (eo ∙ ap (λ (k : ℕ). splice m (i + half) (counts (h - 1) (s - r .left) b k)) (n .root .second-is (n .sound)))
+      ∙ ap (λ (k : ℕ). splice l i (counts k s b a)) up
 
-  counts-are : counts h s b a ≡ X ++ Y
-  counts-are =
-      let n = i .root in
-      rw (n .first-is (i .sound), n .second-is (i .sound), n .left-is (i .sound)) (counts-halves h s b a (i .high))
+-- ---- a node of height k, as it was tested, and room for its counts from index i on
+pub record OfHeight (k : ℕ) (b : List ℕ) (a s : ℕ) (o : List ℕ) (i : ℕ) : Type 0 where
+  pub lies : Lies b a k s
+  pub code : exact k s (bits b) a ≡ true
+  pub room : i + 2 ^ k ≤ length o
 
-  pub both-halves : (l m o : List ℕ) (from half : ℕ) → half ≡ 2 ^ (h - 1) → from + 2 ^ h ≤ length l → m ≡ splice l from X
-      → o ≡ splice m (from + half) Y → o ≡ splice l from (counts h s b a)
-  both-halves l m o from half eh fits em eo =
-      let lX = length-counts (h - 1) (r .left) b (r .first) in
-      let lY = length-counts (h - 1) (s - r .left) b (r .second) in
-      splice-then l m o X Y from (from + half) em eo (omega (arith, lX)) (omega (arith, lX, lY, halved h (i .high)))
-      ∙ ap (splice l from) (sym counts-are)
+pub of-height : {h k : ℕ} {b : List ℕ} {a s : ℕ} {o : List ℕ} {i : ℕ} → h ≡ k → OfHeight h b a s o i → OfHeight k b a s o i
+of-height {h} {k} {b} {a} {s} {o} {i} e n = subst (λ (j : ℕ). OfHeight j b a s o i) e n
+
+pub height-written : (h s k : ℕ) (b : List ℕ) (a : ℕ) (o r : List ℕ) (i : ℕ) → h ≡ k → r ≡ splice o i (counts k s b a) → r ≡ splice o i (counts h s b a)
+height-written h s k b a o r i e f = f ∙ ap (λ (j : ℕ). splice o i (counts j s b a)) (sym e)

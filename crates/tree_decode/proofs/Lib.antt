@@ -1,3 +1,6 @@
--- Laws of the counts, half by half and four at a time.
+-- Laws of the counts: half by half, out of a word's own bits, four and eight at a time, into zeros.
 pub mod Decoding
+pub mod InWord
 pub mod FourCounts
+pub mod EightCounts
+pub mod IntoZeros

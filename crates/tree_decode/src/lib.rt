@@ -1,16 +1,20 @@
-// The counts of a tree that is some list's code. A recursion in which h falls, one level a call. It ends at a tree of zeros, at four counts,
-// whose bits come out of one load, or at one count where these do not fit a word. It reads over `&&[u8]`, a thin pointer.
+// The counts of a tree that is some list's code. A recursion in which h falls, one level a call. It ends at a tree of zeros, at eight
+// counts, whose bits come out of one load or three, at four, out of one, or at one count where these do not fit a word. It reads over
+// `&&[u8]`, a thin pointer.
+mod words;
+
 use bits_field::front;
-use reserve::digits_of;
 use tree::node::one_word;
 use tree::node::root_by_shifts;
+use words::eight;
+use words::four;
 ghost use mathlib.Core.Bool.{true};
 ghost use mathlib.Core.Path.{_≡_};
 ghost use Prim.Native.Nat.{_+_, _≤_, _<_, _^_};
 ghost use lib.ListN.{length, replicate};
-ghost use Rattle.lists.specs.Lists.{splice};
+ghost use Rattle.lists.specs.Lists.{part, splice};
 ghost use Rattle.bits.specs.Bits.{bits};
-ghost use Rattle.reserve.specs.Reserve.{digits};
+ghost use Rattle.reserve_table.specs.Code.Tabled.{Fours};
 ghost use Rattle.tree.specs.Read.{counts};
 ghost use Rattle.tree.specs.Exact.{exact};
 ghost use Rattle.tree.specs.Code.Node.{Lies};
@@ -27,35 +31,36 @@ fn zeros(out: &mut [u32], from: usize, n: usize)
     }
 }
 
-// The lowest two levels: the four counts with sum s at bit at. A pair's left count stands in a field of its own, behind the left sum.
-fn four(b: &[u8], at: usize, s: u64, out: &mut [u32], from: usize)
-    requires { ⌜ Lies (now b) at 2 s × (exact 2 s (bits (now b)) at ≡ true) × (digits s ≤ 19) × (from + 4 ≤ length (now out)) ⌝ }
-    ensures { λ _. ⌜ now (out .exit) ≡ splice (now (out .entry)) from (counts 2 s (bits (now (b .entry))) at) ⌝ }
+// The lowest three levels: the eight counts with sum s at bit at. They come out of one word where it has all their bits, else each four
+// out of a word of their own.
+fn lowest(b: &[u8], row: &[u8; 64], at: usize, s: u64, out: &mut [u32], from: usize)
+    requires { ⌜ Lies (now b) at 3 s × (exact 3 s (bits (now b)) at ≡ true) × (s < 524288) × (from + 8 ≤ length (now out)) × Fours (now row) ⌝ }
+    ensures { λ _. ⌜ now (out .exit) ≡ splice (now (out .entry)) from (counts 3 s (bits (now (b .entry))) at) ⌝ }
 {
-    let w = front::load(b, at);
-    let t = digits_of(s);
-    let left = front::part(w, 0, t);
-    let right = s - left;
-    let f = digits_of(left);
-    let first = front::part(w, t, f);
-    let third = front::part(w, t + f, digits_of(right));
-    out[from] = first as u32;
-    out[from + 1] = (left - first) as u32;
-    out[from + 2] = third as u32;
-    out[from + 3] = (right - third) as u32;
+    if s < 64 {
+        eight(front::load(b, at), row, s, out, from);
+        return;
+    }
+    let r = root_by_shifts(b, at, 2, s);
+    four(front::load(b, r.first), r.left, out, from);
+    four(front::load(b, r.second), s - r.left, out, from + 4);
 }
 
-// The counts of the node at bit at and below it.
-fn decode_node(b: &&[u8], at: usize, h: u32, s: u64, out: &mut [u32], from: usize)
-    requires { ⌜ Lies (now (now b)) at h s × (exact h s (bits (now (now b))) at ≡ true) × (s < 4294967296) × (from + 2 ^ h ≤ length (now out)) ⌝ }
+// The counts of the node at bit at and below it, into zeros: those of an empty half stand there already.
+fn decode_node(b: &&[u8], row: &[u8; 64], at: usize, h: u32, s: u64, out: &mut [u32], from: usize)
+    requires { ⌜ Lies (now (now b)) at h s × (exact h s (bits (now (now b))) at ≡ true) × (s < 4294967296) ⌝ }
+    requires { ⌜ Fours (now row) × (from + 2 ^ h ≤ length (now out)) × (part (now out) from (2 ^ h) ≡ replicate (2 ^ h) 0) ⌝ }
     ensures { λ _. ⌜ now (out .exit) ≡ splice (now (out .entry)) from (counts h s (bits (now (now (b .entry)))) at) ⌝ }
 {
     if s == 0 {
-        zeros(out, from, reserve::power(h) as usize);
+        return;
+    }
+    if h == 3 && s < 524288 {
+        lowest(*b, row, at, s, out, from);
         return;
     }
     if one_word(h, s) {
-        four(*b, at, s, out, from);
+        four(front::load(*b, at), s, out, from);
         return;
     }
     if h == 0 {
@@ -65,8 +70,8 @@ fn decode_node(b: &&[u8], at: usize, h: u32, s: u64, out: &mut [u32], from: usiz
     let down = h - 1;
     let r = root_by_shifts(*b, at, down, s);
     let half = reserve::power(down) as usize;
-    decode_node(b, r.first, down, r.left, out, from);
-    decode_node(b, r.second, down, s - r.left, out, from + half);
+    decode_node(b, row, r.first, down, r.left, out, from);
+    decode_node(b, row, r.second, down, s - r.left, out, from + half);
 }
 
 // Puts the counts of the tree of 2^h counts with sum s at bit at, which is some list's code, into out from index from on.
@@ -74,5 +79,7 @@ pub fn decode(b: &[u8], at: usize, h: u32, s: u64, out: &mut [u32], from: usize)
     requires { ⌜ Lies (now b) at h s × (exact h s (bits (now b)) at ≡ true) × (s < 4294967296) × (from + 2 ^ h ≤ length (now out)) ⌝ }
     ensures { λ _. ⌜ now (out .exit) ≡ splice (now (out .entry)) from (counts h s (bits (now (b .entry))) at) ⌝ }
 {
-    decode_node(&b, at, h, s, out, from);
+    zeros(out, from, reserve::power(h) as usize);
+    let row = reserve_table::fours();
+    decode_node(&b, &row, at, h, s, out, from);
 }

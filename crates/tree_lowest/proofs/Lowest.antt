@@ -3,19 +3,18 @@ use mathlib.Core.Path.{_≡_, refl, sym, ap, ap₂, _∙_}
 use mathlib.Core.Bool.{Bool, true, false, and-true}
 use mathlib.Core.List.{List, [], _∷_}
 use Prim.Native.Nat.{ℕ, zero, suc, _+_, _-_, _*_, _/_, _%_, _^_, _≤_, _<_}
-use native.Mathlib.Nat.{mod-lt, mod-eq-of-lt}
+use native.Mathlib.Nat.{mod-eq-of-lt}
 use native.Mathlib.Omega.{arith}
-use lib.ListN.{length, take, drop}
+use lib.ListN.{length, drop}
 use lib.Seq.{take-all}
 use lib.Dec.{leb, eqb}
-use lib.Pow.{pow-pos, shr-lt}
+use lib.Pow.{shr-lt}
 use borrow.Author.Tests.{le-leb, lt-leb}
 use Rattle.lists.specs.Lists.{every, same, part}
 use Rattle.lists.proofs.Parts.{length-part}
 use Rattle.bits.specs.Bits.{field, value, bits}
 use Rattle.bits.proofs.Laws.{length-field, length-bits}
-use Rattle.bits.proofs.Packing.{bits-bytes, bits-field, bits-take, bits-drop, value-field, value-lt}
-use Rattle.bits.proofs.Words.{field-get}
+use Rattle.bits.proofs.Packing.{bits-bytes, bits-field, bits-take, bits-drop, value-piece, value-lt}
 use Rattle.reserve.specs.Reserve.{digits, reserve}
 use Rattle.reserve.proofs.Exact.{digits-le}
 use Rattle.reserve.proofs.Fit.{fit-all, one-count}
@@ -39,15 +38,6 @@ exact-pair s b a =
     let l : ℕ = leftOf s b a in
     let none : spareLen 0 s l ≡ 0 = omega (arith, reserve-pair s, one-count l, one-count (s - l)) in
     rw (clear-nothing b (spareAt 0 s l a) (spareLen 0 s l) none, and-true (leb l s))
-
--- ---- a piece of a field, as a number
-pub value-piece : (r v k n : ℕ) → k + n ≤ r → value (part (field r v) k n) ≡ v / 2 ^ (r - (k + n)) % 2 ^ n
-value-piece r v k n l =
-    let low : ℕ = r - (k + n) in
-    let g : field r v ≡ take r (drop 0 (field r v)) = sym (take-all r (field r v) (omega (arith, length-field r v))) in
-    ap (λ (z : ℕ). value (part (field r v) z n)) {x = k} {y = 0 + k} (omega arith)
-    ∙ ap value (field-get (field r v) 0 r k n low v (omega arith) g (omega (arith, length-field r v)))
-    ∙ value-field n (v / 2 ^ low % 2 ^ n) (mod-lt (v / 2 ^ low) (pow-pos n))
 
 -- ---- four counts: left sum l, the pairs' left counts x and y, and zeros
 abbrev pub fourTests : ℕ → ℕ → ℕ → ℕ → ℕ → List Bool

@@ -1,12 +1,17 @@
 -- `tree_decode::decode_node` meets its contract, h falling at each call: the counts of the left half, then those of the right half, are two
--- splices in a row, which are one (`both-halves`). Assumes nothing.
-use mathlib.Core.Path.{_≡_}
+-- splices in a row, which are one (`both-halves`), and the right half still has its zeros when the left one is written. Assumes nothing.
+use mathlib.Core.Path.{_≡_, ap, _∙_}
 use Prim.Native.Nat.{_+_, _-_, _^_, _≤_}
 use native.Mathlib.Omega.{arith}
+use borrow.Author.Tests.{ltb-true}
+use Rattle.lists.specs.Lists.{splice}
 use Rattle.bits.specs.Bits.{bits}
+use Rattle.reserve.specs.Reserve.{digits}
 use Rattle.tree.proofs.Rooting.{top, halved, left-lies, right-lies}
-use Rattle.tree_decode.proofs.Decoding.{Unfolded, unfolded, one-count, both-halves}
-use Rattle.tree_decode.proofs.FourCounts.{none-written, at-four, four-high}
+use Rattle.tree.proofs.Shape.{length-counts}
+use Rattle.tree_decode.proofs.Decoding.{Unfolded, unfolded, one-count, both-halves, OfHeight, of-height, height-written}
+use Rattle.tree_decode.proofs.InWord.{Held, loaded, word-exact, word-counts, four-fits}
+use Rattle.tree_decode.proofs.IntoZeros.{none-written, left-zeros, right-zeros}
 use borrow.Author.Needs.{needs}
 use Prim.Native.Nat.{ℕ, _<_}
 use borrow.Fn.Kinds.{In}
@@ -14,88 +19,119 @@ use borrow.Fn.PlainCycle.{Measures, is, falls, and}
 use Rattle.tree_decode.proofs.decode_node.Reads as decode-node
 use Rattle.tree_decode.proofs.decode_node.Kinds as decode-node-kinds
 use Rattle.tree_decode.proofs.+decode_node.Lts-decode_node as decode-node-lts
+use Rattle.bits_field.proofs.front.load.Reads as load-reads
 use Rattle.reserve.proofs.power.Reads as power-reads
 use Rattle.tree.proofs.node.one_word.Reads as one-word-reads
 use Rattle.tree.proofs.node.root_by_shifts.Reads as root-by-shifts-reads
-use Rattle.tree_decode.proofs.four.Reads as four-reads
-use Rattle.tree_decode.proofs.zeros.Reads as zeros-reads
+use Rattle.tree_decode.proofs.lowest.Reads as lowest-reads
+use Rattle.tree_decode.proofs.words.four.Reads as four-reads
 use Rattle.tree_decode.proofs.+decode_node.{statement}
 use Rattle.tree_decode.proofs.+decode_node.Tie.{close}
 
-abbrev μ-decode-node : Measures 3 decode-node-kinds.ps ℕ
-μ-decode-node κs a = a .1 .1 .0
+abbrev μ-decode-node : Measures 4 decode-node-kinds.ps ℕ
+μ-decode-node κs a = a .1 .1 .1 .0
 
-abbrev decode-node-at : ℕ → In 3 decode-node-kinds.ps
+abbrev decode-node-at : ℕ → In 4 decode-node-kinds.ps
 decode-node-at t =
-    and 3 decode-node-kinds.ps (is 3 decode-node-kinds.ps μ-decode-node t) decode-node.Pre
+    and 4 decode-node-kinds.ps (is 4 decode-node-kinds.ps μ-decode-node t) decode-node.Pre
 
-abbrev decode-node-below : ℕ → In 3 decode-node-kinds.ps
+abbrev decode-node-below : ℕ → In 4 decode-node-kinds.ps
 decode-node-below t =
-    and 3 decode-node-kinds.ps (falls 3 decode-node-kinds.ps _<_ μ-decode-node t) decode-node.Pre
+    and 4 decode-node-kinds.ps (falls 4 decode-node-kinds.ps _<_ μ-decode-node t) decode-node.Pre
 
 abbrev callees : ℕ → decode-node-lts.Claims
 callees t = (
-  power-reads.Asked,
-  power-reads.Learnt,
-  zeros-reads.Asked,
-  zeros-reads.Learnt,
+  lowest-reads.Asked,
+  lowest-reads.Learnt,
   one-word-reads.Asked,
   one-word-reads.Learnt,
+  load-reads.Asked,
+  load-reads.Learnt,
   four-reads.Asked,
   four-reads.Learnt,
   root-by-shifts-reads.Asked,
   root-by-shifts-reads.Learnt,
+  power-reads.Asked,
+  power-reads.Learnt,
   decode-node-below t,
   decode-node.Post,
 )
 
+-- where eight counts are decoded
+module _ (t : ℕ) (c : decode-node-lts.Then3 (callees t) (decode-node-at t) decode-node.Post) where
+  abbrev eight : decode-node-lts.Start (callees t) (decode-node-at t) decode-node.Post
+  eight = c .before .before .before .before
+
+  eight-at : OfHeight 3 (eight .args .b .now .now) (eight .args .at) (eight .args .s) (eight .args .out .now) (eight .args .from)
+  eight-at = let p = eight .pre .1 in of-height (c .before .if2 .taken) (record { lies = p .0 .0; code = p .0 .1; room = p .1 .1 })
+
+-- where four counts were loaded
+module _ (t : ℕ) (c : decode-node-lts.After-load (callees t) (decode-node-at t) decode-node.Post) where
+  abbrev low : decode-node-lts.Start (callees t) (decode-node-at t) decode-node.Post
+  low = c .before .before .before .before .before .before .before
+
+  fits : (low .args .h ≡ 2) × (digits (low .args .s) ≤ 19)
+  fits = c .before .before .before .one-word .ensures (c .before .before .if4 .taken)
+
+  four-at : OfHeight 2 (low .args .b .now .now) (low .args .at) (low .args .s) (low .args .out .now) (low .args .from)
+  four-at = let p = low .pre .1 in of-height (fits .0) (record { lies = p .0 .0; code = p .0 .1; room = p .1 .1 })
+
+  held : Held (bits (low .args .b .now .now)) (low .args .at) 2 (low .args .s) (c .load .result)
+  held = loaded _ (four-at .lies) (four-fits (low .args .s) (fits .1)) (c .load .ensures)
+
 -- where the root was read
 module _ (t : ℕ) (c : decode-node-lts.After-root-by-shifts (callees t) (decode-node-at t) decode-node.Post) where
   abbrev call : decode-node-lts.Start (callees t) (decode-node-at t) decode-node.Post
-  call = c .before .before .before .before .before .before .before
+  call = c .before .before .before .before .before .before .before .before
 
   unfolded-at : Unfolded (bits (call .args .b .now .now)) (call .args .at) (call .args .h) (call .args .s) (c .root-by-shifts .result)
-  unfolded-at = unfolded (c .before .before .if3 .left) (call .pre .1 .1) (c .root-by-shifts .ensures)
+  unfolded-at = unfolded (c .before .before .if5 .left) (call .pre .1 .0 .1) (c .root-by-shifts .ensures)
 
   left-le : c .root-by-shifts .result .left ≤ call .args .s
   left-le = unfolded-at .node .root .left-le (unfolded-at .node .sound)
 
   half-is : 2 ^ (call .args .h - 1) + 2 ^ (call .args .h - 1) ≡ 2 ^ call .args .h
-  half-is = halved (call .args .h) (c .before .before .if3 .left)
+  half-is = halved (call .args .h) (c .before .before .if5 .left)
 
-decode-node-power-requires : (t : ℕ) → decode-node-lts.Need-power-requires (callees t) (decode-node-at t) decode-node.Post
-decode-node-power-requires t c κs = omega arith
+decode-node-returns : (t : ℕ) → decode-node-lts.Need-returns (callees t) (decode-node-at t) decode-node.Post
+decode-node-returns t c =
+    let s = c .before .before in
+    let a = s .args in
+    none-written (a .out .now) (bits (a .b .now .now)) (a .from) (a .h) (a .s) (a .at) (c .if1 .taken) (s .pre .1 .1 .2)
 
-decode-node-zeros-requires : (t : ℕ) → decode-node-lts.Need-zeros-requires (callees t) (decode-node-at t) decode-node.Post
-decode-node-zeros-requires t c κs = omega arith
+decode-node-lowest-requires : (t : ℕ) → decode-node-lts.Need-lowest-requires (callees t) (decode-node-at t) decode-node.Post
+decode-node-lowest-requires t c κs =
+    let d = c .before .before in
+    let k = eight-at t d in
+    (k .lies, k .code, ltb-true _ _ (d .if3 .taken), k .room, eight t d .pre .1 .1 .0)
 
 decode-node-same-length : (t : ℕ) → decode-node-lts.Need-same-length (callees t) (decode-node-at t) decode-node.Post
 decode-node-same-length t c = search needs
 
-decode-node-returns : (t : ℕ) → decode-node-lts.Need-returns (callees t) (decode-node-at t) decode-node.Post
-decode-node-returns t c =
-    let a = c .before .before .before .before .before .before .before .args in
-    none-written (a .s) (a .h) _ _ (a .out .now) (bits (a .b .now .now)) (a .from) (a .at) (c .before .before .before .before .before .if1 .taken) (c .before .before .before .power .ensures)
-    (c .before .before .zeros .ensures)
+decode-node-returns-2 : (t : ℕ) → decode-node-lts.Need-returns-2 (callees t) (decode-node-at t) decode-node.Post
+decode-node-returns-2 t c =
+    let d = c .before .before .before .before .before in
+    let a = eight t d .args in
+    height-written (a .h) (a .s) 3 (bits (a .b .now .now)) (a .at) (a .out .now) _ (a .from) (d .before .if2 .taken) (c .before .before .lowest .ensures)
 
 decode-node-one-word-requires : (t : ℕ) → decode-node-lts.Need-one-word-requires (callees t) (decode-node-at t) decode-node.Post
 decode-node-one-word-requires t c κs = search needs
 
+decode-node-load-requires : (t : ℕ) → decode-node-lts.Need-load-requires (callees t) (decode-node-at t) decode-node.Post
+decode-node-load-requires t c κs = search needs
+
 decode-node-four-requires : (t : ℕ) → decode-node-lts.Need-four-requires (callees t) (decode-node-at t) decode-node.Post
-decode-node-four-requires t c κs =
-    let a = c .before .before .before .before .before .before in
-    let w = c .before .before .before .one-word .ensures (c .before .before .if2 .taken) in
-    let k = at-four (a .args .b .now .now) (a .args .at) (a .args .h) (a .args .s) (a .args .out .now) (a .args .from) (w .0) (a .pre .1 .0) (a .pre .1 .1) (a .pre .1 .3) in
-    (k .0, k .1, w .1, k .2)
+decode-node-four-requires t c κs = let d = c .before in (word-exact (held t d) (four-at t d .code), fits t d .1, four-at t d .room)
 
 decode-node-same-length-2 : (t : ℕ) → decode-node-lts.Need-same-length-2 (callees t) (decode-node-at t) decode-node.Post
 decode-node-same-length-2 t c = search needs
 
-decode-node-returns-2 : (t : ℕ) → decode-node-lts.Need-returns-2 (callees t) (decode-node-at t) decode-node.Post
-decode-node-returns-2 t c =
-    let a = c .before .before .before .before .before .before .before .before .before .args in
-    four-high (a .h) (a .s) (bits (a .b .now .now)) (a .at) (a .out .now) _ (a .from) (c .before .before .before .before .before .before .one-word .ensures (c .before .before .before .before .before .if2 .taken) .0)
-    (c .before .before .four .ensures)
+decode-node-returns-3 : (t : ℕ) → decode-node-lts.Need-returns-3 (callees t) (decode-node-at t) decode-node.Post
+decode-node-returns-3 t c =
+    let d = c .before .before .before .before in
+    let a = low t d .args in
+    height-written (a .h) (a .s) 2 (bits (a .b .now .now)) (a .at) (a .out .now) _ (a .from) (fits t d .0)
+    (c .before .before .four .ensures ∙ ap (splice (a .out .now) (a .from)) (word-counts (held t d) (four-at t d .code)))
 
 decode-node-cast-out : (t : ℕ) → decode-node-lts.Need-cast-out (callees t) (decode-node-at t) decode-node.Post
 decode-node-cast-out t c = omega arith
@@ -105,32 +141,39 @@ decode-node-mul-out t c = omega arith
 
 decode-node-slice-write-out : (t : ℕ) → decode-node-lts.Need-slice-write-out (callees t) (decode-node-at t) decode-node.Post
 decode-node-slice-write-out t c =
-    let e : 2 ^ c .before .before .before .before .before .args .h ≡ 1 = rw (c .if3 .taken) in
+    let e : 2 ^ c .before .before .before .before .before .before .args .h ≡ 1 = rw (c .if5 .taken) in
     omega arith
 
 decode-node-same-length-3 : (t : ℕ) → decode-node-lts.Need-same-length-3 (callees t) (decode-node-at t) decode-node.Post
 decode-node-same-length-3 t c = search needs
 
-decode-node-returns-3 : (t : ℕ) → decode-node-lts.Need-returns-3 (callees t) (decode-node-at t) decode-node.Post
-decode-node-returns-3 t c =
-    let a = c .before .before .before .before .before .args in
-    let e : 2 ^ a .h ≡ 1 = rw (c .if3 .taken) in
-    one-count (a .out .now) (bits (a .b .now .now)) (a .from) (a .h) (a .s) (a .at) (c .if3 .taken) (omega arith)
+decode-node-returns-4 : (t : ℕ) → decode-node-lts.Need-returns-4 (callees t) (decode-node-at t) decode-node.Post
+decode-node-returns-4 t c =
+    let a = c .before .before .before .before .before .before .args in
+    let e : 2 ^ a .h ≡ 1 = rw (c .if5 .taken) in
+    one-count (a .out .now) (bits (a .b .now .now)) (a .from) (a .h) (a .s) (a .at) (c .if5 .taken) (omega arith)
 
 decode-node-sub-down : (t : ℕ) → decode-node-lts.Need-sub-down (callees t) (decode-node-at t) decode-node.Post
 decode-node-sub-down t c = omega arith
 
 decode-node-root-by-shifts-requires : (t : ℕ) → decode-node-lts.Need-root-by-shifts-requires (callees t) (decode-node-at t) decode-node.Post
-decode-node-root-by-shifts-requires t c κs = top (c .before .if3 .left) (c .before .before .before .before .before .before .pre .1 .0)
+decode-node-root-by-shifts-requires t c κs = top (c .before .if5 .left) (c .before .before .before .before .before .before .before .pre .1 .0 .0)
 
-decode-node-power-requires-2 : (t : ℕ) → decode-node-lts.Need-power-requires-2 (callees t) (decode-node-at t) decode-node.Post
-decode-node-power-requires-2 t c κs = omega arith
+decode-node-power-requires : (t : ℕ) → decode-node-lts.Need-power-requires (callees t) (decode-node-at t) decode-node.Post
+decode-node-power-requires t c κs = omega arith
 
 decode-node-decode-node-requires : (t : ℕ) → decode-node-lts.Need-decode-node-requires (callees t) (decode-node-at t) decode-node.Post
 decode-node-decode-node-requires t c κs =
     let n = c .before .before in
     let w = unfolded-at t n in
-    (omega arith, (left-lies (call t n .pre .1 .0) (w .node), w .left-exact, omega (arith, left-le t n), omega (arith, half-is t n)))
+    let p = call t n .pre .1 in
+    let a = call t n .args in (
+      omega arith,
+      (
+        (left-lies (p .0 .0) (w .node), w .left-exact, omega (arith, left-le t n)),
+        (p .1 .0, omega (arith, half-is t n), left-zeros (a .out .now) (a .from) _ _ (half-is t n) (p .1 .2)),
+      ),
+    )
 
 decode-node-sub-decode-node : (t : ℕ) → decode-node-lts.Need-sub-decode-node (callees t) (decode-node-at t) decode-node.Post
 decode-node-sub-decode-node t c = left-le t (c .before .before .before .before .before .before)
@@ -142,45 +185,54 @@ decode-node-decode-node-requires-2 : (t : ℕ) → decode-node-lts.Need-decode-n
 decode-node-decode-node-requires-2 t c κs =
     let n = c .before .before .before .before .before .before .before in
     let w = unfolded-at t n in
-    let k = c .before .before .before .before .decode-node .kept .1 .1 .1 .1 .0 in
-    (omega arith, (right-lies (call t n .pre .1 .0) (w .node), w .right-exact, omega arith, omega (arith, half-is t n)))
+    let p = call t n .pre .1 in
+    let a = call t n .args in
+    let one = c .before .before .before .before .decode-node in
+    let k = one .kept .1 .1 .1 .1 .1 .0 in (
+      omega arith,
+      (
+        (right-lies (p .0 .0) (w .node), w .right-exact, omega arith),
+        (p .1 .0, omega (arith, half-is t n), right-zeros (a .out .now) (a .from) _ _ (half-is t n) (p .1 .2) _ _ _ (c .before .before .before .before .before .before .power .ensures) (length-counts _ _ _ _) (p .1 .1) (one .ensures)),
+      ),
+    )
 
 decode-node-same-length-4 : (t : ℕ) → decode-node-lts.Need-same-length-4 (callees t) (decode-node-at t) decode-node.Post
 decode-node-same-length-4 t c = omega arith
 
-decode-node-returns-4 : (t : ℕ) → decode-node-lts.Need-returns-4 (callees t) (decode-node-at t) decode-node.Post
-decode-node-returns-4 t c =
+decode-node-returns-5 : (t : ℕ) → decode-node-lts.Need-returns-5 (callees t) (decode-node-at t) decode-node.Post
+decode-node-returns-5 t c =
     let n = c .before .before .before .before .before .before .before .before .before .before in
     let a = call t n .args in
-    let half = c .before .before .before .before .before .before .before .before .before .power2 in
+    let half = c .before .before .before .before .before .before .before .before .before .power in
     let one = c .before .before .before .before .before .before .before .decode-node in
     let two = c .before .before .decode-node2 in
-    both-halves (unfolded-at t n .node) (a .out .now) (one .last .1 .1 .1 .1 .0) (two .last .1 .1 .1 .1 .0) (a .from) (half .result)
-    (half .ensures) (call t n .pre .1 .3) (one .ensures) (two .ensures)
+    both-halves (unfolded-at t n .node) (a .out .now) (one .last .1 .1 .1 .1 .1 .0) (two .last .1 .1 .1 .1 .1 .0) (a .from) (half .result)
+    (half .ensures) (call t n .pre .1 .1 .1) (one .ensures) (two .ensures)
 
 pub +decode-node-spec : {M : Type 1} → statement M
 +decode-node-spec = close μ-decode-node λ t. decode-node-lts.spec (callees t)
     (decode-node-at t)
     decode-node.Post
-    (decode-node-power-requires t)
-    (decode-node-zeros-requires t)
-    (decode-node-same-length t)
     (decode-node-returns t)
+    (decode-node-lowest-requires t)
+    (decode-node-same-length t)
+    (decode-node-returns-2 t)
     (decode-node-one-word-requires t)
+    (decode-node-load-requires t)
     (decode-node-four-requires t)
     (decode-node-same-length-2 t)
-    (decode-node-returns-2 t)
+    (decode-node-returns-3 t)
     (decode-node-cast-out t)
     (decode-node-mul-out t)
     (decode-node-slice-write-out t)
     (decode-node-same-length-3 t)
-    (decode-node-returns-3 t)
+    (decode-node-returns-4 t)
     (decode-node-sub-down t)
     (decode-node-root-by-shifts-requires t)
-    (decode-node-power-requires-2 t)
+    (decode-node-power-requires t)
     (decode-node-decode-node-requires t)
     (decode-node-sub-decode-node t)
     (decode-node-add-decode-node t)
     (decode-node-decode-node-requires-2 t)
     (decode-node-same-length-4 t)
-    (decode-node-returns-4 t)
+    (decode-node-returns-5 t)

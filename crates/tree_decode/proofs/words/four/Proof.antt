@@ -1,26 +1,19 @@
--- `tree_decode::four` meets its contract. Assumes nothing.
+-- `tree_decode::words::four` meets its contract. Assumes nothing.
 use Prim.Native.Nat.{_-_, _≤_, _<_}
 use native.Mathlib.Omega.{arith}
 use lib.ListN.{length-set}
 use Rattle.tree_decode.proofs.FourCounts.{Read, left-le, narrow, small, first-le, third-le, four-written}
 use borrow.Author.Needs.{needs}
-use Rattle.tree_decode.proofs.four.Statement.{statement}
-use Rattle.tree_decode.proofs.four.Tie as tie
+use Rattle.tree_decode.proofs.words.four.Statement.{statement}
+use Rattle.tree_decode.proofs.words.four.Tie as tie
 
 -- where the left sum was read
 module _ (c : tie.After-part) where
   abbrev call : tie.Start
-  call = c .before .before .before .before .before
+  call = c .before .before .before
 
-  read :
-      Read (call .args .b .now) (call .args .at) (call .args .s) (c .before .before .load .result) (c .before .digits-of .result) (c .part .result)
-  read =
-      record {
-        low = record { lies = call .pre .0; few = call .pre .2; front = c .before .before .load .ensures };
-        code = call .pre .1;
-        top = c .before .digits-of .ensures;
-        left = c .part .ensures;
-      }
+  read : Read (call .args .s) (call .args .w) (c .before .digits-of .result) (c .part .result)
+  read = record { code = call .pre .0; few = call .pre .1; top = c .before .digits-of .ensures; left = c .part .ensures }
 
 -- where all three fields were read
 module _ (c : tie.After-part3) where
@@ -38,9 +31,6 @@ module _ (c : tie.After-part3) where
     left-le (read top),
     small (read top),
   )
-
-load-requires : tie.Need-load-requires
-load-requires c κs = search needs
 
 digits-of-requires : tie.Need-digits-of-requires
 digits-of-requires c κs = search needs
@@ -127,13 +117,12 @@ returns : tie.Need-returns
 returns c =
     let a = call (top c) .args in
     four-written (read (top c)) _ _ _ _ (c .before .before .before .digits-of2 .ensures) (c .before .digits-of3 .ensures) (c .before .before .part2 .ensures)
-    (c .part3 .ensures) (a .out .now) (a .from) (call (top c) .pre .3)
+    (c .part3 .ensures) (a .out .now) (a .from) (call (top c) .pre .2)
 
 pub four-spec : {M : Type 1} → statement M
 four-spec =
     tie.close
     (tie.spec
-    load-requires
     digits-of-requires
     part-requires
     sub-right

@@ -1,0 +1,96 @@
+-- `tree_decode::words::eight` meets its contract. Assumes nothing.
+use mathlib.Core.Path.{_≡_}
+use Prim.Native.Nat.{_-_}
+use native.Mathlib.Omega.{arith}
+use lib.ListN.{getD}
+use borrow.Author.Needs.{needs}
+use Rattle.reserve.specs.Reserve.{reserve}
+use Rattle.reserve.proofs.Exact.{digits-le}
+use Rattle.tree_decode.proofs.EightCounts.{Top, short, left-le, narrow, room, left-exact, right-exact, eight-written}
+use Rattle.tree_decode.proofs.words.eight.Statement.{statement}
+use Rattle.tree_decode.proofs.words.eight.Tie as tie
+
+-- where the left sum was read
+module _ (c : tie.After-part) where
+  abbrev call : tie.Start
+  call = c .before .before .before
+
+  top : Top (call .args .s) (call .args .w) (c .before .digits-of .result) (c .part .result)
+  top = record { code = call .pre .1; few = call .pre .2; digits-are = c .before .digits-of .ensures; left = c .part .ensures }
+
+  -- the row's entry
+  looked-up : getD (call .args .row .now) (c .part .result) 0 ≡ reserve 2 (c .part .result)
+  looked-up = call .pre .0 .entry (c .part .result) (omega (arith, left-le top))
+
+digits-of-requires : tie.Need-digits-of-requires
+digits-of-requires c κs = search needs
+
+part-requires : tie.Need-part-requires
+part-requires c κs = let k = digits-le (c .before .before .args .s) 6 (c .before .before .pre .2) in omega (arith, c .digits-of .ensures)
+
+cast-four : tie.Need-cast-four
+cast-four c = search needs
+
+shl-four : tie.Need-shl-four
+shl-four c = omega (arith, short (top c))
+
+four-requires : tie.Need-four-requires
+four-requires c κs =
+    let d = c .before in
+    (left-exact (top d), narrow (top d) _ (left-le (top d)), omega arith)
+
+element-copy-out-four : tie.Need-element-copy-out-four
+element-copy-out-four c = omega (arith, left-le (top (c .before .before .before .before)))
+
+cast-four-2 : tie.Need-cast-four-2
+cast-four-2 c = let d = c .before .before .before .before .before in omega (arith, room (top d), looked-up d)
+
+add-four : tie.Need-add-four
+add-four c = let d = c .before .before .before .before .before in omega (arith, room (top d), looked-up d)
+
+cast-four-3 : tie.Need-cast-four-3
+cast-four-3 c = let d = c .before .before .before .before .before in omega (arith, room (top d), looked-up d)
+
+shl-four-2 : tie.Need-shl-four-2
+shl-four-2 c = let d = c .before .before .before .before .before in omega (arith, room (top d), looked-up d)
+
+sub-four : tie.Need-sub-four
+sub-four c = left-le (top (c .before .before .before .before .before))
+
+add-four-2 : tie.Need-add-four-2
+add-four-2 c = search needs
+
+four-requires-2 : tie.Need-four-requires-2
+four-requires-2 c κs =
+    let d = c .before .before .before .before .before .before in
+    (right-exact (top d) _ (looked-up d), narrow (top d) _ (omega arith), omega arith)
+
+same-length : tie.Need-same-length
+same-length c = search needs
+
+returns : tie.Need-returns
+returns c =
+    let d = c .before .before .before .before .before .before .before .before .before in
+    let a = call d .args in
+    eight-written (top d) _ (looked-up d) (a .out .now) _ _ (a .from) (call d .pre .3) (c .before .before .before .before .before .before .before .four .ensures)
+    (c .before .before .four2 .ensures)
+
+pub eight-spec : {M : Type 1} → statement M
+eight-spec =
+    tie.close
+    (tie.spec
+    digits-of-requires
+    part-requires
+    cast-four
+    shl-four
+    four-requires
+    element-copy-out-four
+    cast-four-2
+    add-four
+    cast-four-3
+    shl-four-2
+    sub-four
+    add-four-2
+    four-requires-2
+    same-length
+    returns)
