@@ -1,13 +1,13 @@
 // The counts of a tree that is some list's code. A recursion in which h falls, one level a call. It ends at a tree of zeros, at eight
 // counts, whose bits come out of one load or three, at four, out of one, or at one count where these do not fit a word. It reads over
 // `&&[u8]`, a thin pointer.
-mod words;
+mod from_word;
 
 use bits_field::front;
 use tree::node::one_word;
 use tree::node::root_by_shifts;
-use words::eight;
-use words::four;
+use from_word::eight;
+use from_word::four;
 ghost use mathlib.Core.Bool.{true};
 ghost use mathlib.Core.Path.{_≡_};
 ghost use Prim.Native.Nat.{_+_, _≤_, _<_, _^_};

@@ -24,7 +24,7 @@ use Rattle.reserve.proofs.power.Reads as power-reads
 use Rattle.tree.proofs.node.one_word.Reads as one-word-reads
 use Rattle.tree.proofs.node.root_by_shifts.Reads as root-by-shifts-reads
 use Rattle.tree_decode.proofs.lowest.Reads as lowest-reads
-use Rattle.tree_decode.proofs.words.four.Reads as four-reads
+use Rattle.tree_decode.proofs.from_word.four.Reads as four-reads
 use Rattle.tree_decode.proofs.+decode_node.{statement}
 use Rattle.tree_decode.proofs.+decode_node.Tie.{close}
 

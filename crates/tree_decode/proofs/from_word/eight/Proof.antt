@@ -1,4 +1,4 @@
--- `tree_decode::words::eight` meets its contract. Assumes nothing.
+-- `tree_decode::from_word::eight` meets its contract. Assumes nothing.
 use mathlib.Core.Path.{_≡_}
 use Prim.Native.Nat.{_-_}
 use native.Mathlib.Omega.{arith}
@@ -7,8 +7,8 @@ use borrow.Author.Needs.{needs}
 use Rattle.reserve.specs.Reserve.{reserve}
 use Rattle.reserve.proofs.Exact.{digits-le}
 use Rattle.tree_decode.proofs.EightCounts.{Top, short, left-le, narrow, room, left-exact, right-exact, eight-written}
-use Rattle.tree_decode.proofs.words.eight.Statement.{statement}
-use Rattle.tree_decode.proofs.words.eight.Tie as tie
+use Rattle.tree_decode.proofs.from_word.eight.Statement.{statement}
+use Rattle.tree_decode.proofs.from_word.eight.Tie as tie
 
 -- where the left sum was read
 module _ (c : tie.After-part) where

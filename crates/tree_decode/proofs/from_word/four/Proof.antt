@@ -1,11 +1,11 @@
--- `tree_decode::words::four` meets its contract. Assumes nothing.
+-- `tree_decode::from_word::four` meets its contract. Assumes nothing.
 use Prim.Native.Nat.{_-_, _≤_, _<_}
 use native.Mathlib.Omega.{arith}
 use lib.ListN.{length-set}
 use Rattle.tree_decode.proofs.FourCounts.{Read, left-le, narrow, small, first-le, third-le, four-written}
 use borrow.Author.Needs.{needs}
-use Rattle.tree_decode.proofs.words.four.Statement.{statement}
-use Rattle.tree_decode.proofs.words.four.Tie as tie
+use Rattle.tree_decode.proofs.from_word.four.Statement.{statement}
+use Rattle.tree_decode.proofs.from_word.four.Tie as tie
 
 -- where the left sum was read
 module _ (c : tie.After-part) where
