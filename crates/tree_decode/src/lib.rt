@@ -4,10 +4,10 @@
 mod from_word;
 
 use bits_field::front;
-use tree::node::one_word;
-use tree::node::root_by_shifts;
 use from_word::eight;
 use from_word::four;
+use tree::node::one_word;
+use tree::node::root_by_shifts;
 ghost use mathlib.Core.Bool.{true};
 ghost use mathlib.Core.Path.{_≡_};
 ghost use Prim.Native.Nat.{_+_, _≤_, _<_, _^_};
