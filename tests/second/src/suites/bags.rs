@@ -9,6 +9,7 @@ use crate::store_calls::{same_bytes, same_word};
 
 const FIRST_SEED: u64 = 8_200_000;
 const LISTS: u64 = 300;
+const ALIKE: u64 = 60;
 /// Up to this total every figure is asked.
 const EVERY: u64 = 400;
 
@@ -22,7 +23,8 @@ pub fn play(run: &mut Run) -> Outcome {
         let result = around_a_border(run, e).and_then(|()| longest(run, e));
         run.note(format!("bags, e = {e}"), result)?;
     }
-    run.each_seed(FIRST_SEED, LISTS, random_list)
+    run.each_seed(FIRST_SEED, LISTS, random_list)?;
+    run.each_seed(FIRST_SEED + 100_000, ALIKE, alike_in_low_bits)
 }
 
 /// Counts, figure and the word: the first hour, and the hours from 2^32 on.
@@ -113,5 +115,23 @@ fn random_list(run: &mut Run, seed: u64) -> Result<(), String> {
         let sum: u64 = list[first..end].iter().sum();
         bags.extend([sum.saturating_sub(1), sum, sum + 1]);
     }
+    compare(run, &list, e, &bags)
+}
+
+/// Counts, sums and figures that all have the same low bits, so that only the
+/// high ones tell a run from another.
+fn alike_in_low_bits(run: &mut Run, seed: u64) -> Result<(), String> {
+    let mut random = Random::new(seed);
+    let (e, length) = (random.between(2, 8) as u32, random.below(700) as usize);
+    let unit = 1 << random.between(8, 16);
+    let list: Vec<u64> = (0..length).map(|_| random.below(6) * unit).collect();
+    let total: u64 = list.iter().sum();
+    let few = (1..=40).map(|units| units * unit);
+    let many = (0..20).map(|_| random.below(total / unit + 2) * unit);
+    let bags: Vec<u64> = few
+        .chain(many)
+        .flat_map(|bag| [bag, bag + 1])
+        .chain([total])
+        .collect();
     compare(run, &list, e, &bags)
 }
