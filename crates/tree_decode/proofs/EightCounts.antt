@@ -1,4 +1,4 @@
--- Eight counts, out of one word or each four out of one. Assumes nothing.
+-- Eight counts: out of one word, or each four out of a word of their own. Assumes nothing.
 use mathlib.Core.Path.{_≡_, refl, ap, _∙_, subst}
 use mathlib.Core.Bool.{true}
 use mathlib.Core.List.{List}
@@ -18,7 +18,7 @@ use Rattle.tree.specs.Code.Node.{Lies, Rooted}
 use Rattle.tree.specs.declared.node.Split.{Split}
 use Rattle.tree.proofs.Rooting.{left-lies, right-lies}
 use Rattle.tree_decode.proofs.Decoding.{BothExact, both-exact, Unfolded, unfolded, halves-written, both-halves}
-use Rattle.tree_decode.proofs.InWord.{Held, loaded, raised, word-exact, word-counts, left-at, four-fits, eight-fits}
+use Rattle.tree_decode.proofs.InWord.{Held, loaded, raised, word-exact, word-counts, left-at, four-fits, eight-fits, few-digits}
 
 -- ---- out of the word w, as the code works them out: the left sum l, by the digits t of s
 pub record Top (s w t l : ℕ) : Type 0 where
@@ -39,9 +39,6 @@ module _ {s w t l : ℕ} (q : Top s w t l) where
 
   pub left-le : l ≤ s
   left-le = leb-true l s (both .le)
-
-  pub narrow : (x : ℕ) → x ≤ s → digits x ≤ 19
-  narrow x k = digits-le x 19 (omega (arith, q .few))
 
   pub room : t + reserve 2 l + reserve 2 (s - l) ≤ 38
   room = omega (arith, q .digits-are, eight-fits s (q .few), left-le, fit-all 2 s l (s - l) (omega (arith, left-le)))
@@ -86,19 +83,16 @@ module _ {b : List ℕ} {a s : ℕ} {r : Split} (q : InHalves b a s r) where
   pub second-lies : Lies b (r .second) 2 (s - r .left)
   second-lies = right-lies (q .lies) (node .node)
 
-  pub half-narrow : (x : ℕ) → x ≤ s → digits x ≤ 19
-  half-narrow x k = digits-le x 19 (omega (arith, q .few))
-
   module _ (v : ℕ) (f : Front (bits b) (r .first) v) where
     first-held : Held (bits b) (r .first) 2 (r .left) v
-    first-held = loaded v first-lies (four-fits (r .left) (half-narrow (r .left) root-le)) f
+    first-held = loaded v first-lies (four-fits (r .left) (few-digits (q .few) (r .left) root-le)) f
 
     pub first-exact : exact 2 (r .left) (field 64 v) 0 ≡ true
     first-exact = word-exact first-held (node .left-exact)
 
     module _ (w : ℕ) (g : Front (bits b) (r .second) w) where
       second-held : Held (bits b) (r .second) 2 (s - r .left) w
-      second-held = loaded w second-lies (four-fits (s - r .left) (half-narrow (s - r .left) (omega arith))) g
+      second-held = loaded w second-lies (four-fits (s - r .left) (few-digits (q .few) (s - r .left) (omega arith))) g
 
       pub second-exact : exact 2 (s - r .left) (field 64 w) 0 ≡ true
       second-exact = word-exact second-held (node .right-exact)

@@ -14,7 +14,7 @@ use Rattle.bits.proofs.Packing.{Bits, bits-bytes, bits-field, field-piece, valu
 use Rattle.bits_field.specs.Code.Front.{Front}
 use Rattle.bits_field.proofs.Leading.{up-part}
 use Rattle.reserve.specs.Reserve.{digits, reserve}
-use Rattle.reserve.proofs.Exact.{digits-is}
+use Rattle.reserve.proofs.Exact.{digits-is, digits-le}
 use Rattle.reserve.proofs.Fit.{bound}
 use Rattle.reserve.proofs.Line.{A, B}
 use Rattle.tree.specs.Read.{leftOf, counts}
@@ -23,7 +23,7 @@ use Rattle.tree.specs.Code.Node.{Lies}
 use Rattle.tree.proofs.Exacts.{field-part, counts-local}
 use Rattle.tree.proofs.Local.{exact-local}
 
--- ---- what small trees own
+-- ---- what small trees own, and the digits of the sums below s
 pub four-fits : (s : ℕ) → digits s ≤ 19 → reserve 2 s ≤ 57
 unfolding A B
 four-fits s l =
@@ -33,6 +33,9 @@ four-fits s l =
 pub eight-fits : (s : ℕ) → s < 64 → reserve 3 s ≤ 38
 unfolding A B
 eight-fits s l = omega (arith, bound 3 s 6)
+
+pub few-digits : {s : ℕ} → s < 524288 → (x : ℕ) → x ≤ s → digits x ≤ 19
+few-digits l x k = digits-le x 19 (omega arith)
 
 -- ---- the bits that a tree owns in b from bit a on stand at the high end of w
 pub record Held (b : List ℕ) (a h s w : ℕ) : Type 0 where

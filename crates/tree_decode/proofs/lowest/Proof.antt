@@ -4,8 +4,8 @@ use native.Mathlib.Omega.{arith}
 use borrow.Author.Needs.{needs}
 use Rattle.lists.specs.Lists.{splice}
 use Rattle.bits.specs.Bits.{bits}
-use Rattle.tree_decode.proofs.InWord.{Held, loaded, word-exact, word-counts, eight-fits}
-use Rattle.tree_decode.proofs.EightCounts.{InHalves, root-le, half-narrow, first-lies, second-lies, first-exact, second-exact, fours-written}
+use Rattle.tree_decode.proofs.InWord.{Held, loaded, word-exact, word-counts, eight-fits, few-digits}
+use Rattle.tree_decode.proofs.EightCounts.{InHalves, root-le, first-lies, second-lies, first-exact, second-exact, fours-written}
 use Rattle.tree_decode.proofs.lowest.Statement.{statement}
 use Rattle.tree_decode.proofs.lowest.Tie as tie
 
@@ -50,7 +50,7 @@ load-requires-2 c κs = omega (arith, first-lies (read c))
 four-requires : tie.Need-four-requires
 four-requires c κs =
     let d = c .before .before in
-    (first-exact (read d) _ (c .before .load2 .ensures), half-narrow (read d) _ (root-le (read d)), omega arith)
+    (first-exact (read d) _ (c .before .load2 .ensures), few-digits (call d .pre .2) _ (root-le (read d)), omega arith)
 
 load-requires-3 : tie.Need-load-requires-3
 load-requires-3 c κs = omega (arith, second-lies (read (c .before .before .before .before .before)))
@@ -65,7 +65,7 @@ four-requires-2 : tie.Need-four-requires-2
 four-requires-2 c κs =
     let d = c .before .before .before .before .before .before .before .before in (
       second-exact (read d) _ (c .before .before .before .before .before .before .before .load2 .ensures) _ (c .before .before .load3 .ensures),
-      half-narrow (read d) _ (omega arith),
+      few-digits (call d .pre .2) _ (omega arith),
       omega arith,
     )
 

@@ -1,12 +1,12 @@
 -- `tree_decode::from_word::eight` meets its contract. Assumes nothing.
 use mathlib.Core.Path.{_≡_}
-use Prim.Native.Nat.{_-_}
 use native.Mathlib.Omega.{arith}
 use lib.ListN.{getD}
 use borrow.Author.Needs.{needs}
 use Rattle.reserve.specs.Reserve.{reserve}
 use Rattle.reserve.proofs.Exact.{digits-le}
-use Rattle.tree_decode.proofs.EightCounts.{Top, short, left-le, narrow, room, left-exact, right-exact, eight-written}
+use Rattle.tree_decode.proofs.InWord.{few-digits}
+use Rattle.tree_decode.proofs.EightCounts.{Top, short, left-le, room, left-exact, right-exact, eight-written}
 use Rattle.tree_decode.proofs.from_word.eight.Statement.{statement}
 use Rattle.tree_decode.proofs.from_word.eight.Tie as tie
 
@@ -37,7 +37,7 @@ shl-four c = omega (arith, short (top c))
 four-requires : tie.Need-four-requires
 four-requires c κs =
     let d = c .before in
-    (left-exact (top d), narrow (top d) _ (left-le (top d)), omega arith)
+    (left-exact (top d), few-digits {s = call d .args .s} (omega arith) _ (left-le (top d)), omega arith)
 
 element-copy-out-four : tie.Need-element-copy-out-four
 element-copy-out-four c = omega (arith, left-le (top (c .before .before .before .before)))
@@ -63,7 +63,7 @@ add-four-2 c = search needs
 four-requires-2 : tie.Need-four-requires-2
 four-requires-2 c κs =
     let d = c .before .before .before .before .before .before in
-    (right-exact (top d) _ (looked-up d), narrow (top d) _ (omega arith), omega arith)
+    (right-exact (top d) _ (looked-up d), few-digits {s = call d .args .s} (omega arith) _ (omega arith), omega arith)
 
 same-length : tie.Need-same-length
 same-length c = search needs
