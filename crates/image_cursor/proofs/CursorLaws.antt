@@ -146,4 +146,5 @@ ahead-least h i u r l e g = record {
   inside = omega arith;
   room = omega arith;
   some = λ (k : i < h .hours). omega (arith, hour-low (h .e) i);
+  whole = λ (k : i + r < h .hours). omega arith;
 }

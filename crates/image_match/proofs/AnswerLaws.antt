@@ -3,19 +3,33 @@ use mathlib.Core.Bool.{true}
 use mathlib.Core.List.{List}
 use mathlib.Core.Logic.{_⊎_, inl, inr, ⊎-elim}
 use mathlib.Core.Path.{_≡_, refl, ap, _∙_}
-use Prim.Native.Nat.{ℕ, _≤_}
+use Prim.Native.Nat.{ℕ, _≤_, _<_}
 use native.Mathlib.Decide.{decLe}
 use native.Mathlib.Omega.{arith}
+use lib.ListN.{length}
 use Rattle.answers.specs.Image.{fails}
 use Rattle.answers.specs.declared.image.Bag.{Bag}
 use Rattle.answers.specs.declared.image.Bag.the-variants.{Run, None, Refused}
+use Rattle.lists.specs.Lists.{sum}
+use Rattle.lists.proofs.Sums.{sum-take-le}
 use Rattle.image.specs.Check.{accepted, check}
-use Rattle.image.specs.Read.{listOf}
+use Rattle.image.specs.Code.Head.{HeadOf}
+use Rattle.image.specs.Read.{eOf, listOf, sOf}
+use Rattle.image.specs.declared.head.Head.{Head}
 use Rattle.image.proofs.Accepted.{accepted-only}
+use Rattle.image.proofs.ReadLaws.{s-is}
 use Rattle.image_cursor.proofs.AccessLaws.{accepted-or, five-or-six, not-both, one-refusal}
-use Rattle.runs.proofs.MatchLaws.{Found, match-or-none, one-match, some-match}
-use Rattle.image_match.specs.Code.{Finds}
+use Rattle.runs.specs.Runs.{NoMatch}
+use Rattle.runs.proofs.MatchLaws.{Found, match-or-none, one-match, passed-first, passed-none, some-match}
+use Rattle.image_match.specs.Code.Seek.{Finds}
 use Rattle.image_match.specs.Match.{MatchCall, no-coins, none, not-accepted, the-run}
+
+-- no run has more coins than all hours
+pub none-larger : (s : List ℕ) (q : ℕ) → accepted s ≡ true → (h : Head) → HeadOf s h → h .total < q → NoMatch (listOf s) q
+none-larger s q a h o l =
+    let i = accepted-only s a in
+    let e : h .total ≡ sum (listOf s) = o .total-is ∙ ap sOf (i .bytes) ∙ s-is (eOf s) (listOf s) (i .limits) in
+    passed-none (listOf s) q 0 (passed-first (listOf s) q) (omega (arith, sum-take-le (length (listOf s)) (listOf s)))
 
 -- what the search finds is the call's answer
 pub found-answer : (s : List ℕ) (q : ℕ) → accepted s ≡ true → 1 ≤ q → (r : Bag) → Finds (listOf s) q r → MatchCall s q r

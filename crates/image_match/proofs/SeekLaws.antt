@@ -1,106 +1,120 @@
--- The search for a run along an accepted image's list, in the numbers that the code has. Assumes nothing.
-use mathlib.Core.Bool.{true}
+-- The search for a run along a list, page after page of the hours at which it may end. Assumes nothing.
 use mathlib.Core.List.{List}
-use mathlib.Core.Logic.{_⊎_, inl, inr}
-use mathlib.Core.Path.{_≡_, ap, sym, _∙_}
-use Prim.Native.Nat.{ℕ, _+_, _-_, _%_, _^_, _≤_, _<_}
+use mathlib.Core.Path.{_≡_, refl, ap, sym, subst, _∙_}
+use Prim.Native.Nat.{ℕ, _+_, _-_, _≤_, _<_}
 use native.Mathlib.Decide.{decLe}
 use native.Mathlib.Omega.{arith}
-use lib.Dec.{eqb, leb}
-use lib.ListN.{length, getD}
-use borrow.Author.Tests.{eqb-false, eqb-true, leb-false, leb-true}
-use Rattle.lists.specs.Lists.{reading, sum}
-use Rattle.lists.proofs.Sums.{sum-take-le}
-use Rattle.image.specs.Check.{accepted}
-use Rattle.image.specs.Code.Head.{HeadOf}
-use Rattle.image.specs.Read.{listOf}
-use Rattle.image.specs.declared.head.Head.{Head}
-use Rattle.image.proofs.Accepted.{accepted-only, length-list}
-use Rattle.image_cursor.specs.Code.Cursor.{Ahead, Ready}
-use Rattle.image_cursor.proofs.CursorLaws.{count-of, place-in}
-use Rattle.runs.specs.Code.{Seeking}
-use Rattle.runs.proofs.PrefixSums.{reading-next}
-use Rattle.runs.proofs.MatchLaws.{longer-than, seeking-later, seeking-longer}
-use Rattle.image_match.specs.Code.{Ended}
-use Rattle.image_match.specs.declared.seek.Hours.{Hours}
+use lib.ListN.{length, getD, drop}
+use Rattle.lists.specs.Lists.{reading}
+use Rattle.runs.specs.Code.{Passed}
+use Rattle.runs.specs.Runs.{FirstMatch, NoMatch, runSum}
+use Rattle.runs.proofs.MatchLaws.{passed-first, passed-found, passed-none, passed-on}
+use Rattle.runs.proofs.PrefixSums.{reading-grows, reading-next, run-reading}
+use Rattle.image_match.specs.Code.Marks.{Marked, Unmarked}
+use Rattle.image_match.specs.Code.Page.{CountsOf, PageOf}
+use Rattle.image_match.specs.Code.Part.{Looked}
+use Rattle.image_match.specs.Code.Seek.{Seeks}
+use Rattle.image_match.specs.declared.seek.Aim.{Aim}
+use Rattle.image_match.specs.declared.page.Page.{Page}
+use Rattle.image_match.specs.declared.part.Part.{Part}
+use Rattle.image_match.proofs.MarkLaws.{marked-of}
 
-pub above : (x y : ℕ) → (x ≡ y → ⊥) → y ≤ x → y < x
-above x y n l = omega arith
+-- ---- the search
+pub seeks-first : (xs : List ℕ) (q : ℕ) → 1 ≤ q → Seeks xs q 0 (record { lo = 0; want = q })
+seeks-first xs q l = record { inside = omega arith; wants = refl; some = l; passed = passed-first xs q }
 
-pub seeking-same : (xs : List ℕ) (q lo hi t : ℕ) → Seeking xs q lo hi t → Seeking xs q (lo + 0) (hi + 0) t
-seeking-same xs q lo hi t w =
-    let e : lo + 0 ≡ lo = omega arith in
-    let f : hi + 0 ≡ hi = omega arith in
-    rw (e, f) w
+pub seeks-as : (xs : List ℕ) (q first f : ℕ) (at : Aim) → f ≡ first → Seeks xs q first at → Seeks xs q f at
+seeks-as xs q first f at e w = rw e w
 
--- ---- whether the search is over
-pub ended-short : (h : Head) (q : ℕ) (at : Hours) → at .sum < q → Ended h q at (leb (h .hours) (at .hi))
-ended-short h q at l = record {
-  over = λ e. (omega arith, λ k. leb-true (h .hours) (at .hi) e);
-  goes-on = λ e. (λ (z : at .sum ≡ q). omega arith, λ k. leb-false (h .hours) (at .hi) e);
-}
+module _ (xs : List ℕ) (q first : ℕ) (at : Aim) (w : Seeks xs q first at) where
+  -- no run from lo on has the sum: the next hour
+  pub seeks-on : (lo want v : ℕ) → Passed xs q (at .lo + 1) → at .lo < length xs → v ≡ getD xs (at .lo) 0 → lo ≡ at .lo + 1 → want ≡ at .want + v
+      → Seeks xs q first (record { lo = lo; want = want })
+  seeks-on lo want v p l e f g = record {
+    inside = omega arith;
+    wants = omega (arith, w .wants, reading-next xs (at .lo) l, ap (reading xs) f);
+    some = omega (arith, w .some);
+    passed = subst (Passed xs q) (sym f) p;
+  }
 
-pub ended-full : (h : Head) (q : ℕ) (at : Hours) → q ≤ at .sum → Ended h q at (eqb (at .sum) q)
-ended-full h q at l = record {
-  over = λ e. let z : at .sum ≡ q = eqb-true (at .sum) q e in (omega arith, λ (k : at .sum < q). absurd (omega arith));
-  goes-on = λ e. (eqb-false (at .sum) q e, λ (k : at .sum < q). absurd (omega arith));
-}
+  -- a later first hour wants no less
+  pub want-grows : (r : Aim) → Seeks xs q first r → at .lo < r .lo → at .want ≤ r .want
+  want-grows r x l = omega (arith, w .wants, x .wants, reading-grows xs (at .lo) (r .lo) (omega arith))
 
-module _ (s : List ℕ) (a : accepted s ≡ true) {h : Head} (o : HeadOf s h) where
-  abbrev xs : List ℕ
-  xs = listOf s
+  -- no hour is left at which a run could end
+  pub seeks-none : first ≡ length xs → NoMatch xs q
+  seeks-none e = passed-none xs q (at .lo) (w .passed) (omega (arith, w .wants, w .some, ap (reading xs) e))
 
-  pub hours : length xs ≡ h .hours
-  hours = omega (arith, length-list s, o .hours-is)
+-- ---- the search in a page
+pub counts-marked : (xs : List ℕ) (page : Page) (marks counts : List ℕ) → PageOf xs page marks → CountsOf xs page counts
+    → Marked counts (page .hours) (page .stamp) marks
+counts-marked xs page marks counts g f =
+    marked-of (drop (page .first) xs) counts (page .hours) (page .stamp) marks (λ k l. sym (f .readings k l)) (g .marked)
 
-  total : sum xs ≤ 4294967295
-  total = accepted-only s a .limits .total
+module _ (xs : List ℕ) (q : ℕ) (page : Page) (marks : List ℕ) (g : PageOf xs page marks) (at : Aim) (w : Seeks xs q (page .first) at) where
+  behind : reading xs (page .first + page .hours) ≡ reading xs (page .first) + page .sum
+  behind = omega (arith, run-reading xs (page .first) (page .hours), g .sum-is)
 
-  -- hour i + k of a page in hand, whose place is p + k
-  pub count-here : (i k n p : ℕ) (c : List ℕ) → Ahead h i n → k < n → p ≡ i % 2 ^ h .e → Ready s i c → getD c (p + k) 0 ≡ getD xs (i + k) 0
-  count-here i k n p c d l e r =
-      count-of s o i k (p + k) c (ap (λ (z : ℕ). z + k) e) (omega (arith, d .inside)) (omega (arith, d .room)) r
+  -- more is wanted than the page has
+  pub seeks-beyond : page .sum < at .want → Seeks xs q (page .first + page .hours) (record { lo = at .lo; want = at .want - page .sum })
+  seeks-beyond l = record {
+    inside = w .inside;
+    wants = omega (arith, w .wants, behind);
+    some = omega arith;
+    passed = w .passed;
+  }
 
-  pub place-here : (i k n p : ℕ) → Ahead h i n → k < n → p ≡ i % 2 ^ h .e → p + k < 256
-  place-here i k n p d l e = omega (arith, place-in s o a i k (omega (arith, d .room)))
-
-  module _ (q lo hi t : ℕ) (w : Seeking xs q lo hi t) where
-    sum-small : t ≤ 4294967295
-    sum-small = omega (arith, w .total-is, sum-take-le hi xs, total)
-
-    pub end-low : hi ≤ h .hours
-    end-low = omega (arith, w .inside, hours)
-
-    -- an hour comes in
-    pub more-small : (v : ℕ) → hi < h .hours → v ≡ getD xs hi 0 → t + v < 18446744073709551616
-    more-small v l e =
-        omega (arith, sum-small, reading-next xs hi (omega (arith, hours)), sum-take-le (hi + 1) xs, total)
-
-    pub longer-run : (v hi' : ℕ) → t < q → hi < h .hours → v ≡ getD xs hi 0 → hi' ≡ hi + 1 → Seeking xs q lo hi' (t + v)
-    longer-run v hi' l m e g = rw (g, e) (seeking-longer xs q lo hi t w l (omega (arith, hours)))
-
-    -- an hour goes
-    first-low : q < t → lo < h .hours
-    first-low l = omega (arith, longer-than xs q lo hi t w l, w .inside, hours)
-
-    pub later-run : (v lo' : ℕ) → q < t → v ≡ getD xs lo 0 → lo' ≡ lo + 1 → Seeking xs q lo' hi (t - v)
-    later-run v lo' l e g = rw (g, e) (seeking-later xs q lo hi t w l)
-
-    pub first-fits : (v : ℕ) → q < t → v ≡ getD xs lo 0 → v ≤ t
-    first-fits v l e =
-        let n = seeking-later xs q lo hi t w l in
-        omega (arith, n .total-is, w .total-is, reading-next xs lo (omega (arith, first-low l, hours)))
-
-    -- ---- a move stopped: with sum q, or at the end of what is in hand of the hours that would come in, or go
-    abbrev Stopped : ℕ → ℕ → ℕ → ℕ → ℕ → Type 0
-    Stopped more less i j u = (u ≡ q) ⊎ (((u < q) × (more ≤ i)) ⊎ ((q < u) × (less ≤ j)))
-
-    pub moves : (more less i j u : ℕ) → Ahead h hi more → Ahead h lo less → (i + j ≡ 0 → u ≡ t) → Stopped more less i j u
-        → (t ≡ q → ⊥) → (t < q → hi < h .hours) → lo + hi < lo + j + (hi + i)
-    moves more less i j u c d f p n g = go (decLe 1 (i + j)) p
+  module _ (l : at .want ≤ page .sum) where
+    pub first-low : 1 ≤ q → at .lo < length xs
+    first-low m = go (decLe (length xs) (at .lo))
       where
-        go : Dec (1 ≤ i + j) → Stopped more less i j u → lo + hi < lo + j + (hi + i)
-        go (yes l) x = omega arith
-        go (no l) (inl x) = absurd (n (sym (f (omega arith)) ∙ x))
-        go (no l) (inr (inl x)) = let e = f (omega arith) in omega (arith, x .0, x .1, c .some (g (omega (arith, x .0))))
-        go (no l) (inr (inr x)) = let e = f (omega arith) in omega (arith, x .0, x .1, d .some (first-low (omega (arith, x .0))))
+        go : Dec (length xs ≤ at .lo) → at .lo < length xs
+        go (yes d) =
+            omega (arith, w .wants, behind, reading-grows xs (page .first + page .hours) (at .lo) (omega (arith, g .inside)))
+        go (no d) = omega arith
+
+    -- no hours of the page have as much as is wanted: no run from lo on has the sum
+    over : ((k : ℕ) → 1 ≤ k → k ≤ page .hours → runSum xs (page .first) k ≡ at .want → ⊥) → Passed xs q (at .lo + 1)
+    over f = passed-on xs q (at .lo) (w .passed) (λ m a e. go m e (decLe m (page .first)) (decLe (page .first + page .hours) m))
+      where
+        within : (m : ℕ) → reading xs m ≡ reading xs (at .lo) + q → page .first < m → (k : ℕ) → page .first + k ≡ m → k ≤ page .hours → ⊥
+        within m e a k b c =
+            f k (omega arith) c (omega (arith, run-reading xs (page .first) k, ap (reading xs) b, w .wants))
+
+        some-hours : Dec (page .hours ≤ 0) → 1 ≤ page .hours
+        some-hours (yes d) =
+            let z : page .first + page .hours ≡ page .first = omega arith in
+            omega (arith, behind, ap (reading xs) z, w .some)
+        some-hours (no d) = omega arith
+
+        go : (m : ℕ) → reading xs m ≡ reading xs (at .lo) + q → Dec (m ≤ page .first) → Dec (page .first + page .hours ≤ m) → ⊥
+        go m e (yes d) c = omega (arith, reading-grows xs m (page .first) d, w .wants, w .some)
+        go m e (no d) (yes c) =
+            f (page .hours) (some-hours (decLe (page .hours) 0)) (omega arith)
+            (omega (arith, g .sum-is, behind, reading-grows xs (page .first + page .hours) m c, w .wants))
+        go m e (no d) (no c) = within m e (omega arith) (m - page .first) (omega arith) (omega arith)
+
+    -- there is no mark of it
+    pub over-unmarked : Unmarked marks (page .stamp) (at .want) → Passed xs q (at .lo + 1)
+    over-unmarked u = over (λ k a b e. u (drop (page .first) xs) (page .hours) (g .marked) k a b e)
+
+    module _ (counts : List ℕ) (f : CountsOf xs page counts) (r : Part) (p : Looked counts (page .hours) (at .want) r) where
+      -- it was looked for, and not found
+      pub over-missed : (r .sum ≡ at .want → ⊥) → Passed xs q (at .lo + 1)
+      over-missed n = over (λ k a b e. p .missed n k a b (f .readings k b ∙ e))
+
+      -- it is there
+      pub found-here : 1 ≤ q → r .sum ≡ at .want → FirstMatch xs q (at .lo) (page .first + r .hours - at .lo)
+      found-here m e =
+          passed-found xs q (at .lo) (w .passed) (page .first + r .hours) m (omega (arith, g .inside, p .part .inside))
+          (omega (arith, run-reading xs (page .first) (r .hours), f .readings (r .hours) (p .part .inside), p .part .sum-is, w .wants))
+          (λ k a i. go k a i (decLe (page .first) k))
+        where
+          within : (k d : ℕ) → page .first + d ≡ k → d < r .hours → reading xs k ≡ reading xs (at .lo) + q → ⊥
+          within k d a b i =
+              omega
+              (arith, p .part .short d b, f .readings d (omega (arith, p .part .inside)), run-reading xs (page .first) d, ap (reading xs) a, w .wants)
+
+          go : (k : ℕ) → k < page .first + r .hours → reading xs k ≡ reading xs (at .lo) + q → Dec (page .first ≤ k) → ⊥
+          go k a i (yes d) = within k (k - page .first) (omega arith) (omega arith) i
+          go k a i (no d) = omega (arith, reading-grows xs k (page .first) (omega arith), w .wants, w .some)

@@ -1,4 +1,7 @@
 // The hours of a bag: a run of hours of an image with a given sum.
+mod marks;
+mod page;
+mod part;
 mod seek;
 
 use crate::seek::find;
@@ -20,6 +23,9 @@ fn among(s: &[u8], h: Head, q: u64) -> Bag
 {
     if q == 0 {
         return Bag::Refused(refusal::BAG);
+    }
+    if h.total < q {
+        return Bag::None;
     }
     find(s, h, q)
 }

@@ -1,5 +1,11 @@
-// The search for hours with sum q along an accepted image: while they have too few coins an hour comes in at their end, while they have too
-// many their first one goes. Each end has a page in hand.
+// The search for hours with sum q along an accepted image, one first hour after another: a run from hour lo on ends where the coins since the
+// log's start are q more than before lo. That is looked up in the marks of the page at the front, which nearly always say that no run from hour
+// lo on ends there: so the jumps nearly always go the same way, as a processor foretells them. Each end has a page in hand.
+use crate::marks::carries;
+use crate::page::Page;
+use crate::page::front_page;
+use crate::part::Part;
+use crate::part::look;
 use answers::image::Bag;
 use bits_word::low_bits;
 use image::head::Head;
@@ -8,64 +14,86 @@ use image_cursor::cursor::read_page;
 use image_cursor::cursor::turn;
 ghost use mathlib.Core.Bool.{true};
 ghost use mathlib.Core.Path.{_≡_};
-ghost use Prim.Native.Nat.{_≤_};
+ghost use Prim.Native.Nat.{_+_, _≤_};
 ghost use Rattle.image.specs.Check.{accepted};
 ghost use Rattle.image.specs.Code.Head.{HeadOf};
 ghost use Rattle.image.specs.Read.{listOf};
 ghost use Rattle.image_cursor.specs.Code.Cursor.{Ready};
-ghost use Rattle.image_match.specs.Code.{Ended, Finds, Seeks, Sought};
+ghost use Rattle.runs.specs.Code.{Passed};
+ghost use Rattle.image_match.specs.Code.Page.{CountsOf, PageOf};
+ghost use Rattle.image_match.specs.Code.Seek.{Brings, Finds, Later, Seeks};
 
-// Hours from lo up to hi, and their sum.
-pub struct Hours {
+// The first hour of the runs that are tried, and how many coins more than before the page at the front are wanted where one of them ends.
+pub struct Aim {
     pub lo: u64,
-    pub hi: u64,
-    pub sum: u64,
+    pub want: u64,
 }
 
-// Moves the ends of the hours at until they have sum q, or an end comes to the end of its page or of the list: front has the page of hour hi,
-// back that of hour lo.
-fn seek(s: &[u8], h: Head, q: u64, at: Hours, front: &[u32], back: &[u32]) -> Hours
-    requires { ⌜ (accepted (now s) ≡ true) × HeadOf (now s) h × Seeks (now s) q at ⌝ }
-    requires { ⌜ Ready (now s) (at .hi) (now front) × Ready (now s) (at .lo) (now back) ⌝ }
-    ensures { λ r. ⌜ Sought (now (s .entry)) h q at r ⌝ }
+// What the search in a page comes to: the run's first hour and its hours, or where it goes on behind the page.
+pub enum Sought {
+    Found(u64, u64),
+    Beyond(Aim),
+}
+
+// Passes over hour lo, and over the next ones of its page, which back has, until the coins that one wants may be met in the page at the front,
+// or are more than this has.
+fn pass(s: &[u8], h: Head, q: u64, page: Page, at: Aim, marks: &[u8], back: &[u32]) -> Aim
+    requires { ⌜ (accepted (now s) ≡ true) × HeadOf (now s) h × (1 ≤ q) × PageOf (listOf (now s)) page (now marks) ⌝ }
+    requires { ⌜ Seeks (listOf (now s)) q (page .first) at × (at .want ≤ page .sum) × Passed (listOf (now s)) q (at .lo + 1) ⌝ }
+    requires { ⌜ Ready (now s) (at .lo) (now back) ⌝ }
+    ensures { λ r. ⌜ Later (listOf (now (s .entry))) h q (page .first) at r ⌝ }
 {
-    let f = low_bits(at.hi, h.e) as usize;
     let b = low_bits(at.lo, h.e) as usize;
-    let more = ahead(h, at.hi);
-    let less = ahead(h, at.lo);
-    let mut sum = at.sum;
+    let n = ahead(h, at.lo);
+    let mut want = at.want;
     let mut i = 0;
-    let mut j = 0;
-    while sum != q {
-        if sum < q {
-            if more <= i {
-                break;
-            }
-            sum = sum + (front[f + i] as u64);
-            i = i + 1;
-            continue;
-        }
-        if less <= j {
+    while i < n {
+        want = want + (back[b + i] as u64);
+        i = i + 1;
+        if page.sum < want {
             break;
         }
-        sum = sum - (back[b + j] as u64);
-        j = j + 1;
+        if carries(marks, want, page.stamp) {
+            break;
+        }
     }
-    Hours {
-        lo: at.lo + (j as u64),
-        hi: at.hi + (i as u64),
-        sum,
+    Aim {
+        lo: at.lo + (i as u64),
+        want,
     }
 }
 
-// Whether the search is over: the hours have sum q, or too few coins and none behind them.
-fn ended(h: Head, q: u64, at: Hours) -> bool
-    ensures { λ r. ⌜ Ended h q at r ⌝ }
+// The search as far as the page at the front goes, whose counts are in front; back has the page of hour lo.
+fn seek(
+    s: &[u8],
+    h: Head,
+    q: u64,
+    page: Page,
+    from: Aim,
+    front: &[u32],
+    marks: &[u8],
+    back: &mut [u32],
+) -> Sought
+    requires { ⌜ (accepted (now s) ≡ true) × HeadOf (now s) h × (1 ≤ q) ⌝ }
+    requires { ⌜ PageOf (listOf (now s)) page (now marks) × CountsOf (listOf (now s)) page (now front) ⌝ }
+    requires { ⌜ Seeks (listOf (now s)) q (page .first) from × Ready (now s) (from .lo) (now back) ⌝ }
+    ensures { λ r. ⌜ Brings (now (s .entry)) q (page .first + page .hours) (now (back .exit)) r ⌝ }
 {
-    if at.sum < q {
-        return h.hours <= at.hi;
+    let mut at = from;
+    let mut there = Part { hours: 0, sum: 0 };
+    while at.want <= page.sum {
+        there = look(front, page.hours, marks, page.stamp, there, at.want);
+        if there.sum == at.want {
+            return Sought::Found(at.lo, page.first + (there.hours as u64) - at.lo);
+        }
+        let next = pass(s, h, q, page, at, marks, back);
+        turn(s, h, at.lo, next.lo - at.lo, back);
+        at = next;
     }
-    at.sum == q
+    Sought::Beyond(Aim {
+        lo: at.lo,
+        want: at.want - page.sum,
+    })
 }
 
 // The first hours with sum q, of these the fewest.
@@ -75,21 +103,21 @@ pub(crate) fn find(s: &[u8], h: Head, q: u64) -> Bag
 {
     let mut front = [0u32; 256];
     let mut back = [0u32; 256];
-    read_page(s, h, 0, &mut front);
+    let mut marks = [0u8; 2048];
     read_page(s, h, 0, &mut back);
-    let mut at = Hours {
-        lo: 0,
-        hi: 0,
-        sum: 0,
-    };
-    while !ended(h, q, at) {
-        let next = seek(s, h, q, at, &front, &back);
-        turn(s, h, at.hi, next.hi - at.hi, &mut front);
-        turn(s, h, at.lo, next.lo - at.lo, &mut back);
-        at = next;
+    let mut at = Aim { lo: 0, want: q };
+    let mut first = 0;
+    while first < h.hours {
+        let page = front_page(s, h, first, &mut front, &mut marks);
+        match seek(s, h, q, page, at, &front, &marks, &mut back) {
+            Sought::Found(lo, hours) => {
+                return Bag::Run(lo, hours);
+            }
+            Sought::Beyond(next) => {
+                at = next;
+            }
+        }
+        first = first + (page.hours as u64);
     }
-    if at.sum < q {
-        return Bag::None;
-    }
-    Bag::Run(at.lo, at.hi - at.lo)
+    Bag::None
 }

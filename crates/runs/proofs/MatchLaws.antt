@@ -1,136 +1,113 @@
--- The first run with a given sum, found by moving its two ends along the list; that there is one or none, and one alone. Assumes nothing.
+-- The first run with a given sum, looked for from one first hour after another, by the reading at which such a run must end; that there is
+-- one or none, and one alone. Assumes nothing.
 use mathlib.Core.List.{List}
 use mathlib.Core.Logic.{_⊎_, inl, inr}
 use mathlib.Core.Path.{_≡_, ap}
 use Prim.Native.Nat.{ℕ, zero, suc, _+_, _-_, _≤_, _<_}
-use native.Mathlib.Decide.{decLe}
+use native.Mathlib.Decide.{decLe, ℕ-discrete}
 use native.Mathlib.Omega.{arith}
-use lib.ListN.{length, getD}
+use lib.ListN.{length}
 use Rattle.lists.specs.Lists.{reading}
 use Rattle.runs.specs.Runs.{FirstMatch, Matches, NoMatch}
-use Rattle.runs.specs.Code.{Seeking}
-use Rattle.runs.proofs.PrefixSums.{reading-grows, reading-next, run-reading}
+use Rattle.runs.specs.Code.{Passed}
+use Rattle.runs.proofs.PrefixSums.{reading-grows, run-reading}
 
-pub seeking-first : (xs : List ℕ) (q : ℕ) → Seeking xs q 0 0 0
-seeking-first xs q = record {
-  ordered = omega arith;
-  inside = omega arith;
-  total-is = omega arith;
-  passed = λ (j n : ℕ) (l : j < 0) m. omega arith;
-  short = λ (m : ℕ) (a : 0 ≤ m) (b : m < 0). omega arith;
-}
+-- the reading behind a run with sum q
+reading-behind : (xs : List ℕ) (q j n : ℕ) → Matches xs q j n → reading xs (j + n) ≡ reading xs j + q
+reading-behind xs q j n m = omega (arith, run-reading xs j n, m .sum-is)
 
-module _ (xs : List ℕ) (q lo hi total : ℕ) (s : Seeking xs q lo hi total) where
-  -- too little: one hour more at the end
-  pub seeking-longer : total < q → hi < length xs → Seeking xs q lo (hi + 1) (total + getD xs hi 0)
-  seeking-longer l h = record {
-    ordered = omega (arith, s .ordered);
-    inside = omega arith;
-    total-is = omega (arith, s .total-is, reading-next xs hi h);
-    passed = s .passed;
-    short = λ m a b. go m a b (decLe hi m);
-  }
+-- t is the reading at none of the first n hours
+abbrev pub Unread : List ℕ → ℕ → ℕ → Type 0
+Unread xs t n = (k : ℕ) → k < n → reading xs k ≡ t → ⊥
+
+pub passed-first : (xs : List ℕ) (q : ℕ) → Passed xs q 0
+passed-first xs q j n l m = omega arith
+
+module _ (xs : List ℕ) (q lo : ℕ) (p : Passed xs q lo) where
+  -- no reading is q above that at lo: no run from lo on has the sum
+  pub passed-on : Unread xs (reading xs lo + q) (length xs + 1) → Passed xs q (lo + 1)
+  passed-on u j n l m = go (decLe lo j)
     where
-      go : (m : ℕ) → lo ≤ m → m < hi + 1 → Dec (hi ≤ m) → reading xs m < reading xs lo + q
-      go m a b (yes d) =
-          let e : m ≡ hi = omega arith in
-          omega (arith, ap (reading xs) e, s .total-is)
-      go m a b (no d) = s .short m a (omega arith)
-
-  -- too much: no run from lo on has the sum, and the first hour goes
-  not-lo : q < total → (n : ℕ) → Matches xs q lo n → ⊥
-  not-lo l n m = go (decLe hi (lo + n))
-    where
-      go : Dec (hi ≤ lo + n) → ⊥
-      go (yes d) = omega (arith, reading-grows xs hi (lo + n) d, run-reading xs lo n, m .sum-is, s .total-is)
-      go (no d) = omega (arith, s .short (lo + n) (omega arith) (omega arith), run-reading xs lo n, m .sum-is, m .some)
-
-  pub longer-than : q < total → lo < hi
-  longer-than l = go (decLe hi lo)
-    where
-      go : Dec (hi ≤ lo) → lo < hi
-      go (yes d) = omega (arith, reading-grows xs hi lo d, s .total-is)
-      go (no d) = omega arith
-
-  pub seeking-later : q < total → Seeking xs q (lo + 1) hi (total - getD xs lo 0)
-  seeking-later l =
-      let w : lo < hi = longer-than l in
-      let r : reading xs (lo + 1) ≡ reading xs lo + getD xs lo 0 = reading-next xs lo (omega (arith, s .inside)) in
-      record {
-        ordered = omega arith;
-        inside = s .inside;
-        total-is = omega (arith, s .total-is, reading-grows xs (lo + 1) hi (omega arith));
-        passed = λ j n a m. go j n a m (decLe lo j);
-        short = λ (m : ℕ) (a : lo + 1 ≤ m) (b : m < hi). omega (arith, s .short m (omega arith) b);
-      }
-    where
-      go : (j n : ℕ) → j < lo + 1 → Matches xs q j n → Dec (lo ≤ j) → ⊥
-      go j n a m (yes d) =
+      go : Dec (lo ≤ j) → ⊥
+      go (yes d) =
           let e : j ≡ lo = omega arith in
-          not-lo l n (rw e at m)
-      go j n a m (no d) = s .passed j n (omega arith) m
+          u (j + n) (omega (arith, m .inside)) (omega (arith, reading-behind xs q j n m, ap (reading xs) e))
+      go (no d) = p j n (omega arith) m
 
-  -- the sum itself: this is the run
-  pub seeking-found : 1 ≤ q → total ≡ q → FirstMatch xs q lo (hi - lo)
-  seeking-found p e =
-      let o : lo + (hi - lo) ≡ hi = omega (arith, s .ordered) in
+  -- the first reading that is: the run from lo on ends there
+  pub passed-found : (hi : ℕ) → 1 ≤ q → hi ≤ length xs → reading xs hi ≡ reading xs lo + q → Unread xs (reading xs lo + q) hi
+      → FirstMatch xs q lo (hi - lo)
+  passed-found hi l i e u =
+      let o : lo + (hi - lo) ≡ hi = omega (arith, above (decLe hi lo)) in
       record {
         matches = record {
-          some = some (decLe hi lo);
-          inside = omega (arith, s .inside);
-          sum-is = omega (arith, run-reading xs lo (hi - lo), ap (reading xs) o, s .total-is);
+          some = omega (arith, above (decLe hi lo));
+          inside = omega arith;
+          sum-is = omega (arith, run-reading xs lo (hi - lo), ap (reading xs) o);
         };
         earliest = λ j n m. from j n m (decLe lo j);
         fewest = λ n m. least n m (decLe (hi - lo) n);
       }
     where
-      some : Dec (hi ≤ lo) → 1 ≤ hi - lo
-      some (yes d) = omega (arith, reading-grows xs hi lo d, s .total-is)
-      some (no d) = omega arith
+      above : Dec (hi ≤ lo) → lo < hi
+      above (yes d) = omega (arith, reading-grows xs hi lo d)
+      above (no d) = omega arith
 
       from : (j n : ℕ) → Matches xs q j n → Dec (lo ≤ j) → lo ≤ j
       from j n m (yes d) = d
-      from j n m (no d) = absurd (s .passed j n (omega arith) m)
+      from j n m (no d) = absurd (p j n (omega arith) m)
 
       least : (n : ℕ) → Matches xs q lo n → Dec (hi - lo ≤ n) → hi - lo ≤ n
       least n m (yes d) = d
-      least n m (no d) = omega (arith, s .short (lo + n) (omega arith) (omega arith), run-reading xs lo n, m .sum-is)
+      least n m (no d) = absurd (u (lo + n) (omega arith) (reading-behind xs q lo n m))
 
-  -- too little, and no hour is left: there is no such run
-  pub seeking-none : total < q → hi ≡ length xs → NoMatch xs q
-  seeking-none l e j n m = go (decLe lo j)
+  -- all readings are below that: there is no such run
+  pub passed-none : reading xs (length xs) < reading xs lo + q → NoMatch xs q
+  passed-none l j n m = go (decLe lo j)
     where
       go : Dec (lo ≤ j) → ⊥
       go (yes d) =
-          omega
-          (arith, reading-grows xs lo j d, reading-grows xs (j + n) hi (omega (arith, m .inside)), run-reading xs j n, m .sum-is, s .total-is)
-      go (no d) = s .passed j n (omega arith) m
+          omega (arith, reading-grows xs lo j d, reading-grows xs (j + n) (length xs) (m .inside), reading-behind xs q j n m)
+      go (no d) = p j n (omega arith) m
 
 -- ---- there is one, or none
 abbrev pub Found : List ℕ → ℕ → Type 0
 Found xs q = ((first : ℕ) × (hours : ℕ) × FirstMatch xs q first hours) ⊎ NoMatch xs q
 
--- one move, and then the search goes on
-step : (xs : List ℕ) (q : ℕ) → 1 ≤ q → (lo hi t : ℕ) → Seeking xs q lo hi t
-    → ((a b u : ℕ) → Seeking xs q a b u → a + b ≡ lo + hi + 1 → Found xs q) → Found xs q
-step xs q p lo hi t w on = go (decLe q t) (decLe t q) (decLe (length xs) hi)
-  where
-    go : Dec (q ≤ t) → Dec (t ≤ q) → Dec (length xs ≤ hi) → Found xs q
-    go (yes a) (yes b) d = inl (lo, hi - lo, seeking-found xs q lo hi t w p (omega arith))
-    go (yes a) (no b) d = on (lo + 1) hi (t - getD xs lo 0) (seeking-later xs q lo hi t w (omega arith)) (omega arith)
-    go (no a) b (yes d) = inr (seeking-none xs q lo hi t w (omega arith) (omega (arith, w .inside)))
-    go (no a) b (no d) = on lo (hi + 1) (t + getD xs hi 0) (seeking-longer xs q lo hi t w (omega arith) (omega arith)) (omega arith)
+-- the first of n hours at which the reading is t
+abbrev FirstRead : List ℕ → ℕ → ℕ → Type 0
+FirstRead xs t n = (k : ℕ) × (k < n) × (reading xs k ≡ t) × Unread xs t k
 
--- no more moves than the list has hours, twice
-seek-on : (xs : List ℕ) (q : ℕ) → 1 ≤ q → (n lo hi t : ℕ) → Seeking xs q lo hi t → length xs + length xs ≤ n + (lo + hi) → Found xs q
-seek-on xs q p zero lo hi t w l =
-    let e : hi ≡ lo = omega (arith, w .ordered, w .inside) in
-    inr (seeking-none xs q lo hi t w (omega (arith, w .total-is, ap (reading xs) e)) (omega (arith, w .ordered, w .inside)))
-seek-on xs q p (suc n) lo hi t w l =
-    step xs q p lo hi t w (λ (a b u : ℕ) (v : Seeking xs q a b u) (e : a + b ≡ lo + hi + 1). seek-on xs q p n a b u v (omega arith))
+first-read : (xs : List ℕ) (t n : ℕ) → FirstRead xs t n ⊎ Unread xs t n
+first-read xs t zero = inr (λ (k : ℕ) (l : k < 0) e. omega arith)
+first-read xs t (suc n) = go (first-read xs t n) (ℕ-discrete (reading xs n) t)
+  where
+    last : Unread xs t n → (reading xs n ≡ t → ⊥) → (k : ℕ) → k < suc n → reading xs k ≡ t → Dec (n ≤ k) → ⊥
+    last u f k l e (yes d) =
+        let g : k ≡ n = omega arith in
+        f (omega (arith, ap (reading xs) g))
+    last u f k l e (no d) = u k (omega arith) e
+
+    go : FirstRead xs t n ⊎ Unread xs t n → Dec (reading xs n ≡ t) → FirstRead xs t (suc n) ⊎ Unread xs t (suc n)
+    go (inl r) d = inl (r .0, omega (arith, r .1), r .2, r .3)
+    go (inr u) (yes e) = inl (n, omega arith, e, u)
+    go (inr u) (no f) = inr (λ k l e. last u f k l e (decLe n k))
+
+-- from hour lo on, or else from the next
+from-lo : (xs : List ℕ) (q lo : ℕ) → 1 ≤ q → Passed xs q lo → (Passed xs q (lo + 1) → Found xs q) → Found xs q
+from-lo xs q lo l p on = go (first-read xs (reading xs lo + q) (length xs + 1))
+  where
+    go : FirstRead xs (reading xs lo + q) (length xs + 1) ⊎ Unread xs (reading xs lo + q) (length xs + 1) → Found xs q
+    go (inl r) = inl (lo, r .0 - lo, passed-found xs q lo p (r .0) l (omega (arith, r .1)) (r .2) (r .3))
+    go (inr u) = on (passed-on xs q lo p u)
+
+-- no more first hours than the list has
+found-from : (xs : List ℕ) (q : ℕ) → 1 ≤ q → (n lo : ℕ) → length xs ≤ lo + n → Passed xs q lo → Found xs q
+found-from xs q l zero lo h p = inr (passed-none xs q lo p (omega (arith, reading-grows xs (length xs) lo (omega arith))))
+found-from xs q l (suc n) lo h p = from-lo xs q lo l p (λ (r : Passed xs q (lo + 1)). found-from xs q l n (lo + 1) (omega arith) r)
 
 pub some-match : (xs : List ℕ) (q : ℕ) → 1 ≤ q → Found xs q
-some-match xs q p = seek-on xs q p (length xs + length xs) 0 0 0 (seeking-first xs q) (omega arith)
+some-match xs q l = found-from xs q l (length xs) 0 (omega arith) (passed-first xs q)
 
 -- ---- there is one alone
 pub one-match : (xs : List ℕ) (q f g m n : ℕ) → FirstMatch xs q f m → FirstMatch xs q g n → (f ≡ g) × (m ≡ n)

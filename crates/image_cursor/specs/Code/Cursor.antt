@@ -12,8 +12,9 @@ pub record Ready (s : List ℕ) (i : ℕ) (counts : List ℕ) : Type 0 where
   pub long : length counts ≡ 256
   pub page-is : i < nOf s → take (2 ^ eOf s) counts ≡ page (eOf s) (listOf s) (i / 2 ^ eOf s)
 
--- n hours from hour i on that are logged and in its page; there are some if hour i is logged
+-- n hours from hour i on that are logged and in its page: some if hour i is logged, and all of them to the page's end, or the list's
 pub record Ahead (h : Head) (i n : ℕ) : Type 0 where
   pub inside : i + n ≤ h .hours
   pub room : i % 2 ^ h .e + n ≤ 2 ^ h .e
   pub some : i < h .hours → 1 ≤ n
+  pub whole : i + n < h .hours → i % 2 ^ h .e + n ≡ 2 ^ h .e

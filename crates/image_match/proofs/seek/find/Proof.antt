@@ -1,21 +1,23 @@
 -- `image_match::seek::find` meets its contract. Assumes nothing.
-use mathlib.Core.Path.{_≡_}
-use Prim.Native.Nat.{_+_, _-_}
+use mathlib.Core.Path.{_≡_, refl, ap, sym, subst}
+use Prim.Native.Nat.{ℕ, _+_, _-_}
 use native.Mathlib.Omega.{arith}
+use lib.ListN.{length}
 use borrow.Author.Needs.{needs}
-use borrow.Author.Tests.{not-false, not-true}
+use Rattle.image.specs.Read.{listOf}
 use Rattle.image_cursor.specs.Code.Cursor.{Ready}
-use Rattle.runs.proofs.MatchLaws.{seeking-first, seeking-found, seeking-none}
-use Rattle.image_match.specs.Code.{Seeks}
-use Rattle.image_match.proofs.SeekLaws.{end-low, hours}
+use Rattle.image_match.specs.Code.Seek.{Brings, Seeks}
+use Rattle.image_match.proofs.PageLaws.{Border, border-first, border-next, hours}
+use Rattle.image_match.proofs.SeekLaws.{seeks-as, seeks-first, seeks-none}
 use Rattle.image_match.proofs.seek.find.Statement.{statement}
 use Rattle.image_match.proofs.seek.find.Tie as tie
 
 abbrev Inv-loop : tie.InvT-loop
-Inv-loop s h q front₀ back₀ at₀ front back at = Seeks s q at × Ready s (at .hi) front × Ready s (at .lo) back
+Inv-loop s h q front₀ back₀ marks₀ at₀ first₀ front back marks at first =
+    Border h first × Seeks (listOf s) q first at × Ready s (at .lo) back × (length front ≡ 256) × (length marks ≡ 2048)
 
 abbrev μ-loop : tie.MeasureT-loop
-μ-loop s h q front₀ back₀ at₀ front back at = h .hours + h .hours - (at .lo + at .hi)
+μ-loop s h q front₀ back₀ marks₀ at₀ first₀ front back marks at first = h .hours - first
 
 slice-aggregate-read-page : tie.Need-slice-aggregate-read-page Inv-loop μ-loop
 slice-aggregate-read-page c = search needs
@@ -23,18 +25,23 @@ slice-aggregate-read-page c = search needs
 read-page-requires : tie.Need-read-page-requires Inv-loop μ-loop
 read-page-requires c κs = search needs
 
-slice-aggregate-read-page-2 : tie.Need-slice-aggregate-read-page-2 Inv-loop μ-loop
-slice-aggregate-read-page-2 c = search needs
-
-read-page-requires-2 : tie.Need-read-page-requires-2 Inv-loop μ-loop
-read-page-requires-2 c κs = search needs
-
 loop-holds : tie.Need-loop-holds Inv-loop μ-loop
 loop-holds c =
-    (seeking-first _ _, c .before .before .before .before .read-page .ensures, c .before .read-page2 .ensures)
+    let a = c .before .before .before .before in
+    (border-first _, seeks-first _ _ (a .pre .2), c .before .read-page .ensures, refl, refl)
 
-ended-requires : tie.Need-ended-requires Inv-loop μ-loop
-ended-requires c κs = search needs
+slice-aggregate-front-page : tie.Need-slice-aggregate-front-page Inv-loop μ-loop
+slice-aggregate-front-page c = search needs
+
+slice-aggregate-front-page-2 : tie.Need-slice-aggregate-front-page-2 Inv-loop μ-loop
+slice-aggregate-front-page-2 c = search needs
+
+front-page-requires : tie.Need-front-page-requires Inv-loop μ-loop
+front-page-requires c κs =
+    let b = c .before .before .before .before in
+    let a = b .before .before .before .before .before .pre in
+    let l = c .before .before .if1 .taken in
+    ((a .0, a .1, l, b .loop .inv .0 .meets l), (b .loop .inv .3, b .loop .inv .4))
 
 slice-aggregate-seek : tie.Need-slice-aggregate-seek Inv-loop μ-loop
 slice-aggregate-seek c = search needs
@@ -42,82 +49,58 @@ slice-aggregate-seek c = search needs
 slice-aggregate-seek-2 : tie.Need-slice-aggregate-seek-2 Inv-loop μ-loop
 slice-aggregate-seek-2 c = search needs
 
+slice-aggregate-seek-3 : tie.Need-slice-aggregate-seek-3 Inv-loop μ-loop
+slice-aggregate-seek-3 c = search needs
+
 seek-requires : tie.Need-seek-requires Inv-loop μ-loop
 seek-requires c κs =
-    let b = c .before .before .before .before in
-    let a = b .before .before .before .before .before .before .before .before in
-    let l = b .loop .inv in
-    ((a .pre .0, a .pre .1, l .0), (l .1, l .2))
+    let b = c .before .before .before .before .before .before .before .before .before .before in
+    let a = b .before .before .before .before .before .pre in
+    let f = c .before .before .before .before .before .front-page .ensures in
+    (a, ((f .page-is, f .counts-are), (seeks-as _ _ _ _ _ (f .first-is) (b .loop .inv .1), b .loop .inv .2)))
 
-sub-turn : tie.Need-sub-turn Inv-loop μ-loop
-sub-turn c =
-    c .before .before .seek .ensures .hi-on
-
-slice-aggregate-turn : tie.Need-slice-aggregate-turn Inv-loop μ-loop
-slice-aggregate-turn c = search needs
-
-turn-requires : tie.Need-turn-requires Inv-loop μ-loop
-turn-requires c κs =
-    let d = c .before .before .before in
-    let b = d .before .before .before .before .before in
-    let a = b .before .before .before .before .before .before .before .before in
-    let l = b .loop .inv in
-    ((a .pre .0, a .pre .1, l .1), (end-low _ (a .pre .0) (a .pre .1) _ _ _ _ (l .0), d .seek .ensures .hi-room))
-
-sub-turn-2 : tie.Need-sub-turn-2 Inv-loop μ-loop
-sub-turn-2 c =
-    c .before .before .before .before .before .before .before .seek .ensures .lo-on
-
-slice-aggregate-turn-2 : tie.Need-slice-aggregate-turn-2 Inv-loop μ-loop
-slice-aggregate-turn-2 c = search needs
-
-turn-requires-2 : tie.Need-turn-requires-2 Inv-loop μ-loop
-turn-requires-2 c κs =
-    let d = c .before .before .before .before .before .before .before .before in
-    let b = d .before .before .before .before .before in
-    let a = b .before .before .before .before .before .before .before .before in
-    let l = b .loop .inv in
-    ((a .pre .0, a .pre .1, l .2), (omega (arith, l .0 .ordered, end-low _ (a .pre .0) (a .pre .1) _ _ _ _ (l .0)), d .seek .ensures .lo-room))
-
-loop-less : tie.Need-loop-less Inv-loop μ-loop
-loop-less c =
-    let d = c .before .before .before .before .before .before .before .before .before .before in
-    let g = d .before .before .before in
-    let b = g .before .before in
-    let a = b .before .before .before .before .before .before .before .before in
-    let e = d .seek .ensures in
-    let n = g .before .ended .ensures .goes-on (not-true _ (g .if1 .taken)) in
-    omega (arith, e .moved (n .0) (n .1), e .seeks .ordered, end-low _ (a .pre .0) (a .pre .1) _ _ _ _ (e .seeks))
-
-loop-again : tie.Need-loop-again Inv-loop μ-loop
-loop-again c =
-    let d = c .before .before .before .before .before .before .before .before .before .before in
-    let at = d .before .before .before .before .before .loop .at in
-    let e = d .seek .ensures in
-    let r = d .seek .result in
-    let f : at .hi + (r .hi - at .hi) ≡ r .hi = omega (arith, e .hi-on) in
-    let g : at .lo + (r .lo - at .lo) ≡ r .lo = omega (arith, e .lo-on) in
-    (e .seeks, rw f at (c .before .before .before .before .before .before .turn .ensures), rw g at (c .before .turn2 .ensures))
+enum-known-lo : tie.Need-enum-known-lo Inv-loop μ-loop
+enum-known-lo c = search needs
 
 returns : tie.Need-returns Inv-loop μ-loop
 returns c =
-    let e = c .before .before .before in
-    let b = e .before in
-    let a = b .before .before .before .before .before .before .before .before in
-    let l = b .loop .inv in
-    let n = e .ended .ensures .over (not-false _ (c .before .before .if1 .left)) in
-    seeking-none _ _ _ _ _ (l .0) (c .if2 .taken) (omega (arith, n .1 (c .if2 .taken), end-low _ (a .pre .0) (a .pre .1) _ _ _ _ (l .0), hours _ (a .pre .0) (a .pre .1)))
+    let a = c .before .before .before .before .before .before .before .before .before .before .before .before .before .before .before .before .before .before .before .before .args in
+    let f = c .before .before .before .before .before .before .before .before .before .before .front-page .result in
+    subst (Brings (a .s .now) (a .q) (f .first + f .hours) _) (c .before .lo .given .1) (c .before .before .before .before .seek .ensures)
 
-sub-t26 : tie.Need-sub-t26 Inv-loop μ-loop
-sub-t26 c = omega (arith, c .before .before .before .before .before .loop .inv .0 .ordered)
+enum-known-next : tie.Need-enum-known-next Inv-loop μ-loop
+enum-known-next c = search needs
+
+add-first : tie.Need-add-first Inv-loop μ-loop
+add-first c =
+    let a = c .before .before .before .before .before .before .before .before .before .before .before .before .before .before .before .before .before .before .before .before .pre in
+    record { fits = omega (arith, c .before .before .before .before .before .before .before .before .before .before .front-page .ensures .whole .inside, a .1 .hours-small) }
+
+loop-less : tie.Need-loop-less Inv-loop μ-loop
+loop-less c =
+    let w = c .before .before .before .before .before .before .before .before .before .before .front-page .ensures .whole in
+    omega (arith, w .some (c .before .before .before .before .before .before .before .before .before .before .before .before .before .if1 .taken), w .inside)
+
+loop-again : tie.Need-loop-again Inv-loop μ-loop
+loop-again c =
+    let b = c .before .before .before .before .before .before .before .before .before .before .before .before .before .before .before in
+    let a = b .before .before .before .before .before .args in
+    let f = c .before .before .before .before .before .before .before .before .before .before .front-page in
+    let g = f .ensures in
+    let e = ap (λ (z : ℕ). z + f .result .hours) (sym (g .first-is)) in
+    let x = subst (Brings (a .s .now) (a .q) (f .result .first + f .result .hours) _) (c .before .next .given .1) (c .before .before .before .before .seek .ensures) in (
+      border-next _ _ _ (c .before .before .before .before .before .before .before .before .before .before .before .before .before .if1 .taken) (b .loop .inv .0) (g .whole),
+      seeks-as _ _ _ _ _ e (x .0),
+      x .1,
+      g .long,
+      g .page-is .marked .long,
+    )
 
 returns-2 : tie.Need-returns-2 Inv-loop μ-loop
 returns-2 c =
-    let e = c .before .before .before .before in
-    let b = e .before in
-    let a = b .before .before .before .before .before .before .before .before in
-    let n = e .ended .ensures .over (not-false _ (c .before .before .before .if1 .left)) in
-    seeking-found _ _ _ _ _ (b .loop .inv .0) (a .pre .2) (omega (arith, n .0, c .before .if2 .left))
+    let a = c .before .before .before .before .before .before .before .pre in
+    let b = c .before .before in
+    seeks-none _ _ _ _ (b .loop .inv .1) (omega (arith, b .loop .inv .0 .inside, c .if1 .left, hours _ (a .0) (a .1)))
 
 pub find-spec : {M : Type 1} → statement M
 find-spec =
@@ -127,21 +110,18 @@ find-spec =
     μ-loop
     slice-aggregate-read-page
     read-page-requires
-    slice-aggregate-read-page-2
-    read-page-requires-2
     loop-holds
-    ended-requires
+    slice-aggregate-front-page
+    slice-aggregate-front-page-2
+    front-page-requires
     slice-aggregate-seek
     slice-aggregate-seek-2
+    slice-aggregate-seek-3
     seek-requires
-    sub-turn
-    slice-aggregate-turn
-    turn-requires
-    sub-turn-2
-    slice-aggregate-turn-2
-    turn-requires-2
+    enum-known-lo
+    returns
+    enum-known-next
+    add-first
     loop-less
     loop-again
-    returns
-    sub-t26
     returns-2)

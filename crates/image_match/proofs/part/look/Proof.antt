@@ -1,0 +1,21 @@
+-- `image_match::part::look` meets its contract. Assumes nothing.
+use Rattle.image_match.proofs.PartLaws.{looked-unmarked}
+use Rattle.image_match.proofs.part.look.Statement.{statement}
+use Rattle.image_match.proofs.part.look.Tie as tie
+
+carries-requires : tie.Need-carries-requires
+carries-requires c κs = c .before .before .pre .1 .long
+
+reach-requires : tie.Need-reach-requires
+reach-requires c κs = c .before .before .before .before .pre .0
+
+returns : tie.Need-returns
+returns c = c .reach .ensures
+
+returns-2 : tie.Need-returns-2
+returns-2 c =
+    let a = c .before .before .before .before .pre in
+    looked-unmarked _ _ _ _ _ _ (a .1) (c .before .carries .ensures (c .if1 .left)) (a .0 .2)
+
+pub look-spec : {M : Type 1} → statement M
+look-spec = tie.close (tie.spec carries-requires reach-requires returns returns-2)

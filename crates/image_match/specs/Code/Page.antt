@@ -1,0 +1,31 @@
+-- The page at the front, where runs may end. Assumes nothing.
+use mathlib.Core.List.{List}
+use mathlib.Core.Path.{_≡_}
+use Prim.Native.Nat.{ℕ, _+_, _≤_}
+use lib.ListN.{length, drop}
+use Rattle.lists.specs.Lists.{reading}
+use Rattle.image.specs.Read.{listOf}
+use Rattle.image.specs.declared.head.Head.{Head}
+use Rattle.image_cursor.specs.Code.Cursor.{Ahead}
+use Rattle.runs.specs.Runs.{runSum}
+use Rattle.image_match.specs.Code.Marks.{Marked}
+use Rattle.image_match.specs.declared.page.Page.{Page}
+
+-- a page of the list: its hours, their sum, and the marks of their sums
+pub record PageOf (xs : List ℕ) (page : Page) (marks : List ℕ) : Type 0 where
+  pub inside : page .first + page .hours ≤ length xs
+  pub sum-is : page .sum ≡ runSum xs (page .first) (page .hours)
+  pub marked : Marked (drop (page .first) xs) (page .hours) (page .stamp) marks
+
+-- an array that holds the page's counts
+pub record CountsOf (xs : List ℕ) (page : Page) (counts : List ℕ) : Type 0 where
+  pub long : page .hours ≤ length counts
+  pub readings : (k : ℕ) → k ≤ page .hours → reading counts k ≡ runSum xs (page .first) k
+
+-- the page from an hour on, in an array and a table of marks
+pub record FrontPage (s : List ℕ) (h : Head) (first : ℕ) (page : Page) (counts marks : List ℕ) : Type 0 where
+  pub first-is : page .first ≡ first
+  pub whole : Ahead h first (page .hours)
+  pub page-is : PageOf (listOf s) page marks
+  pub counts-are : CountsOf (listOf s) page counts
+  pub long : length counts ≡ 256

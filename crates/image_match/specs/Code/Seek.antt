@@ -1,0 +1,41 @@
+-- The search for a run with sum q, page after page of the hours at which it may end. Assumes nothing.
+use mathlib.Core.List.{List}
+use mathlib.Core.Path.{_≡_}
+use Prim.Native.Nat.{ℕ, _+_, _-_, _%_, _^_, _≤_, _<_}
+use lib.ListN.{length}
+use Rattle.lists.specs.Lists.{reading}
+use Rattle.image.specs.Read.{listOf}
+use Rattle.image.specs.declared.head.Head.{Head}
+use Rattle.image_cursor.specs.Code.Cursor.{Ready}
+use Rattle.runs.specs.Code.{Passed}
+use Rattle.runs.specs.Runs.{FirstMatch, NoMatch}
+use Rattle.answers.specs.declared.image.Bag.{Bag}
+use Rattle.answers.specs.declared.image.Bag.the-variants.{Run, None, Refused}
+use Rattle.image_match.specs.declared.seek.Aim.{Aim}
+use Rattle.image_match.specs.declared.seek.Sought.{Sought}
+use Rattle.image_match.specs.declared.seek.Sought.the-variants.{Beyond, Found}
+
+-- where the search stands: no run that starts before lo has the sum q, and one from lo on that has it ends where so many coins as are wanted
+-- have come in since hour first
+pub record Seeks (xs : List ℕ) (q first : ℕ) (at : Aim) : Type 0 where
+  pub inside : at .lo ≤ length xs
+  pub wants : reading xs (at .lo) + q ≡ reading xs first + at .want
+  pub some : 1 ≤ at .want
+  pub passed : Passed xs q (at .lo)
+
+-- where it stands some hours later, no further than at the first hour of the next page
+pub record Later (xs : List ℕ) (h : Head) (q first : ℕ) (at r : Aim) : Type 0 where
+  pub seeks : Seeks xs q first r
+  pub on : at .lo < r .lo
+  pub room : at .lo % 2 ^ h .e + (r .lo - at .lo) ≤ 2 ^ h .e
+
+-- what a page brought: the run, or where the search stands behind the page, with the page of hour lo in an array
+abbrev pub Brings : List ℕ → ℕ → ℕ → List ℕ → Sought → Type 0
+Brings s q first back (Found lo hours) = FirstMatch (listOf s) q lo hours
+Brings s q first back (Beyond at) = Seeks (listOf s) q first at × Ready s (at .lo) back
+
+-- what was found: the run, or that there is none
+abbrev pub Finds : List ℕ → ℕ → Bag → Type 0
+Finds xs q (Run first hours) = FirstMatch xs q first hours
+Finds xs q None = NoMatch xs q
+Finds xs q (Refused k) = ⊥

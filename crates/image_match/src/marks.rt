@@ -1,0 +1,31 @@
+// Marks of a page's sums: the sum of its first hours, of one, two or more, has its place in a table, and there the page's stamp. What has no
+// mark is none of these sums; what has one may be another with the same place, or one of a page long gone.
+ghost use mathlib.Core.Bool.{false};
+ghost use mathlib.Core.Path.{_≡_};
+ghost use Prim.Native.Nat.{_≤_};
+ghost use lib.ListN.{length};
+ghost use Rattle.lists.specs.Lists.{reading};
+ghost use Rattle.image_match.specs.Code.Marks.{Marked, Unmarked};
+
+// Marks the sums of n counts, and adds these up.
+pub(crate) fn mark(counts: &[u32], n: usize, stamp: u8, marks: &mut [u8]) -> u64
+    requires { ⌜ (n ≤ length (now counts)) × (reading (now counts) n ≤ 4294967295) × (length (now marks) ≡ 2048) ⌝ }
+    ensures { λ r. ⌜ (r ≡ reading (now (counts .entry)) n) × Marked (now (counts .entry)) n stamp (now (marks .exit)) ⌝ }
+{
+    let mut sum = 0;
+    let mut i = 0;
+    while i < n {
+        sum = sum + (counts[i] as u64);
+        marks[(sum % 2048) as usize] = stamp;
+        i = i + 1;
+    }
+    sum
+}
+
+// Whether there is a mark at the place of a sum.
+pub(crate) fn carries(marks: &[u8], sum: u64, stamp: u8) -> bool
+    requires { ⌜ length (now marks) ≡ 2048 ⌝ }
+    ensures { λ r. ⌜ (r ≡ false → Unmarked (now (marks .entry)) stamp sum) ⌝ }
+{
+    marks[(sum % 2048) as usize] == stamp
+}
