@@ -20,7 +20,7 @@ use Rattle.lists.proofs.Parts.{length-part, part-more, piece}
 use Rattle.lists.proofs.Sums.{sum-append, sum-halves, sum-take-le}
 use Rattle.lists.proofs.Tests.{same-refl, same-is, each, every-of}
 use Rattle.bits.proofs.Packing.{Bits, bits-take, bits-drop, field-value}
-use Rattle.tree.proofs.Shape.{tree-none, length-tree, length-counts, left-read, left-region, right-region, rest-is}
+use Rattle.tree.proofs.Shape.{tree-none, length-tree, length-counts, counts-tree, left-read, left-region, right-region, rest-is}
 
 -- a field that is in the bits
 pub field-part : (b : List ℕ) (a w : ℕ) → Bits b → a + w ≤ length b → part b a w ≡ field w (value (part b a w))
@@ -89,6 +89,15 @@ exact-coded (suc h) s b a bb fits e =
     (length-counts h l b (leftAt s a)) (p .total) (q .total) (p .code) (q .code)
     (same-is (part b (spareAt h s l a) (spareLen h s l)) (replicate (spareLen h s l) 0) (w .1 .1 .1 .0)) in
     record { total = r .0; code = r .1 }
+
+-- the same bits elsewhere are the same counts
+pub counts-local : (h s : ℕ) (b c : List ℕ) (a d : ℕ) → Bits b → a + reserve h s ≤ length b → part b a (reserve h s) ≡ part c d (reserve h s)
+    → exact h s b a ≡ true → counts h s c d ≡ counts h s b a
+counts-local h s b c a d bb i q e =
+    let xs : List ℕ = counts h s b a in
+    let k : Coded h s b a = exact-coded h s b a bb i e in
+    ap (λ (z : ℕ). counts h z c d) (sym (k .total))
+    ∙ counts-tree h xs c d (length-counts h s b a) (ap (λ (z : ℕ). part c d (reserve h z)) (k .total) ∙ sym q ∙ k .code)
 
 -- and the code of counts passes
 spare-clear : (h : ℕ) (xs b : List ℕ) (a : ℕ) → part b a (reserve (suc h) (sum xs)) ≡ tree (suc h) xs
