@@ -1,25 +1,27 @@
 -- The pages of an accepted image, one after another. Assumes nothing.
-use mathlib.Core.Path.{_≡_, refl, sym, ap, ap₂, _∙_}
-use mathlib.Core.Bool.{Bool, true, false}
-use mathlib.Core.List.{List, [], _∷_, _++_}
-use Prim.Native.Nat.{ℕ, zero, suc, _+_, _-_, _*_, _^_, _≤_, _<_, min}
-use native.Mathlib.Decide.{decLe}
+use mathlib.Core.Path.{_≡_, sym, ap, ap₂, _∙_}
+use mathlib.Core.Bool.{true}
+use mathlib.Core.List.{List, _++_}
+use Prim.Native.Nat.{ℕ, _+_, _-_, _*_, _^_, _≤_, _<_, min}
 use native.Mathlib.Omega.{arith}
-use lib.ListN.{length, getD, take, drop, List·getD-eq-default, length-take, length-drop}
+use lib.ListN.{length, getD, take, drop, length-take, length-drop}
 use lib.Pow.{pow-mono}
 use lib.Seq.{getD-drop, getD-take, length-take-le, take-add, take-all, take-append-le}
-use Rattle.lists.specs.Lists.{splice, sum, tabulate, window}
+use Rattle.lists.specs.Lists.{splice, tabulate, window}
 use Rattle.lists.proofs.Parts.{length-splice, splice-nil, splice-then, take-smaller}
 use Rattle.lists.proofs.Tables.{tabulate-ext, tabulate-getD, take-tabulate}
+use Rattle.tree_lowest.specs.Narrow.{within}
+use Rattle.tree_lowest.proofs.NarrowLaws.{within-take}
 use Rattle.image.specs.Check.{accepted}
 use Rattle.image.specs.Code.Head.{HeadOf}
 use Rattle.image.specs.Image.{Limits, page}
 use Rattle.image.specs.Read.{eOf, listOf, nOf, pagesOf}
 use Rattle.image.specs.declared.head.Head.{Head}
 use Rattle.image.proofs.Accepted.{accepted-only, length-list}
-use Rattle.image.proofs.PageLaws.{getD-page, length-page, pages-cover, pages-few, pages-tight}
+use Rattle.image.proofs.PageLaws.{length-page, pages-cover, pages-few, pages-tight}
+use Rattle.image_test.proofs.TestLaws.{within-page}
 use Rattle.book.specs.Book.{bookOf, fourDigits}
-use Rattle.book.proofs.BookLaws.{book-append, four-at, four-each, length-book}
+use Rattle.book.proofs.BookLaws.{book-append, length-book}
 
 -- ---- a page of a list
 -- its first counts, up to the list's end
@@ -40,67 +42,10 @@ unfolding splice
 read-take c d w k q l = ap (take k) q ∙ take-append-le k w (drop (0 + length w) c) l
 
 -- ---- four digits
--- a page has no count that the list lacks
-pub four-page : (e p : ℕ) (xs : List ℕ) → fourDigits xs ≡ true → fourDigits (page e xs p) ≡ true
-four-page e p xs h = four-each (page e xs p) each
-  where
-    each : (j : ℕ) → getD (page e xs p) j 0 ≤ 9999
-    each j = go (decLe (suc j) (2 ^ e))
-      where
-        go : Dec (suc j ≤ 2 ^ e) → getD (page e xs p) j 0 ≤ 9999
-        go (yes l) = rw (getD-page e xs p j l) (four-at xs h (2 ^ e * p + j))
-        go (no l) = rw (List·getD-eq-default (page e xs p) 0 {n = j} (omega (arith, l, length-page e xs p))) (omega arith)
-
-four-take : (k : ℕ) (ys : List ℕ) → fourDigits ys ≡ true → fourDigits (take k ys) ≡ true
-four-take k ys h = four-each (take k ys) each
-  where
-    each : (i : ℕ) → getD (take k ys) i 0 ≤ 9999
-    each i = go (decLe (suc i) k)
-      where
-        go : Dec (suc i ≤ k) → getD (take k ys) i 0 ≤ 9999
-        go (yes l) = rw (getD-take k ys i 0 l) (four-at ys h i)
-        go (no l) = rw (List·getD-eq-default (take k ys) 0 {n = i} (omega (arith, l, length-take k ys))) (omega arith)
-
-few-at : (ys : List ℕ) → sum ys ≤ 9999 → (i : ℕ) → getD ys i 0 ≤ 9999
-unfolding sum
-few-at [] h i = omega arith
-few-at (y ∷ ys) h zero = omega arith
-few-at (y ∷ ys) h (suc i) = few-at ys (omega arith) i
-
-pub few-coins : (ys : List ℕ) → sum ys ≤ 9999 → true ≡ fourDigits ys
-few-coins ys h = sym (four-each ys (few-at ys h))
-
-pub page-wide : (e p : ℕ) (xs : List ℕ) → fourDigits (page e xs p) ≡ false → false ≡ fourDigits xs
-page-wide e p xs h = go (fourDigits xs) refl
-  where
-    go : (t : Bool) → fourDigits xs ≡ t → false ≡ t
-    go true q = let z : true ≡ false = sym (four-page e p xs q) ∙ h in sym z
-    go false q = refl
-
--- the counts of page p too
-pub page-narrow : (e p : ℕ) (xs : List ℕ) → fourDigits (page e xs p) ≡ true → ((k : ℕ) → k < 2 ^ e * p → getD xs k 0 ≤ 9999)
-    → (k : ℕ) → k < 2 ^ e * (p + 1) → getD xs k 0 ≤ 9999
-page-narrow e p xs h before k l = go (decLe (suc k) (2 ^ e * p))
-  where
-    go : Dec (suc k ≤ 2 ^ e * p) → getD xs k 0 ≤ 9999
-    go (yes q) = before k q
-    go (no q) =
-        let m : ℕ = 2 ^ e in
-        let j : ℕ = k - m * p in
-        let i : j < m = omega (arith, q) in
-        let n : m * p + j ≡ k = omega (arith, q) in
-        rw n at (rw (getD-page e xs p j i) at (four-at (page e xs p) h j))
-
--- and of all pages
-pub pages-narrow : (e k : ℕ) (xs : List ℕ) → length xs ≤ 2 ^ e * k → ((i : ℕ) → i < 2 ^ e * k → getD xs i 0 ≤ 9999) → true ≡ fourDigits xs
-pages-narrow e k xs h each = sym (four-each xs at-each)
-  where
-    at-each : (i : ℕ) → getD xs i 0 ≤ 9999
-    at-each i = go (decLe (suc i) (2 ^ e * k))
-      where
-        go : Dec (suc i ≤ 2 ^ e * k) → getD xs i 0 ≤ 9999
-        go (yes l) = each i l
-        go (no l) = rw (List·getD-eq-default xs 0 {n = i} (omega (arith, l))) (omega arith)
+-- some counts of a page of a list have no digit more
+pub four-page : (e p k : ℕ) (xs : List ℕ) → fourDigits xs ≡ true → fourDigits (take k (page e xs p)) ≡ true
+unfolding fourDigits within
+four-page e p k xs h = within-take 9999 k (page e xs p) (within-page 9999 e p xs h)
 
 -- ---- the bytes
 -- one page more: some of its counts, up to the list's end
@@ -160,12 +105,9 @@ module _ {s : List ℕ} {h : Head} {m : ℕ} (z : Sizes s h m) (p : ℕ) (c d : 
   long-page : length (page (eOf s) xs p) ≡ m
   long-page = length-page (eOf s) xs p ∙ sym (z .size-is)
 
-  pub read-all : take m d ≡ page (eOf s) xs p
-  read-all = read-take c d (page (eOf s) xs p) m e (omega (arith, long-page)) ∙ take-all m (page (eOf s) xs p) (omega (arith, long-page))
-
   pub read-four : (k : ℕ) → k ≤ m → fourDigits xs ≡ true → fourDigits (take k d) ≡ true
   read-four k l f =
-      ap fourDigits (read-take c d (page (eOf s) xs p) k e (omega (arith, long-page))) ∙ four-take k (page (eOf s) xs p) (four-page (eOf s) p xs f)
+      ap fourDigits (read-take c d (page (eOf s) xs p) k e (omega (arith, long-page))) ∙ four-page (eOf s) p k xs f
 
   pub read-more : (some : ℕ) (b r q : List ℕ) → p < h .pages → some ≡ min m (h .hours - m * p) → 2 * nOf s ≤ length b
       → r ≡ splice b 0 (bookOf (take (2 ^ eOf s * p) xs)) → q ≡ splice r (2 * (m * p)) (bookOf (take some d))

@@ -1,5 +1,5 @@
 -- The call's refusals. Assumes nothing.
-use mathlib.Core.Path.{_≡_, refl, sym, ap₂, _∙_}
+use mathlib.Core.Path.{_≡_, refl, sym, ap, ap₂, _∙_}
 use mathlib.Core.Bool.{Bool, true, false, _&&_}
 use mathlib.Core.List.{List}
 use Prim.Native.Nat.{ℕ, _*_, _≤_, _<_}
@@ -10,7 +10,8 @@ use borrow.Author.Tests.{le-leb, lt-leb}
 use Rattle.answers.specs.Image.{Verdict, fails, given, holds, refused, told}
 use Rattle.answers.specs.declared.image.Answer.the-variants.{Number, Refused}
 use Rattle.lists.specs.Lists.{pick, same, splice, sum}
-use Rattle.lists.proofs.Tests.{left}
+use Rattle.lists.proofs.Tests.{left, right}
+use Rattle.tree_lowest.specs.Narrow.{within}
 use Rattle.image.specs.Calls.{put, unwritten}
 use Rattle.image.specs.Check.{accepted, check, headed}
 use Rattle.image.specs.Image.{image, maxTotal}
@@ -49,6 +50,16 @@ unfolding putBook put pick told
 book-put xs out now n h q l e =
     rw (h, le-leb (length (bookOf xs)) (length out) (omega (arith, length-book xs)))
     (ap₂ (λ (k : ℕ) (b : List ℕ). record { reply = given k; bytes = b }) (q ∙ sym (length-book xs)) (e ∙ splice-front out (bookOf xs)))
+
+-- ---- the check with a limit of four digits
+pub four-is : (s : List ℕ) → (accepted s && within 9999 (listOf s)) ≡ true → fourDigits (listOf s) ≡ true
+unfolding fourDigits within
+four-is s e = right (accepted s) (within 9999 (listOf s)) e
+
+-- an accepted image that does not pass
+pub to-wide : (s out : List ℕ) → accepted s ≡ true → (accepted s && within 9999 (listOf s)) ≡ false → wrote (Refused 15) out ≡ toCall s out
+unfolding fourDigits within
+to-wide s out a e = book-15 (listOf s) out (ap (λ (t : Bool). t && within 9999 (listOf s)) (sym a) ∙ e) ∙ to-past s out a
 
 -- 'A refusal is its number alone; no byte changes.'
 pub book-refused : (xs out : List ℕ) (k : ℕ) → putBook xs out .reply ≡ refused k → putBook xs out .bytes ≡ out

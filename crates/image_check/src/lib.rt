@@ -7,30 +7,32 @@ use image::head::open_image;
 use image_query::look;
 use image_test::page_test;
 use tree_lowest::zero_bits;
+ghost use mathlib.Core.Bool.{_&&_};
 ghost use mathlib.Core.Path.{_≡_};
-ghost use Prim.Native.Nat.{_+_, _-_, _*_, _≤_, _<_};
+ghost use Prim.Native.Nat.{_+_, _-_, _*_};
 ghost use Rattle.bits.specs.Bits.{bits};
 ghost use Rattle.reserve_table.specs.Code.Tabled.{Tabled};
 ghost use Rattle.tree.specs.Exact.{clear};
+ghost use Rattle.tree_lowest.specs.Narrow.{within};
 ghost use Rattle.image.specs.Image.{bytesFor};
-ghost use Rattle.image.specs.Read.{nOf, sOf, lOf, pagesOf, codeAt};
+ghost use Rattle.image.specs.Read.{nOf, sOf, lOf, pagesOf, codeAt, listOf};
 ghost use Rattle.image.specs.Query.{readingAt};
-ghost use Rattle.image.specs.Check.{check as checkOf};
+ghost use Rattle.image.specs.Check.{accepted, check as checkOf};
 ghost use Rattle.answers.specs.Image.{ruled};
 ghost use Rattle.image.specs.Code.Head.{Opened};
 ghost use Rattle.image_test.specs.Code.Test.{pagesFrom, says};
 
-// Whether each page passes, all L bits are used, and the last root is S.
-fn pages_pass(s: &[u8], table: &[u8; 512], h: Head) -> bool
+// Whether each page passes with no count above widest, all L bits are used, and the last root is S.
+fn pages_pass(s: &[u8], table: &[u8; 512], h: Head, widest: u64) -> bool
     requires { ⌜ Opened (now s) h × Tabled (now table) ⌝ }
-    ensures { λ r. ⌜ r ≡ pagesFrom (now (s .entry)) (pagesOf (now (s .entry))) 0 0 0 ⌝ }
+    ensures { λ r. ⌜ r ≡ pagesFrom widest (now (s .entry)) (pagesOf (now (s .entry))) 0 0 0 ⌝ }
 {
     let n = h.pages;
     let mut p = 0;
     let mut end = 0;
     let mut root = 0;
     while p < n {
-        let t = page_test(s, table, h, p, end, root);
+        let t = page_test(s, table, h, p, end, root, widest);
         if !t.ok {
             return false;
         }
@@ -66,21 +68,30 @@ fn fill_zero(s: &[u8], h: Head) -> bool
     zero_bits(s, end, spare)
 }
 
-// The check: N and S of an image, 5 for a wrong header or length, 6 for bytes that are not the writer's.
+// Whether an image with header h is the writer's and has no count above widest. All counts are looked at in the one pass of the check.
+pub fn passes(s: &[u8], h: Head, widest: u64) -> bool
+    requires { ⌜ Opened (now s) h ⌝ }
+    ensures { λ r. ⌜ r ≡ (accepted (now (s .entry)) && within widest (listOf (now (s .entry)))) ⌝ }
+{
+    let table = reserve_table::table();
+    if !pages_pass(s, &table, h, widest) {
+        return false;
+    }
+    if !rest_zero(s, h) {
+        return false;
+    }
+    fill_zero(s, h)
+}
+
+// The check: N and S of an image, 5 for a wrong header or length, 6 for bytes that are not the writer's. Its limit is one that no count is
+// above.
 pub fn check(s: &[u8]) -> Verdict
     ensures { λ r. ⌜ ruled r ≡ checkOf (now (s .entry)) ⌝ }
 {
     let Opening::Image(h) = open_image(s) else {
         return Verdict::Refused(refusal::HEADER);
     };
-    let table = reserve_table::table();
-    if !pages_pass(s, &table, h) {
-        return Verdict::Refused(refusal::BODY);
-    }
-    if !rest_zero(s, h) {
-        return Verdict::Refused(refusal::BODY);
-    }
-    if !fill_zero(s, h) {
+    if !passes(s, h, Head::MAX_TOTAL) {
         return Verdict::Refused(refusal::BODY);
     }
     Verdict::Holds(h.hours, h.total)

@@ -58,7 +58,7 @@ module _ (s : List ℕ) (a : accepted s ≡ true) where
     inside : p < pages e (length xs)
     inside = omega (arith, pages-same)
 
-    pub sums : sumOf s p ≡ sum (page e xs p)
+    sums : sumOf s p ≡ sum (page e xs p)
     sums = ap (λ (z : List ℕ). sumOf z p) same ∙ sum-is e xs limits p inside
 
     tree-there : part (bits s) (treeAt s p) (reserve e (sum (page e xs p))) ≡ tree e (page e xs p)

@@ -8,7 +8,7 @@ ghost use mathlib.Core.Bool.{true};
 ghost use mathlib.Core.Path.{_≡_};
 ghost use Prim.Native.Nat.{_≤_, _<_};
 ghost use lib.ListN.{length};
-ghost use Rattle.lists.specs.Lists.{splice, sum};
+ghost use Rattle.lists.specs.Lists.{splice};
 ghost use Rattle.image.specs.Check.{accepted};
 ghost use Rattle.image.specs.Code.Head.{HeadOf};
 ghost use Rattle.image.specs.Image.{page};
@@ -39,17 +39,6 @@ fn root_before(s: &[u8], h: Head, w: u32, p: usize) -> u64
         return 0;
     }
     root_of(s, h, w, p - 1)
-}
-
-// The sum of the counts of page p, which takes no decoding.
-pub fn page_sum(s: &[u8], h: Head, p: usize) -> u64
-    requires { ⌜ (accepted (now s) ≡ true) × HeadOf (now s) h × (p < pagesOf (now s)) ⌝ }
-    ensures { λ r. ⌜ r ≡ sum (page (eOf (now (s .entry))) (listOf (now (s .entry))) p) ⌝ }
-{
-    let w = reserve::digits_of(h.total);
-    let root = root_of(s, h, w, p);
-    let before = root_before(s, h, w, p);
-    root - before
 }
 
 // Puts the 2^e counts of page p of the image s, whose header is h, at the front of counts, zeros from hour N on among them. What stands

@@ -1,5 +1,5 @@
 -- The check of an image, step by step, over plain numbers. Assumes nothing.
-use mathlib.Core.Path.{_≡_, sym, ap, ap₂, _∙_}
+use mathlib.Core.Path.{_≡_, refl, sym, ap, ap₂, _∙_}
 use mathlib.Core.Bool.{Bool, true, false, _&&_, not}
 use mathlib.Core.List.{List, [], _∷_}
 use Prim.Native.Nat.{ℕ, zero, suc, _+_, _-_, _*_, _/_, _^_, _≤_, _<_}
@@ -15,18 +15,21 @@ use Rattle.bits.specs.Bits.{bits, value}
 use Rattle.reserve.specs.Reserve.{digits, reserve}
 use Rattle.tree.specs.Code.Node.{Lies}
 use Rattle.tree_walk.specs.Code.Answers.{walkAnswer as walked}
-use Rattle.tree.specs.Exact.{clear, exact}
+use Rattle.tree.specs.Exact.{clear}
+use Rattle.tree_lowest.specs.Narrow.{narrow, within}
+use Rattle.tree_lowest.proofs.NarrowLaws.{within-sum}
 use Rattle.tree.specs.Read.{Found, damaged, found}
 use Rattle.image.specs.Check.{accepted, check, headed}
 use Rattle.answers.specs.Image.{fails, holds, Reply}
 use Rattle.image_test.specs.Code.Test.{Tests}
 use Rattle.image.specs.Code.Head.{Opened}
 use Rattle.image.specs.Code.Page.{RootAt}
-use Rattle.image.specs.Image.{bytesFor}
+use Rattle.image.specs.Image.{bytesFor, maxTotal}
 use Rattle.image.specs.Query.{look, passing, readingAt, theReading}
-use Rattle.image.specs.Read.{codeAt, eOf, lOf, nOf, pagesOf, rootOf, sOf, startOf, widthOf}
+use Rattle.image.specs.Read.{codeAt, eOf, lOf, listOf, nOf, pagesOf, rootOf, sOf, startOf, widthOf}
 use Rattle.image_test.specs.Code.Test.{passesTest, pagesFrom, says}
-use Rattle.image.proofs.DamageLaws.{beyond, is-beyond, within}
+use Rattle.image.proofs.Accepted.{accepted-only}
+use Rattle.image.proofs.DamageLaws.{beyond, is-beyond, within as not-beyond}
 use Rattle.image.proofs.HeadLaws.{Bounds, bounds, never}
 use Rattle.image_test.proofs.TestLaws.{test-is}
 use Rattle.image.proofs.PageLaws.{reserve-most}
@@ -36,40 +39,40 @@ use Rattle.image.specs.declared.head.Head.{Head}
 use Rattle.image.specs.declared.page.Root.{Root}
 
 -- ---- the tests of a page
-abbrev five : List ℕ → ℕ → ℕ → ℕ → ℕ → List Bool
-five s k p a x =
+abbrev five : ℕ → List ℕ → ℕ → ℕ → ℕ → ℕ → List Bool
+five most s k p a x =
     eqb (startOf s p) a
     ∷ leb x (rootOf s p)
     ∷ not (passing s (a + widthOf s) (reserve (eOf s) (rootOf s p - x)))
-    ∷ exact (eOf s) (rootOf s p - x) (bits s) (codeAt s + a + widthOf s)
-    ∷ pagesFrom s k (suc p) (a + widthOf s + reserve (eOf s) (rootOf s p - x)) (rootOf s p)
+    ∷ narrow most (eOf s) (rootOf s p - x) (bits s) (codeAt s + a + widthOf s)
+    ∷ pagesFrom most s k (suc p) (a + widthOf s + reserve (eOf s) (rootOf s p - x)) (rootOf s p)
     ∷ []
 
 -- one test that fails, the same whatever pages follow
-tests-bad : {s : List ℕ} {p a x : ℕ} {r : Tested} → r .ok ≡ false → (i : ℕ) → ((k : ℕ) → getD (five s k p a x) i true ≡ false)
-    → Tests s p a x r
+tests-bad : {most : ℕ} {s : List ℕ} {p a x : ℕ} {r : Tested} → r .ok ≡ false → (i : ℕ) → ((k : ℕ) → getD (five most s k p a x) i true ≡ false)
+    → Tests most s p a x r
 unfolding pagesFrom
-tests-bad {s} {p} {a} {x} e i f = record {
-  stops = λ _ k. every-no (five s k p a x) i (f k);
+tests-bad {most} {s} {p} {a} {x} e i f = record {
+  stops = λ _ k. every-no (five most s k p a x) i (f k);
   goes-on = λ n. absurd (never (sym e ∙ n));
   end-le = λ n. absurd (never (sym e ∙ n));
 }
 
-pages-yes : (s : List ℕ) (k p a x : ℕ) → startOf s p ≡ a → x ≤ rootOf s p → a + widthOf s + reserve (eOf s) (rootOf s p - x) ≤ lOf s
-    → exact (eOf s) (rootOf s p - x) (bits s) (codeAt s + a + widthOf s) ≡ true
-    → pagesFrom s (suc k) p a x ≡ pagesFrom s k (suc p) (a + widthOf s + reserve (eOf s) (rootOf s p - x)) (rootOf s p)
+pages-yes : (most : ℕ) (s : List ℕ) (k p a x : ℕ) → startOf s p ≡ a → x ≤ rootOf s p → a + widthOf s + reserve (eOf s) (rootOf s p - x) ≤ lOf s
+    → narrow most (eOf s) (rootOf s p - x) (bits s) (codeAt s + a + widthOf s) ≡ true
+    → pagesFrom most s (suc k) p a x ≡ pagesFrom most s k (suc p) (a + widthOf s + reserve (eOf s) (rootOf s p - x)) (rootOf s p)
 unfolding pagesFrom every
-pages-yes s k p a x f g h t =
-    every-last (take 4 (five s k p a x)) _ (every-of (take 4 (five s k p a x)) (
+pages-yes most s k p a x f g h t =
+    every-last (take 4 (five most s k p a x)) _ (every-of (take 4 (five most s k p a x)) (
       eq-eqb (startOf s p) a f,
-      (le-leb x (rootOf s p) g, (within (a + widthOf s + reserve (eOf s) (rootOf s p - x)) (lOf s) h, (t, tt))),
+      (le-leb x (rootOf s p) g, (not-beyond (a + widthOf s + reserve (eOf s) (rootOf s p - x)) (lOf s) h, (t, tt))),
     ))
 
 -- the root passes L: it stands elsewhere, or the tree passes L too
-pub root-passes : {s : List ℕ} {p a x : ℕ} {t : Root} {r : Tested} → RootAt s p t → r .ok ≡ false → t .ok ≡ false → Tests s p a x r
-root-passes {s} {p} {a} {x} {t} {r} rt n e = go (ℕ-discrete (startOf s p) a)
+pub root-passes : {most : ℕ} {s : List ℕ} {p a x : ℕ} {t : Root} {r : Tested} → RootAt s p t → r .ok ≡ false → t .ok ≡ false → Tests most s p a x r
+root-passes {most} {s} {p} {a} {x} {t} {r} rt n e = go (ℕ-discrete (startOf s p) a)
   where
-    go : Dec (startOf s p ≡ a) → Tests s p a x r
+    go : Dec (startOf s p ≡ a) → Tests most s p a x r
     go (yes q) =
         tests-bad n 2 (λ _. beyond (a + widthOf s + reserve (eOf s) (rootOf s p - x)) (lOf s)
         (omega (arith, q, is-beyond (startOf s p + widthOf s) (lOf s) (sym (rt .ok-is) ∙ e))))
@@ -94,11 +97,11 @@ module _ {s : List ℕ} {h : Head} {p : ℕ} {t : Root} (g : Own s h p t) where
   pub own-within : t .end ≤ h .bits
   own-within = omega (arith, g .root .end-le (g .ok), g .opened .head .bits-is)
 
-  pub elsewhere : {a x : ℕ} {r : Tested} {w : ℕ} → r .ok ≡ false → w ≡ digits (h .total) → (t .end ≡ a + w → ⊥) → Tests s p a x r
-  elsewhere {a} n e k = tests-bad n 0 (λ _. ne-eqb (startOf s p) a (λ q. k (omega (arith, q, e, f .width, g .root .end-is (g .ok)))))
+  pub elsewhere : {most a x : ℕ} {r : Tested} {w : ℕ} → r .ok ≡ false → w ≡ digits (h .total) → (t .end ≡ a + w → ⊥) → Tests most s p a x r
+  elsewhere {most} {a} n e k = tests-bad n 0 (λ _. ne-eqb (startOf s p) a (λ q. k (omega (arith, q, e, f .width, g .root .end-is (g .ok)))))
 
-  pub falls : {a x : ℕ} {r : Tested} → r .ok ≡ false → t .value < x → Tests s p a x r
-  falls {a} {x} n l = tests-bad n 1 (λ _. lt-leb x (rootOf s p) (omega (arith, own)))
+  pub falls : {most a x : ℕ} {r : Tested} → r .ok ≡ false → t .value < x → Tests most s p a x r
+  falls {most} {a} {x} n l = tests-bad n 1 (λ _. lt-leb x (rootOf s p) (omega (arith, own)))
 
 -- it stands where it is to, behind bit a; its tree has v bits, the root before it being x
 pub record Standing (s : List ℕ) (h : Head) (p : ℕ) (t : Root) (a x v : ℕ) : Type 0 where
@@ -127,15 +130,16 @@ module _ {s : List ℕ} {h : Head} {p : ℕ} {t : Root} {a x v : ℕ} (g : Stand
       let most = reserve-most (h .e) (t .value - x) (bounds s h o .e-high) (omega (arith, own-small (g .own-root))) in
       omega (arith, own-within (g .own-root), o .head .bits-small, g .tree-bits)
 
-  pub tree-over : {r : Tested} → r .ok ≡ false → h .bits < t .end + v → Tests s p a x r
+  pub tree-over : {most : ℕ} {r : Tested} → r .ok ≡ false → h .bits < t .end + v → Tests most s p a x r
   tree-over n l =
       tests-bad n 2 (λ _. beyond (a + widthOf s + reserve (eOf s) (rootOf s p - x)) (lOf s) (omega (arith, end-is, reserve-is, o .head .bits-is)))
 
   at-is : h .code + t .end ≡ codeAt s + a + widthOf s
   at-is = omega (arith, o .head .code-is, end-is)
 
-  exact-is : exact (h .e) (t .value - x) (bits s) (h .code + t .end) ≡ exact (eOf s) (rootOf s p - x) (bits s) (codeAt s + a + widthOf s)
-  exact-is = λ i. exact (o .head .e-is i) (value-is i - x) (bits s) (at-is i)
+  narrow-is : (most : ℕ)
+      → narrow most (h .e) (t .value - x) (bits s) (h .code + t .end) ≡ narrow most (eOf s) (rootOf s p - x) (bits s) (codeAt s + a + widthOf s)
+  narrow-is most = λ i. narrow most (o .head .e-is i) (value-is i - x) (bits s) (at-is i)
 
   pub tree-lies : t .end + v ≤ h .bits → Lies s (h .code + t .end) (h .e) (t .value - x)
   tree-lies l =
@@ -149,43 +153,43 @@ module _ {s : List ℕ} {h : Head} {p : ℕ} {t : Root} {a x v : ℕ} (g : Stand
         small = omega (arith, ev, o .head .code-is, f .code-at, f .few, o .head .bits-small);
       }
 
-  pub inexact : {r : Tested} → r .ok ≡ false → exact (h .e) (t .value - x) (bits s) (h .code + t .end) ≡ false → Tests s p a x r
-  inexact n e = tests-bad n 3 (λ _. sym exact-is ∙ e)
+  pub inexact : {most : ℕ} {r : Tested} → r .ok ≡ false → narrow most (h .e) (t .value - x) (bits s) (h .code + t .end) ≡ false → Tests most s p a x r
+  inexact {most} n e = tests-bad n 3 (λ _. sym (narrow-is most) ∙ e)
 
-  pub page-passes : x ≤ t .value → t .end + v ≤ h .bits → exact (h .e) (t .value - x) (bits s) (h .code + t .end) ≡ true
-      → Tests s p a x (record { ok = true; end = t .end + v; root = t .value })
-  page-passes l m e =
+  pub page-passes : (most : ℕ) → x ≤ t .value → t .end + v ≤ h .bits → narrow most (h .e) (t .value - x) (bits s) (h .code + t .end) ≡ true
+      → Tests most s p a x (record { ok = true; end = t .end + v; root = t .value })
+  page-passes most l m e =
       let q : t .end + v ≡ a + widthOf s + reserve (eOf s) (rootOf s p - x) = omega (arith, end-is, reserve-is) in
       record {
         stops = λ n. absurd (never (sym n));
         goes-on =
-            λ _ k. pages-yes s k p a x start-is (omega (arith, value-is)) (omega (arith, q, o .head .bits-is)) (sym exact-is ∙ e)
-            ∙ sym (ap₂ (pagesFrom s k (suc p)) q value-is);
+            λ _ k. pages-yes most s k p a x start-is (omega (arith, value-is)) (omega (arith, q, o .head .bits-is)) (sym (narrow-is most) ∙ e)
+            ∙ sym (ap₂ (pagesFrom most s k (suc p)) q value-is);
         end-le = λ _. omega (arith, o .head .bits-is);
       }
 
 -- ---- the pages in turn
-module _ {s : List ℕ} {p a x : ℕ} {r : Tested} (t : Tests s p a x r) (n : ℕ) (l : p < n) where
+module _ {most : ℕ} {s : List ℕ} {p a x : ℕ} {r : Tested} (t : Tests most s p a x r) (n : ℕ) (l : p < n) where
   left-over : n - p ≡ suc (n - (p + 1))
   left-over = omega arith
 
-  pub pages-stop : r .ok ≡ false → pagesFrom s (n - p) p a x ≡ false
-  pages-stop e = ap (λ (k : ℕ). pagesFrom s k p a x) left-over ∙ t .stops e (n - (p + 1))
+  pub pages-stop : r .ok ≡ false → pagesFrom most s (n - p) p a x ≡ false
+  pages-stop e = ap (λ (k : ℕ). pagesFrom most s k p a x) left-over ∙ t .stops e (n - (p + 1))
 
-  pub pages-on : r .ok ≡ true → pagesFrom s (n - p) p a x ≡ pagesFrom s (n - (p + 1)) (p + 1) (r .end) (r .root)
+  pub pages-on : r .ok ≡ true → pagesFrom most s (n - p) p a x ≡ pagesFrom most s (n - (p + 1)) (p + 1) (r .end) (r .root)
   pages-on e =
-      ap (λ (k : ℕ). pagesFrom s k p a x) left-over ∙ t .goes-on e (n - (p + 1))
-      ∙ ap (λ (k : ℕ). pagesFrom s (n - (p + 1)) k (r .end) (r .root)) (sym (add-one p))
+      ap (λ (k : ℕ). pagesFrom most s k p a x) left-over ∙ t .goes-on e (n - (p + 1))
+      ∙ ap (λ (k : ℕ). pagesFrom most s (n - (p + 1)) k (r .end) (r .root)) (sym (add-one p))
 
-module _ (s : List ℕ) (h : Head) (o : Opened s h) (n p a x : ℕ) (l : n ≤ p) where
-  done : pagesFrom s (n - p) p a x ≡ (eqb a (lOf s) && eqb x (sOf s))
+module _ (most : ℕ) (s : List ℕ) (h : Head) (o : Opened s h) (n p a x : ℕ) (l : n ≤ p) where
+  done : pagesFrom most s (n - p) p a x ≡ (eqb a (lOf s) && eqb x (sOf s))
   unfolding pagesFrom
-  done = ap (λ (k : ℕ). pagesFrom s k p a x) {x = n - p} {y = 0} (omega arith)
+  done = ap (λ (k : ℕ). pagesFrom most s k p a x) {x = n - p} {y = 0} (omega arith)
 
-  pub pages-short : (a ≡ h .bits → ⊥) → pagesFrom s (n - p) p a x ≡ false
+  pub pages-short : (a ≡ h .bits → ⊥) → pagesFrom most s (n - p) p a x ≡ false
   pages-short e = done ∙ rw (ne-eqb a (lOf s) (λ q. e (q ∙ sym (o .head .bits-is))))
 
-  pub pages-done : a ≡ h .bits → eqb x (h .total) ≡ pagesFrom s (n - p) p a x
+  pub pages-done : a ≡ h .bits → eqb x (h .total) ≡ pagesFrom most s (n - p) p a x
   pages-done e = ap (eqb x) (o .head .total-is) ∙ sym (done ∙ rw (eq-eqb a (lOf s) (e ∙ o .head .bits-is)))
 
 -- ---- the hours from N on
@@ -230,28 +234,43 @@ fill-is s h o =
     ap₂ (clear (bits s)) a (omega (arith, a, b))
 
 -- ---- the answer
-abbrev three : List ℕ → List Bool
-three s =
-    pagesFrom s (pagesOf s) 0 0 0
-    ∷ says (readingAt s (nOf s)) (sOf s)
-    ∷ clear (bits s) (codeAt s + lOf s) (8 * bytesFor (lOf s) - lOf s)
-    ∷ []
+module _ (most : ℕ) {s : List ℕ} {h : Head} (o : Opened s h) (bytes : (i : ℕ) → getD s i 0 < 256) where
+  abbrev three : List Bool
+  three =
+      pagesFrom most s (pagesOf s) 0 0 0
+      ∷ says (readingAt s (nOf s)) (sOf s)
+      ∷ clear (bits s) (codeAt s + lOf s) (8 * bytesFor (lOf s) - lOf s)
+      ∷ []
+
+  accepts : every three ≡ (accepted s && within most (listOf s))
+  unfolding passesTest
+  accepts = sym (ap (λ (z : Bool). z && every three) (o .passed)) ∙ test-is most s bytes
+
+  pub test-fails : (i : ℕ) → getD three i true ≡ false → false ≡ (accepted s && within most (listOf s))
+  test-fails i e = sym (sym accepts ∙ every-no three i e)
+
+  pub test-last : pagesFrom most s (pagesOf s) 0 0 0 ≡ true → says (readingAt s (nOf s)) (sOf s) ≡ true
+      → clear (bits s) (codeAt s + lOf s) (8 * bytesFor (lOf s) - lOf s) ≡ (accepted s && within most (listOf s))
+  unfolding every
+  test-last a b = sym (every-last (take 2 three) _ (every-of (take 2 three) (a, (b, tt)))) ∙ accepts
 
 pub check-five : (s : List ℕ) → headed s ≡ false → fails 5 ≡ check s
 unfolding check pick
 check-five s e = rw e
 
-module _ {s : List ℕ} {h : Head} (o : Opened s h) (bytes : (i : ℕ) → getD s i 0 < 256) where
-  accepts : every (three s) ≡ accepted s
-  unfolding passesTest
-  accepts = sym (ap (λ (z : Bool). z && every (three s)) (o .passed)) ∙ test-is s bytes
+-- no count of an image is above the limit of its total
+whole : (s : List ℕ) → (accepted s && within maxTotal (listOf s)) ≡ accepted s
+whole s = go (accepted s) refl
+  where
+    go : (t : Bool) → accepted s ≡ t → (t && within maxTotal (listOf s)) ≡ t
+    go true e = within-sum maxTotal (listOf s) (accepted-only s e .limits .total)
+    go false e = refl
 
-  pub check-six : (i : ℕ) → getD (three s) i true ≡ false → fails 6 ≡ check s
+module _ {s : List ℕ} {h : Head} (o : Opened s h) where
+  pub check-six : (accepted s && within maxTotal (listOf s)) ≡ false → fails 6 ≡ check s
   unfolding check pick
-  check-six i e = sym (rw (o .passed, sym accepts ∙ every-no (three s) i e))
+  check-six e = sym (rw (o .passed, sym (whole s) ∙ e))
 
-  pub check-holds : pagesFrom s (pagesOf s) 0 0 0 ≡ true → says (readingAt s (nOf s)) (sOf s) ≡ true
-      → clear (bits s) (codeAt s + lOf s) (8 * bytesFor (lOf s) - lOf s) ≡ true → holds (h .hours) (h .total) ≡ check s
+  pub check-holds : (accepted s && within maxTotal (listOf s)) ≡ true → holds (h .hours) (h .total) ≡ check s
   unfolding check pick
-  check-holds a b c =
-      ap₂ holds (o .head .hours-is) (o .head .total-is) ∙ sym (rw (o .passed, sym accepts ∙ every-of (three s) (a, (b, (c, tt)))))
+  check-holds e = ap₂ holds (o .head .hours-is) (o .head .total-is) ∙ sym (rw (o .passed, sym (whole s) ∙ e))

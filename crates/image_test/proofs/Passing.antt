@@ -18,11 +18,12 @@ use Rattle.bits.specs.Bits.{bits}
 use Rattle.bits.proofs.Laws.{length-bits}
 use Rattle.bits.proofs.Packing.{bits-bytes}
 use Rattle.reserve.specs.Reserve.{reserve}
-use Rattle.tree.specs.Exact.{exact}
 use Rattle.tree.specs.Read.{counts, found, later, walk}
 use Rattle.tree.specs.Tree.{tree}
 use Rattle.tree.specs.Exact.{Coded}
 use Rattle.tree.proofs.Exacts.{exact-coded}
+use Rattle.tree_lowest.specs.Narrow.{narrow, within}
+use Rattle.tree_lowest.proofs.NarrowLaws.{narrow-exact, narrow-within}
 use Rattle.tree.proofs.Shape.{length-counts}
 use Rattle.tree.proofs.WalkLaws.{shift, walk-tree}
 use Rattle.image.specs.Check.{headed}
@@ -31,7 +32,7 @@ use Rattle.image.specs.Query.{beforePassing, look, lookIn, pageFine, readingAt,
 use Rattle.image.specs.Read.{beforeOf, codeAt, eOf, lOf, nOf, pageOf, pagesOf, rootOf, sOf, startOf, sumOf, treeAt, widthOf}
 use Rattle.answers.specs.Image.{given}
 use Rattle.image_test.specs.Code.Test.{pagesFrom}
-use Rattle.image.proofs.DamageLaws.{is-within, within}
+use Rattle.image.proofs.DamageLaws.{is-within, within as not-beyond}
 use Rattle.image.proofs.PageLaws.{hour-low, hour-page, hour-split}
 
 -- where page p is to start, by the pages before it
@@ -39,30 +40,30 @@ unfoldable pub placeOf : List ℕ → ℕ → ℕ
 placeOf s zero = 0
 placeOf s (suc p) = placeOf s p + widthOf s + reserve (eOf s) (sumOf s p)
 
--- a page that passes
-pub record Passes (s : List ℕ) (p : ℕ) : Type 0 where
+-- a page that passes, most being the limit for its counts
+pub record Passes (most : ℕ) (s : List ℕ) (p : ℕ) : Type 0 where
   pub place : startOf s p ≡ placeOf s p
   pub rises : beforeOf s p ≤ rootOf s p
   pub fits : placeOf s (suc p) ≤ lOf s
-  pub tree : exact (eOf s) (sumOf s p) (bits s) (codeAt s + placeOf s p + widthOf s) ≡ true
+  pub tree : narrow most (eOf s) (sumOf s p) (bits s) (codeAt s + placeOf s p + widthOf s) ≡ true
 
-pub record All (s : List ℕ) (k p : ℕ) : Type 0 where
-  pub page : (q : ℕ) → p ≤ q → q < p + k → Passes s q
+pub record All (most : ℕ) (s : List ℕ) (k p : ℕ) : Type 0 where
+  pub page : (q : ℕ) → p ≤ q → q < p + k → Passes most s q
   pub last : placeOf s (p + k) ≡ lOf s
   pub top : beforeOf s (p + k) ≡ sOf s
 
-pub from-all : (s : List ℕ) (k p : ℕ) → pagesFrom s k p (placeOf s p) (beforeOf s p) ≡ true → All s k p
+pub from-all : (most : ℕ) (s : List ℕ) (k p : ℕ) → pagesFrom most s k p (placeOf s p) (beforeOf s p) ≡ true → All most s k p
 unfolding pagesFrom placeOf beforeOf sumOf
-from-all s zero p e =
+from-all most s zero p e =
     let z : p + 0 ≡ p = add-zero p in
     record {
       page = λ q a b. absurd (omega (arith, z));
       last = ap (placeOf s) z ∙ eqb-true (placeOf s p) (lOf s) (left (eqb (placeOf s p) (lOf s)) (eqb (beforeOf s p) (sOf s)) e);
       top = ap (beforeOf s) z ∙ eqb-true (beforeOf s p) (sOf s) (right (eqb (placeOf s p) (lOf s)) (eqb (beforeOf s p) (sOf s)) e);
     }
-from-all s (suc k) p e =
+from-all most s (suc k) p e =
     let w = each _ e in
-    let here : Passes s p =
+    let here : Passes most s p =
     record {
       place = eqb-true (startOf s p) (placeOf s p) (w .0);
       rises = leb-true (beforeOf s p) (rootOf s p) (w .1 .0);
@@ -70,36 +71,36 @@ from-all s (suc k) p e =
           (w .1 .1 .0);
       tree = w .1 .1 .1 .0;
     } in
-    let rest : All s k (suc p) = from-all s k (suc p) (w .1 .1 .1 .1 .0) in
+    let rest : All most s k (suc p) = from-all most s k (suc p) (w .1 .1 .1 .1 .0) in
     let z : suc p + k ≡ p + suc k = omega arith in
     record {
-      page = λ q a b. pick-page s p q a here (λ (c : suc p ≤ q). rest .page q c (omega (arith, z)));
+      page = λ q a b. pick-page most s p q a here (λ (c : suc p ≤ q). rest .page q c (omega (arith, z)));
       last = ap (placeOf s) (sym z) ∙ rest .last;
       top = ap (beforeOf s) (sym z) ∙ rest .top;
     }
   where
-    pick-page : (s : List ℕ) (p q : ℕ) → p ≤ q → Passes s p → (suc p ≤ q → Passes s q) → Passes s q
-    pick-page s p q a h r = go (decLe (suc p) q)
+    pick-page : (most : ℕ) (s : List ℕ) (p q : ℕ) → p ≤ q → Passes most s p → (suc p ≤ q → Passes most s q) → Passes most s q
+    pick-page most s p q a h r = go (decLe (suc p) q)
       where
-        go : Dec (suc p ≤ q) → Passes s q
+        go : Dec (suc p ≤ q) → Passes most s q
         go (yes c) = r c
-        go (no c) = subst (Passes s) {x = p} {y = q} (omega arith) h
+        go (no c) = subst (Passes most s) {x = p} {y = q} (omega arith) h
 
-pub all-from : (s : List ℕ) (k p : ℕ) → All s k p → pagesFrom s k p (placeOf s p) (beforeOf s p) ≡ true
+pub all-from : (most : ℕ) (s : List ℕ) (k p : ℕ) → All most s k p → pagesFrom most s k p (placeOf s p) (beforeOf s p) ≡ true
 unfolding pagesFrom placeOf beforeOf sumOf
-all-from s zero p w =
+all-from most s zero p w =
     let z : p + 0 ≡ p = add-zero p in
     both (eq-eqb (placeOf s p) (lOf s) (ap (placeOf s) (sym z) ∙ w .last)) (eq-eqb (beforeOf s p) (sOf s) (ap (beforeOf s) (sym z) ∙ w .top))
-all-from s (suc k) p w =
+all-from most s (suc k) p w =
     let z : suc p + k ≡ p + suc k = omega arith in
-    let h : Passes s p = w .page p (omega arith) (omega arith) in
-    let r : All s k (suc p) =
+    let h : Passes most s p = w .page p (omega arith) (omega arith) in
+    let r : All most s k (suc p) =
     record { page = λ q a b. w .page q (omega arith) (omega (arith, z)); last = ap (placeOf s) z ∙ w .last; top = ap (beforeOf s) z ∙ w .top } in
     every-of _ (
       eq-eqb (startOf s p) (placeOf s p) (h .place),
       (
         le-leb (beforeOf s p) (rootOf s p) (h .rises),
-        (within _ (lOf s) (h .fits), (h .tree, (all-from s k (suc p) r, tt))),
+        (not-beyond _ (lOf s) (h .fits), (h .tree, (all-from most s k (suc p) r, tt))),
       ),
     )
 
@@ -124,7 +125,7 @@ concat-into k p n i f l h q =
     ∙ concat-at k n f [] p (λ j _. h j) l))
 
 -- ---- bytes all of whose pages pass
-module _ (s : List ℕ) (hd : headed s ≡ true) (all : All s (pagesOf s) 0) where
+module _ {most : ℕ} (s : List ℕ) (hd : headed s ≡ true) (all : All most s (pagesOf s) 0) where
   abbrev e : ℕ
   e = eOf s
 
@@ -145,7 +146,7 @@ module _ (s : List ℕ) (hd : headed s ≡ true) (all : All s (pagesOf s) 0) whe
   unfolding headed
   size-is = eqb-true (length s) (size e (nOf s) (lOf s)) (each _ hd .1 .1 .1 .1 .1 .1 .1 .0)
 
-  pub passes : (p : ℕ) → p < K → Passes s p
+  pub passes : (p : ℕ) → p < K → Passes most s p
   passes p l = all .page p (omega arith) (omega arith)
 
   pub last : placeOf s K ≡ lOf s
@@ -168,11 +169,15 @@ module _ (s : List ℕ) (hd : headed s ≡ true) (all : All s (pagesOf s) 0) whe
 
   pub coded : (p : ℕ) → p < K → Coded e (sumOf s p) b (c + placeOf s p + w)
   unfolding placeOf
-  coded p l = exact-coded e (sumOf s p) b (c + placeOf s p + w) (bits-bytes s) (omega (arith, passes p l .fits, code-fits)) (passes p l .tree)
+  coded p l = exact-coded e (sumOf s p) b (c + placeOf s p + w) (bits-bytes s) (omega (arith, passes p l .fits, code-fits))
+      (narrow-exact most e (sumOf s p) b (c + placeOf s p + w) (passes p l .tree))
 
   pub page-counts : (p : ℕ) → p < K → pageOf s p ≡ counts e (sumOf s p) b (c + placeOf s p + w)
   unfolding pageOf treeAt
   page-counts p l = ap (λ (z : ℕ). counts e (sumOf s p) b (c + z + w)) (passes p l .place)
+
+  pub page-within : (p : ℕ) → p < K → within most (pageOf s p) ≡ true
+  page-within p l = ap (within most) (page-counts p l) ∙ narrow-within most e (sumOf s p) b (c + placeOf s p + w) (passes p l .tree)
 
   pub page-total : (p : ℕ) → p < K → sum (pageOf s p) ≡ sumOf s p
   page-total p l = ap sum (page-counts p l) ∙ coded p l .total
@@ -197,22 +202,22 @@ module _ (s : List ℕ) (hd : headed s ≡ true) (all : All s (pagesOf s) 0) whe
   before-fits : (p : ℕ) → p < K → not (beforePassing s p) ≡ true
   unfolding beforePassing placeOf
   before-fits zero l = refl
-  before-fits (suc p) l = within (startOf s p + w) (lOf s) (omega (arith, passes p (omega arith) .place, passes p (omega arith) .fits))
+  before-fits (suc p) l = not-beyond (startOf s p + w) (lOf s) (omega (arith, passes p (omega arith) .place, passes p (omega arith) .fits))
 
   pub page-fine : (p : ℕ) → p < K → pageFine s p ≡ true
   unfolding pageFine placeOf beforeOf
   page-fine p l =
       every-of _ (
-        within (startOf s p + w) (lOf s) (omega (arith, passes p l .place, passes p l .fits)),
+        not-beyond (startOf s p + w) (lOf s) (omega (arith, passes p l .place, passes p l .fits)),
         (
           before-fits p l,
           (
-            within (rootOf s p) (sOf s) (before-top (K - suc p) (suc p) (omega arith)),
+            not-beyond (rootOf s p) (sOf s) (before-top (K - suc p) (suc p) (omega arith)),
             (
-              within (beforeOf s p) (sOf s) (before-top (K - p) p (omega arith)),
+              not-beyond (beforeOf s p) (sOf s) (before-top (K - p) p (omega arith)),
               (
-                within (beforeOf s p) (rootOf s p) (passes p l .rises),
-                (within (startOf s p + w + reserve e (sumOf s p)) (lOf s) (omega (arith, passes p l .place, passes p l .fits)), tt),
+                not-beyond (beforeOf s p) (rootOf s p) (passes p l .rises),
+                (not-beyond (startOf s p + w + reserve e (sumOf s p)) (lOf s) (omega (arith, passes p l .place, passes p l .fits)), tt),
               ),
             ),
           ),

@@ -1,11 +1,12 @@
--- The code's test of an image is `accepted`. Assumes nothing.
+-- The code's test of an image is `accepted`, and `within` of its counts. Assumes nothing.
 use mathlib.Core.Path.{_≡_, refl, sym, ap, ap₂, _∙_}
-use mathlib.Core.Bool.{true}
+use mathlib.Core.Bool.{true, _&&_}
 use mathlib.Core.List.{List, [], _∷_, _++_}
 use Prim.Native.Nat.{ℕ, zero, suc, _+_, _-_, _*_, _^_, _≤_, _<_}
 use native.Mathlib.Nat.{mul-zero}
+use native.Mathlib.Decide.{decLe}
 use native.Mathlib.Omega.{arith}
-use lib.ListN.{length, getD, take, drop, replicate, length-drop, length-replicate, take-append-drop}
+use lib.ListN.{length, getD, List·getD-eq-default, take, drop, replicate, length-drop, length-replicate, take-append-drop}
 use lib.Seq.{drop-at, drop-drop, take-add, take-all, getD-drop, take-length}
 use borrow.Author.Tests.{le-leb, leb-true, eq-eqb, eqb-true}
 use Rattle.lists.specs.Lists.{concat, fill, part, same, sum, tabulate, window}
@@ -20,10 +21,12 @@ use Rattle.bits.specs.Pack.{pack}
 use Rattle.bits.proofs.Little.{stored}
 use Rattle.bits.proofs.Packing.{bits-bytes, pack-bits}
 use Rattle.reserve.specs.Reserve.{digits, reserve}
-use Rattle.tree.specs.Exact.{clear, exact}
+use Rattle.tree.specs.Exact.{clear}
 use Rattle.tree.specs.Read.{place}
 use Rattle.tree.specs.Tree.{tree}
-use Rattle.tree.proofs.Exacts.{field-part, tree-exact}
+use Rattle.tree.proofs.Exacts.{field-part}
+use Rattle.tree_lowest.specs.Narrow.{narrow, within}
+use Rattle.tree_lowest.proofs.NarrowLaws.{tree-narrow, within-at, within-concat, within-each, within-take}
 use Rattle.image.specs.Check.{accepted, headed}
 use Rattle.image.specs.Image.{Limits, bytesFor, code, header, headerLength, image, maxTotal, packed, page, pageCode, pages, root, size, start, table}
 use Rattle.image.specs.Image.{tableAt}
@@ -34,9 +37,9 @@ use Rattle.image_test.specs.Code.Test.{passesTest, pagesFrom, says}
 use Rattle.image.proofs.ReadLaws.{before-is, bits-is, e-is, headed-image, l-is, last-root, n-is, pages-is, root-is, s-is, start-is, sum-is, tree-is, width-is}
 use Rattle.image.proofs.Packed.{drop-bits, tail}
 use Rattle.image.proofs.HeadLaws.{word-most}
-use Rattle.image.proofs.PageLaws.{page-sum, start-next, start-within}
+use Rattle.image.proofs.PageLaws.{getD-page, length-page, page-sum, start-next, start-within}
 use Rattle.image_test.proofs.Passing.{All, Passes, all-from, bits-long, body-long, code-fits, coded, first-sums, from-all, last, page-counts}
-use Rattle.image_test.proofs.Passing.{page-long, page-total, passes, placeOf, reading-all, size-is, top}
+use Rattle.image_test.proofs.Passing.{page-long, page-total, page-within, passes, placeOf, reading-all, size-is, top}
 use Rattle.image.proofs.Accepted.{accepted-only, length-list}
 use Rattle.image.proofs.QueryLaws.{reading-at}
 
@@ -62,7 +65,18 @@ front-is (x₀ ∷ x₁ ∷ []) x l a b c d = absurd (omega arith)
 front-is (x₀ ∷ x₁ ∷ x₂ ∷ []) x l a b c d = absurd (omega arith)
 
 -- ---- an image passes
-module _ (e : ℕ) (xs : List ℕ) (m : Limits e xs) where
+-- a page has no count that the list lacks
+pub within-page : (most e p : ℕ) (xs : List ℕ) → within most xs ≡ true → within most (page e xs p) ≡ true
+within-page most e p xs h = within-each most (page e xs p) at-each
+  where
+    at-each : (j : ℕ) → getD (page e xs p) j 0 ≤ most
+    at-each j = go (decLe (suc j) (2 ^ e))
+      where
+        go : Dec (suc j ≤ 2 ^ e) → getD (page e xs p) j 0 ≤ most
+        go (yes l) = rw (getD-page e xs p j l) (within-at most xs h (2 ^ e * p + j))
+        go (no l) = rw (List·getD-eq-default (page e xs p) 0 {n = j} (omega (arith, l, length-page e xs p))) (omega arith)
+
+module _ (most e : ℕ) (xs : List ℕ) (m : Limits e xs) (few : within most xs ≡ true) where
   abbrev S : List ℕ
   S = image e xs
 
@@ -75,19 +89,19 @@ module _ (e : ℕ) (xs : List ℕ) (m : Limits e xs) where
   place-start (suc p) l =
       omega (arith, place-start p (omega arith), width-is e xs m, ap₂ reserve (e-is e xs) (sum-is e xs m p l), start-next e xs p)
 
-  image-passes : (p : ℕ) → p < P → Passes S p
+  image-passes : (p : ℕ) → p < P → Passes most S p
   unfolding treeAt
   image-passes p l = record {
     place = start-is e xs m p l ∙ sym (place-start p (omega arith));
     rises = omega (arith, root-is e xs m p l, before-is e xs m p l, page-sum e xs p);
     fits = omega (arith, place-start (suc p) l, start-next e xs p, start-within e xs p l, l-is e xs m);
     tree =
-        ap₂ (λ (h z : ℕ). exact h z (bits S) (codeAt S + placeOf S p + widthOf S)) (e-is e xs) (sum-is e xs m p l)
-        ∙ ap (λ (z : ℕ). exact e (sum (page e xs p)) (bits S) (codeAt S + z + widthOf S)) (place-start p (omega arith) ∙ sym (start-is e xs m p l))
-        ∙ tree-exact e (page e xs p) (bits S) (treeAt S p) (tree-is e xs m p l);
+        ap₂ (λ (h z : ℕ). narrow most h z (bits S) (codeAt S + placeOf S p + widthOf S)) (e-is e xs) (sum-is e xs m p l)
+        ∙ ap (λ (z : ℕ). narrow most e (sum (page e xs p)) (bits S) (codeAt S + z + widthOf S)) (place-start p (omega arith) ∙ sym (start-is e xs m p l))
+        ∙ tree-narrow most e (page e xs p) (bits S) (treeAt S p) (length-page e xs p) (tree-is e xs m p l) (within-page most e p xs few);
   }
 
-  image-all : All S P 0
+  image-all : All most S P 0
   unfolding start code
   image-all = record {
     page = λ q _ b. image-passes q (omega arith);
@@ -107,12 +121,12 @@ module _ (e : ℕ) (xs : List ℕ) (m : Limits e xs) where
       ∙ ap (λ (z : List ℕ). same z Z) (take-all (8 * bytesFor n - n) Z (omega (arith, length-replicate {A = ℕ} (8 * bytesFor n - n) 0)))
       ∙ same-refl Z
 
-  pub image-passes-test : passesTest S ≡ true
+  pub image-passes-test : passesTest most S ≡ true
   unfolding passesTest placeOf beforeOf says
   image-passes-test =
       both (headed-image e xs m)
       (every-of _ (
-        ap (λ (z : ℕ). pagesFrom S z 0 0 0) (pages-is e xs m) ∙ all-from S P 0 image-all,
+        ap (λ (z : ℕ). pagesFrom most S z 0 0 0) (pages-is e xs m) ∙ all-from most S P 0 image-all,
         (
           ap₂ says (ap (readingAt S) (n-is e xs m) ∙ reading-at e xs m (length xs) (omega arith)
               ∙ ap (λ (z : List ℕ). given (sum z)) (take-length xs)) (s-is e xs m) ∙ eq-eqb (sum xs) (sum xs) refl,
@@ -121,7 +135,7 @@ module _ (e : ℕ) (xs : List ℕ) (m : Limits e xs) where
       ))
 
 -- ---- bytes that pass are an image
-module _ (s : List ℕ) (bytes : (i : ℕ) → getD s i 0 < 256) (h : passesTest s ≡ true) where
+module _ (most : ℕ) (s : List ℕ) (bytes : (i : ℕ) → getD s i 0 < 256) (h : passesTest most s ≡ true) where
   abbrev e : ℕ
   e = eOf s
 
@@ -144,11 +158,11 @@ module _ (s : List ℕ) (bytes : (i : ℕ) → getD s i 0 < 256) (h : passesTest
   unfolding passesTest
   header-ok = left (headed s) _ h
 
-  all : All s K 0
+  all : All most s K 0
   unfolding passesTest placeOf beforeOf
-  all = from-all s K 0 (each _ (right (headed s) _ h) .0)
+  all = from-all most s K 0 (each _ (right (headed s) _ h) .0)
 
-  pass : (p : ℕ) → p < K → Passes s p
+  pass : (p : ℕ) → p < K → Passes most s p
   pass = passes s header-ok all
 
   total : sum xs ≡ sOf s
@@ -283,8 +297,14 @@ module _ (s : List ℕ) (bytes : (i : ℕ) → getD s i 0 < 256) (h : passesTest
       both header-ok (both (le-leb (sum xs) maxTotal (omega (arith, total, word-most s bytes 8 (omega (arith, long)))))
       (ap (same s) image-same ∙ same-refl s))
 
+  pub passing-within : within most xs ≡ true
+  unfolding listOf
+  passing-within = within-take most (nOf s) Y (within-concat most K (pageOf s) (λ p l. page-within s header-ok all p l))
+
 -- the code's test is the statement
-pub test-is : (s : List ℕ) → ((i : ℕ) → getD s i 0 < 256) → passesTest s ≡ accepted s
-test-is s bytes =
-    agree (passesTest s) (accepted s) (passing-accepted s bytes)
-    (λ a. ap passesTest (accepted-only s a .bytes) ∙ image-passes-test (eOf s) (listOf s) (accepted-only s a .limits))
+pub test-is : (most : ℕ) (s : List ℕ) → ((i : ℕ) → getD s i 0 < 256) → passesTest most s ≡ (accepted s && within most (listOf s))
+test-is most s bytes =
+    agree (passesTest most s) (accepted s && within most (listOf s)) (λ h. both (passing-accepted most s bytes h) (passing-within most s bytes h))
+    (λ t. let a = left (accepted s) (within most (listOf s)) t in
+    ap (passesTest most) (accepted-only s a .bytes)
+    ∙ image-passes-test most (eOf s) (listOf s) (accepted-only s a .limits) (right (accepted s) (within most (listOf s)) t))

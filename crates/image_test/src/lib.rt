@@ -1,7 +1,7 @@
 // The test of one page of an image.
 use image::head::Head;
 use image::page::root_of;
-use tree_check::nodes;
+use tree_narrow::nodes;
 ghost use mathlib.Core.Bool.{false};
 ghost use mathlib.Core.Path.{_≡_};
 ghost use Prim.Native.Nat.{_≤_, _<_};
@@ -27,10 +27,18 @@ fn failed() -> Tested
     }
 }
 
-// Tests page p, which is to start at bit start of the code, the root before it being before.
-pub fn page_test(s: &[u8], table: &[u8; 512], h: Head, p: u64, start: u64, before: u64) -> Tested
+// Tests page p, which is to start at bit start of the code, the root before it being before, with a limit for its counts.
+pub fn page_test(
+    s: &[u8],
+    table: &[u8; 512],
+    h: Head,
+    p: u64,
+    start: u64,
+    before: u64,
+    widest: u64,
+) -> Tested
     requires { ⌜ Opened (now s) h × (p < pagesOf (now s)) × (start ≤ h .bits) × Tabled (now table) ⌝ }
-    ensures { λ r. ⌜ Tests (now (s .entry)) p start before r ⌝ }
+    ensures { λ r. ⌜ Tests widest (now (s .entry)) p start before r ⌝ }
 {
     let own = root_of(s, h, p);
     if !own.ok {
@@ -48,7 +56,15 @@ pub fn page_test(s: &[u8], table: &[u8; 512], h: Head, p: u64, start: u64, befor
     if h.bits < end {
         return failed();
     }
-    if !nodes(s, table, h.code + (own.end as usize), h.e, sum, size) {
+    if !nodes(
+        s,
+        table,
+        h.code + (own.end as usize),
+        h.e,
+        sum,
+        size,
+        widest,
+    ) {
         return failed();
     }
     Tested {

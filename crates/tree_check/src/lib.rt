@@ -16,7 +16,7 @@ ghost use Rattle.tree.specs.Exact.{exact};
 ghost use Rattle.tree.specs.Code.Node.{Lies};
 
 // The left sum of a node at bit at, whose sum s has t digits.
-fn left_sum(b: &[u8], at: usize, h: u32, s: u64, t: u32) -> u64
+pub fn left_sum(b: &[u8], at: usize, h: u32, s: u64, t: u32) -> u64
     requires { ⌜ Lies (now b) at (h + 1) s × (t ≡ digits s) ⌝ }
     ensures { λ r. ⌜ r ≡ leftOf s (bits (now (b .entry))) at ⌝ }
 {

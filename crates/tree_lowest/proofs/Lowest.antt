@@ -1,6 +1,6 @@
 -- The lowest two levels of a tree, out of one number: the four counts' bits as the number v in r bits. Assumes nothing.
 use mathlib.Core.Path.{_≡_, refl, sym, ap, ap₂, _∙_}
-use mathlib.Core.Bool.{Bool, true, false, and-true}
+use mathlib.Core.Bool.{Bool, true, false, _&&_, and-true}
 use mathlib.Core.List.{List, [], _∷_}
 use Prim.Native.Nat.{ℕ, zero, suc, _+_, _-_, _*_, _/_, _%_, _^_, _≤_, _<_}
 use native.Mathlib.Nat.{mod-eq-of-lt}
@@ -18,13 +18,17 @@ use Rattle.bits.proofs.Packing.{bits-bytes, bits-field, bits-take, bits-drop, v
 use Rattle.reserve.specs.Reserve.{digits, reserve}
 use Rattle.reserve.proofs.Exact.{digits-le}
 use Rattle.reserve.proofs.Fit.{fit-all, one-count}
-use Rattle.tree.specs.Read.{leftOf, leftAt, rightAt}
+use Rattle.tree.specs.Read.{counts, leftOf, leftAt, rightAt}
 use Rattle.tree.specs.Exact.{clear, spareAt, spareLen, exact}
 use Rattle.tree.proofs.Clearing.{clear-value}
 use Rattle.tree.specs.Code.Node.{Lies}
-use Rattle.tree.proofs.Exacts.{field-part}
+use Rattle.tree.proofs.Exacts.{counts-local, field-part}
 use Rattle.tree.proofs.TwoCounts.{reserve-pair}
 use Rattle.tree.proofs.Local.{tests, exact-tests, exact-local}
+use Rattle.tree_lowest.specs.Code.Four.{FourIn}
+use Rattle.tree_lowest.specs.Narrow.{narrow, within}
+use Rattle.tree_lowest.specs.declared.four.Four.{Four}
+use Rattle.tree_lowest.proofs.NarrowLaws.{narrow-is, narrow-not, never, within-append}
 
 -- ---- two counts: their tree is one field
 clear-nothing : (b : List ℕ) (a n : ℕ) → n ≡ 0 → clear b a n ≡ true
@@ -42,6 +46,16 @@ exact-pair s b a =
 -- ---- four counts: left sum l, the pairs' left counts x and y, and zeros
 abbrev pub fourTests : ℕ → ℕ → ℕ → ℕ → ℕ → List Bool
 fourTests s l x y z = leb l s ∷ leb x l ∷ leb y (s - l) ∷ eqb z 0 ∷ []
+
+-- the counts of two and of four, by the left sums that are read
+counts-pair : (s : ℕ) (b : List ℕ) (a x : ℕ) → leftOf s b a ≡ x → counts 1 s b a ≡ x ∷ (s - x) ∷ []
+unfolding counts
+counts-pair s b a x e = rw e
+
+counts-four : (s : ℕ) (b : List ℕ) (a l x y : ℕ) → leftOf s b a ≡ l → leftOf l b (leftAt s a) ≡ x → leftOf (s - l) b (rightAt 1 s l a) ≡ y
+    → counts 2 s b a ≡ x ∷ (l - x) ∷ y ∷ (s - l - y) ∷ []
+unfolding counts
+counts-four s b a l x y e f g = rw (e, f, g)
 
 -- the bits behind each of the three fields
 abbrev pub behind : ℕ → ℕ → ℕ
@@ -78,20 +92,26 @@ module _ (s r v l : ℕ) (er : r ≡ reserve 2 s) (small : v < 2 ^ r) (el : l �
     abbrev pub rest : ℕ
     rest = v % 2 ^ (behind r s - digits l - digits (s - l))
 
-    left-pair : exact 1 l (field r v) (leftAt s 0) ≡ leb leftCount l
+    left-count : leftOf l (field r v) (leftAt s 0) ≡ leftCount
     unfolding leftOf
-    left-pair =
+    left-count =
         let e : r - (0 + digits s + digits l) ≡ r - digits s - digits l = omega arith in
-        exact-pair l (field r v) (leftAt s 0)
-        ∙ ap (λ (z : ℕ). leb z l) (value-piece r v (0 + digits s) (digits l) (omega (arith, fits)) ∙ ap (λ (k : ℕ). v / 2 ^ k % 2 ^ digits l) e)
+        value-piece r v (0 + digits s) (digits l) (omega (arith, fits)) ∙ ap (λ (k : ℕ). v / 2 ^ k % 2 ^ digits l) e
+
+    right-count : leftOf (s - l) (field r v) (rightAt 1 s l 0) ≡ rightCount
+    unfolding leftOf
+    right-count =
+        let e : r - (0 + digits s + reserve 1 l + digits (s - l)) ≡ r - digits s - digits l - digits (s - l) = omega (arith, reserve-pair l) in
+        value-piece r v (0 + digits s + reserve 1 l) (digits (s - l)) (omega (arith, fits, reserve-pair l)) ∙ ap (λ (k : ℕ). v / 2 ^ k % 2 ^ digits (s - l)) e
+
+    pub counts-are : counts 2 s (field r v) 0 ≡ leftCount ∷ (l - leftCount) ∷ rightCount ∷ (s - l - rightCount) ∷ []
+    counts-are = counts-four s (field r v) 0 l leftCount rightCount left-four left-count right-count
+
+    left-pair : exact 1 l (field r v) (leftAt s 0) ≡ leb leftCount l
+    left-pair = exact-pair l (field r v) (leftAt s 0) ∙ ap (λ (z : ℕ). leb z l) left-count
 
     right-pair : exact 1 (s - l) (field r v) (rightAt 1 s l 0) ≡ leb rightCount (s - l)
-    unfolding leftOf
-    right-pair =
-        let e : r - (0 + digits s + reserve 1 l + digits (s - l)) ≡ r - digits s - digits l - digits (s - l) = omega (arith, reserve-pair l) in
-        exact-pair (s - l) (field r v) (rightAt 1 s l 0)
-        ∙ ap (λ (z : ℕ). leb z (s - l))
-        (value-piece r v (0 + digits s + reserve 1 l) (digits (s - l)) (omega (arith, fits, reserve-pair l)) ∙ ap (λ (k : ℕ). v / 2 ^ k % 2 ^ digits (s - l)) e)
+    right-pair = exact-pair (s - l) (field r v) (rightAt 1 s l 0) ∙ ap (λ (z : ℕ). leb z (s - l)) right-count
 
     spare-four : clear (field r v) (spareAt 1 s l 0) (spareLen 1 s l) ≡ eqb rest 0
     spare-four =
@@ -128,12 +148,16 @@ pub record Quad (s r v t l : ℕ) : Type 0 where
 pub high-fits : (s r t : ℕ) → r ≡ reserve 2 s → t ≡ digits s → t ≤ r
 high-fits s r t er et = omega (arith, er, et, fit-all 1 s 0 s (omega arith))
 
+-- no counts were read, and there are none
+none : (s : ℕ) (b : List ℕ) {f : Four} → f .ok ≡ false → exact 2 s b 0 ≡ false → FourIn s b f
+none s b n e = record { ok-is = n ∙ sym e; counts-are = λ k. absurd (never (sym n ∙ k)) }
+
 module _ {s r v t l : ℕ} (q : Quad s r v t l) where
   left-is : l ≡ v / 2 ^ behind r s
   left-is = q .left ∙ ap (λ (k : ℕ). v / 2 ^ (r - k)) (q .top)
 
-  pub quad-above : s < l → false ≡ exact 2 s (field r v) 0
-  quad-above k = sym (four-above s r v l (q .reserved) (q .small) left-is k)
+  pub quad-above : {n : Four} → n .ok ≡ false → s < l → FourIn s (field r v) n
+  quad-above e k = none s (field r v) e (four-above s r v l (q .reserved) (q .small) left-is k)
 
   module _ (le : l ≤ s) (f g : ℕ) (ef : f ≡ digits l) (eg : g ≡ digits (s - l)) where
     pub widths : (t + f + g ≤ r) × (f < 64) × (g < 64)
@@ -149,20 +173,24 @@ module _ {s r v t l : ℕ} (q : Quad s r v t l) where
         four-is s r v l (q .reserved) (q .small) left-is le
         ∙ sym (rw (ex, ey, ez, q .top, ef, eg))
 
-    pub quad-left : (x : ℕ) → x ≡ v / 2 ^ (r - t - f) % 2 ^ f → l < x → false ≡ exact 2 s (field r v) 0
+    pub quad-left : {n : Four} → n .ok ≡ false → (x : ℕ) → x ≡ v / 2 ^ (r - t - f) % 2 ^ f → l < x → FourIn s (field r v) n
     unfolding every
-    quad-left x ex k = sym (tested x _ _ ex refl refl ∙ rw (le-leb l s le, lt-leb x l k))
+    quad-left e x ex k = none s (field r v) e (tested x _ _ ex refl refl ∙ rw (le-leb l s le, lt-leb x l k))
 
-    pub quad-right : (x y : ℕ) → x ≡ v / 2 ^ (r - t - f) % 2 ^ f → x ≤ l → y ≡ v / 2 ^ (r - t - f - g) % 2 ^ g → s - l < y
-        → false ≡ exact 2 s (field r v) 0
+    pub quad-right : {n : Four} → n .ok ≡ false → (x y : ℕ) → x ≡ v / 2 ^ (r - t - f) % 2 ^ f → x ≤ l → y ≡ v / 2 ^ (r - t - f - g) % 2 ^ g
+        → s - l < y → FourIn s (field r v) n
     unfolding every
-    quad-right x y ex kx ey k = sym (tested x y _ ex ey refl ∙ rw (le-leb l s le, le-leb x l kx, lt-leb y (s - l) k))
+    quad-right e x y ex kx ey k = none s (field r v) e (tested x y _ ex ey refl ∙ rw (le-leb l s le, le-leb x l kx, lt-leb y (s - l) k))
 
     pub quad-last : (x y z : ℕ) → x ≡ v / 2 ^ (r - t - f) % 2 ^ f → x ≤ l → y ≡ v / 2 ^ (r - t - f - g) % 2 ^ g → y ≤ s - l
-        → z ≡ v % 2 ^ (r - t - f - g) → eqb z 0 ≡ exact 2 s (field r v) 0
+        → z ≡ v % 2 ^ (r - t - f - g) → FourIn s (field r v) (record { ok = eqb z 0; first = x; second = l - x; third = y; fourth = s - l - y })
     unfolding every
-    quad-last x y z ex kx ey ky ez =
-        sym (tested x y z ex ey ez ∙ rw (le-leb l s le, le-leb x l kx, le-leb y (s - l) ky, and-true (eqb z 0)))
+    quad-last x y z ex kx ey ky ez = record {
+      ok-is = sym (tested x y z ex ey ez ∙ rw (le-leb l s le, le-leb x l kx, le-leb y (s - l) ky, and-true (eqb z 0)));
+      counts-are =
+          λ _. counts-are s r v l (q .reserved) (q .small) left-is le
+          ∙ sym (rw (ex, ey, q .top, ef, eg));
+    }
 
 -- ---- the number in a tree's own bits
 module _ (b : List ℕ) (a h s r v : ℕ) (y : Lies b a h s) (er : r ≡ reserve h s) (ev : v ≡ value (part (bits b) a r)) where
@@ -182,9 +210,47 @@ module _ (b : List ℕ) (a h s r v : ℕ) (y : Lies b a h s) (er : r ≡ reserve
       ap (λ (z : ℕ). leb z s) (ev ∙ ap (λ (k : ℕ). value (part (bits b) a k)) (er ∙ w))
       ∙ sym (ap (λ (k : ℕ). exact k s (bits b) a) e ∙ exact-pair s (bits b) a)
 
-  pub own-four : h ≡ 2 → exact 2 s (field r v) 0 ≡ exact h s (bits b) a
-  own-four e =
+  -- the number's bits are the tree's
+  own-bits : h ≡ 2 → part (bits b) a (reserve 2 s) ≡ part (field r v) 0 (reserve 2 s)
+  own-bits e =
       let w : r ≡ reserve 2 s = er ∙ ap (λ (k : ℕ). reserve k s) e in
       let g : part (bits b) a r ≡ field r v = field-part (bits b) a r (bits-bytes b) inside ∙ ap (field r) (sym ev) in
       let f : part (field r v) 0 r ≡ part (bits b) a r = take-all r (field r v) (omega (arith, length-field r v)) ∙ sym g in
-      exact-local 2 s (field r v) (bits b) 0 a (ap (part (field r v) 0) (sym w) ∙ f ∙ ap (part (bits b) a) w) ∙ ap (λ (k : ℕ). exact k s (bits b) a) (sym e)
+      sym (ap (part (field r v) 0) (sym w) ∙ f ∙ ap (part (bits b) a) w)
+
+  pub own-four : h ≡ 2 → exact 2 s (field r v) 0 ≡ exact h s (bits b) a
+  own-four e = exact-local 2 s (field r v) (bits b) 0 a (sym (own-bits e)) ∙ ap (λ (k : ℕ). exact k s (bits b) a) (sym e)
+
+  -- ---- with a limit w for the counts
+  module _ (w : ℕ) where
+    pub own-pair-not : h ≡ 1 → s < v → false ≡ narrow w h s (bits b) a
+    own-pair-not e k = sym (narrow-not w h s (bits b) a (sym (own-pair e) ∙ lt-leb v s k))
+
+    pub own-pair-within : h ≡ 1 → v ≤ s → within w (v ∷ (s - v) ∷ []) ≡ narrow w h s (bits b) a
+    unfolding leftOf
+    own-pair-within e k =
+        let d : reserve h s ≡ digits s = ap (λ (z : ℕ). reserve z s) e ∙ reserve-pair s in
+        let l : leftOf s (bits b) a ≡ v = sym (ev ∙ ap (λ (z : ℕ). value (part (bits b) a z)) (er ∙ d)) in
+        let c : counts h s (bits b) a ≡ v ∷ (s - v) ∷ [] = ap (λ (z : ℕ). counts z s (bits b) a) e ∙ counts-pair s (bits b) a v l in
+        sym (narrow-is w h s (bits b) a (sym (own-pair e) ∙ le-leb v s k) ∙ ap (within w) c)
+
+    module _ (e : h ≡ 2) (f : Four) (i : FourIn s (field r v) f) where
+      exactly : exact h s (bits b) a ≡ f .ok
+      exactly = sym (i .ok-is ∙ own-four e)
+
+      pub own-four-not : f .ok ≡ false → false ≡ narrow w h s (bits b) a
+      own-four-not n = sym (narrow-not w h s (bits b) a (exactly ∙ n))
+
+      own-four-is : f .ok ≡ true → narrow w h s (bits b) a ≡ (within w (f .first ∷ f .second ∷ []) && within w (f .third ∷ f .fourth ∷ []))
+      own-four-is n =
+          let x : exact 2 s (bits b) a ≡ true = ap (λ (k : ℕ). exact k s (bits b) a) (sym e) ∙ exactly ∙ n in
+          let room : a + reserve 2 s ≤ length (bits b) = omega (arith, inside, er, ap (λ (k : ℕ). reserve k s) e) in
+          let c : counts h s (bits b) a ≡ f .first ∷ f .second ∷ f .third ∷ f .fourth ∷ [] =
+          ap (λ (k : ℕ). counts k s (bits b) a) e ∙ sym (counts-local 2 s (bits b) (field r v) a 0 (bits-bytes b) room (own-bits e) x) ∙ i .counts-are n in
+          narrow-is w h s (bits b) a (exactly ∙ n) ∙ ap (within w) c ∙ within-append w (f .first ∷ f .second ∷ []) (f .third ∷ f .fourth ∷ [])
+
+      pub own-four-wide : f .ok ≡ true → within w (f .first ∷ f .second ∷ []) ≡ false → false ≡ narrow w h s (bits b) a
+      own-four-wide n k = sym (own-four-is n ∙ rw k)
+
+      pub own-four-within : f .ok ≡ true → within w (f .first ∷ f .second ∷ []) ≡ true → within w (f .third ∷ f .fourth ∷ []) ≡ narrow w h s (bits b) a
+      own-four-within n k = sym (own-four-is n ∙ rw k)

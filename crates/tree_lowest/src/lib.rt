@@ -1,15 +1,18 @@
 // The check of a tree at its lowest: zeros, and two or four counts out of one load.
+mod four;
+
+use crate::four::four_of;
 use bits_field::get_field;
-use bits_word::low_bits;
-use reserve::digits_of;
 ghost use mathlib.Core.Bool.{true, false};
+ghost use mathlib.Core.List.{[], _∷_};
 ghost use mathlib.Core.Path.{_≡_};
 ghost use Prim.Native.Nat.{_+_, _*_, _≤_, _<_, _^_};
 ghost use lib.ListN.{length};
-ghost use Rattle.bits.specs.Bits.{bits, field};
+ghost use Rattle.bits.specs.Bits.{bits};
 ghost use Rattle.reserve.specs.Reserve.{reserve as reserved};
 ghost use Rattle.tree.specs.Exact.{clear, exact};
 ghost use Rattle.tree.specs.Code.Node.{Lies};
+ghost use Rattle.tree_lowest.specs.Narrow.{narrow, within};
 
 // Whether n bits from bit at on are 0.
 pub fn zero_bits(b: &[u8], at: usize, n: usize) -> bool
@@ -25,29 +28,6 @@ pub fn zero_bits(b: &[u8], at: usize, n: usize) -> bool
         done = done + k;
     }
     true
-}
-
-// Whether the number v is, in r bits, the code of four counts with sum s: no left sum above its node, and zeros in the bits left over.
-fn quad(v: u64, r: u32, s: u64) -> bool
-    requires { ⌜ (r ≡ reserved 2 s) × (r ≤ 57) × (v < 2 ^ r) × (s < 1099511627776) ⌝ }
-    ensures { λ q. ⌜ q ≡ exact 2 s (field r v) 0 ⌝ }
-{
-    let high = r - digits_of(s);
-    let left = v >> high;
-    if s < left {
-        return false;
-    }
-    let first = digits_of(left);
-    let mid = high - first;
-    if left < low_bits(v >> mid, first) {
-        return false;
-    }
-    let second = digits_of(s - left);
-    let low = mid - second;
-    if s - left < low_bits(v >> low, second) {
-        return false;
-    }
-    low_bits(v, low) == 0
 }
 
 // Whether a tree of 2^h counts that owns r bits is of the lowest two levels and comes out of one load.
@@ -69,5 +49,38 @@ pub fn low_levels(b: &[u8], at: usize, h: u32, s: u64, r: usize) -> bool
     if h == 1 {
         return v <= s;
     }
-    quad(v, r as u32, s)
+    let f = four_of(v, r as u32, s);
+    f.ok
+}
+
+// Whether neither of two counts is above widest.
+fn both_within(x: u64, y: u64, widest: u64) -> bool
+    ensures { λ q. ⌜ q ≡ within widest (x ∷ y ∷ []) ⌝ }
+{
+    if widest < x {
+        return false;
+    }
+    y <= widest
+}
+
+// The lowest two levels as above, and none of their counts above widest.
+pub fn low_within(b: &[u8], at: usize, h: u32, s: u64, r: usize, widest: u64) -> bool
+    requires { ⌜ Lies (now b) at h s × (r ≡ reserved h s) × (r ≤ 57) × (1 ≤ h) × (h ≤ 2) ⌝ }
+    ensures { λ q. ⌜ q ≡ narrow widest h s (bits (now (b .entry))) at ⌝ }
+{
+    let v = get_field(b, at, r as u32);
+    if h == 1 {
+        if s < v {
+            return false;
+        }
+        return both_within(v, s - v, widest);
+    }
+    let f = four_of(v, r as u32, s);
+    if !f.ok {
+        return false;
+    }
+    if !both_within(f.first, f.second, widest) {
+        return false;
+    }
+    both_within(f.third, f.fourth, widest)
 }

@@ -10,17 +10,17 @@ use Rattle.image_check.proofs.pages_pass.Statement.{statement}
 use Rattle.image_check.proofs.pages_pass.Tie as tie
 
 abbrev Inv-loop : tie.InvT-loop
-Inv-loop s table h n p₀ end₀ root₀ p end root = (p ≤ n) × (end ≤ h .bits) × (pagesFrom s (pagesOf s) 0 0 0 ≡ pagesFrom s (n - p) p end root)
+Inv-loop s table h widest n p₀ end₀ root₀ p end root = (p ≤ n) × (end ≤ h .bits) × (pagesFrom widest s (pagesOf s) 0 0 0 ≡ pagesFrom widest s (n - p) p end root)
 
 abbrev μ-loop : tie.MeasureT-loop
-μ-loop s table h n p₀ end₀ root₀ p end root = n - p
+μ-loop s table h widest n p₀ end₀ root₀ p end root = n - p
 
 loop-holds : tie.Need-loop-holds Inv-loop μ-loop
 loop-holds c =
     let a = c .before in
     let s = a .args .s .now in
     let n : pagesOf s ≡ a .args .h .pages - 0 = omega (arith, a .pre .0 .head .pages-are) in
-    (omega arith, omega arith, ap (λ (k : ℕ). pagesFrom s k 0 0 0) n)
+    (omega arith, omega arith, ap (λ (k : ℕ). pagesFrom (a .args .widest) s k 0 0 0) n)
 
 page-test-requires : tie.Need-page-test-requires Inv-loop μ-loop
 page-test-requires c κs =
@@ -65,7 +65,7 @@ returns-2 c =
     let c3 = c2 .before in
     let a = c3 .before .before in
     let l = c3 .loop in
-    sym (l .inv .2 ∙ pages-short (a .args .s .now) (a .args .h) (a .pre .0) (a .args .h .pages) (l .p) (l .end) (l .root)
+    sym (l .inv .2 ∙ pages-short (a .args .widest) (a .args .s .now) (a .args .h) (a .pre .0) (a .args .h .pages) (l .p) (l .end) (l .root)
     (c2 .loop-test .left) (c .if2 .taken))
 
 returns-3 : tie.Need-returns-3 Inv-loop μ-loop
@@ -75,7 +75,7 @@ returns-3 c =
     let c4 = c3 .before in
     let a = c4 .before .before in
     let l = c4 .loop in
-    pages-done (a .args .s .now) (a .args .h) (a .pre .0) (a .args .h .pages) (l .p) (l .end) (l .root) (c3 .loop-test .left) (c1 .if2 .left)
+    pages-done (a .args .widest) (a .args .s .now) (a .args .h) (a .pre .0) (a .args .h .pages) (l .p) (l .end) (l .root) (c3 .loop-test .left) (c1 .if2 .left)
     ∙ sym (l .inv .2)
 
 pub pages-pass-spec : {M : Type 1} → statement M

@@ -118,7 +118,7 @@ returns-6 : tie.Need-returns-6
 returns-6 c =
     let n = c .before in
     let k = n .before in
-    page-passes (standing (measured k)) (measured k .before .before .if3 .left) (k .before .if4 .left)
+    page-passes (standing (measured k)) (entry (first (measured k)) .args .widest) (measured k .before .before .if3 .left) (k .before .if4 .left)
     (sym (n .nodes .ensures) ∙ not-false (n .nodes .result) (c .if5 .left))
 
 pub page-test-spec : {M : Type 1} → statement M

@@ -1,0 +1,2 @@
+-- What one function of src/ hands the next.
+pub mod Four

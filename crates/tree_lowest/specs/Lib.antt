@@ -1,0 +1,3 @@
+-- Definitions of the crate.
+pub mod Narrow
+pub mod Code
