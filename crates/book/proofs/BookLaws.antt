@@ -138,18 +138,6 @@ four-at [] h i = omega arith
 four-at (x ∷ xs) h zero = leb-true x 9999 (left (leb x 9999) (every (map (λ x. leb x 9999) xs)) h)
 four-at (x ∷ xs) h (suc i) = four-at xs (right (leb x 9999) (every (map (λ x. leb x 9999) xs)) h) i
 
-pub four-each : (xs : List ℕ) → ((i : ℕ) → getD xs i 0 ≤ 9999) → fourDigits xs ≡ true
-unfolding fourDigits every
-four-each [] h = refl
-four-each (x ∷ xs) h = both (le-leb x 9999 (h 0)) (four-each xs (λ i. h (suc i)))
-
-pub four-not : (xs : List ℕ) (i : ℕ) → 9999 < getD xs i 0 → fourDigits xs ≡ false
-four-not xs i l = go (fourDigits xs) refl
-  where
-    go : (t : Bool) → fourDigits xs ≡ t → fourDigits xs ≡ false
-    go true q = absurd (omega (arith, four-at xs q i))
-    go false q = q
-
 -- ---- a book in two parts
 pub book-append : (xs ys : List ℕ) → bookOf (xs ++ ys) ≡ bookOf xs ++ bookOf ys
 unfolding bookOf

@@ -10,24 +10,24 @@ use borrow.Author.Tests.{le-leb, leb-true, lt-leb}
 use Rattle.answers.specs.Image.{given, refused, told}
 use Rattle.answers.specs.declared.image.Answer.the-variants.{Refused}
 use Rattle.lists.specs.Lists.{pick, sum}
-use Rattle.image.specs.Calls.{Wrote, lengthCall, unwritten, writeCall}
+use Rattle.image.specs.Calls.{Result, lengthCall, unwritten, writeCall}
 use Rattle.image.specs.Image.{image}
 use Rattle.image.proofs.CallLaws.{write-refused}
-use Rattle.image_steps.specs.Wrote.{wrote}
+use Rattle.image_steps.specs.Result.{resultOf}
 use Rattle.book.specs.Book.{decimal, listOfBook}
 use Rattle.book.proofs.BookLaws.{four-list, sum-four}
 use Rattle.book_in.specs.FromBook.{fromCall}
 
 -- ---- the tests, one after another
-pub from-e-low : (e : ℕ) (b out : List ℕ) → e < 2 → wrote (Refused 1) out ≡ fromCall e b out
+pub from-e-low : (e : ℕ) (b out : List ℕ) → e < 2 → resultOf (Refused 1) out ≡ fromCall e b out
 unfolding fromCall pick unwritten told
 from-e-low e b out l = rw (lt-leb 2 e l)
 
-pub from-e-high : (e : ℕ) (b out : List ℕ) → 2 ≤ e → 8 < e → wrote (Refused 1) out ≡ fromCall e b out
+pub from-e-high : (e : ℕ) (b out : List ℕ) → 2 ≤ e → 8 < e → resultOf (Refused 1) out ≡ fromCall e b out
 unfolding fromCall pick unwritten told
 from-e-high e b out k l = rw (le-leb 2 e k, lt-leb e 8 l)
 
-pub from-14 : (e : ℕ) (b out : List ℕ) → 2 ≤ e → e ≤ 8 → decimal b ≡ false → wrote (Refused 14) out ≡ fromCall e b out
+pub from-14 : (e : ℕ) (b out : List ℕ) → 2 ≤ e → e ≤ 8 → decimal b ≡ false → resultOf (Refused 14) out ≡ fromCall e b out
 unfolding fromCall pick unwritten told
 from-14 e b out k l h = rw (le-leb 2 e k, le-leb e 8 l, h)
 
@@ -54,7 +54,7 @@ pub from-refused : (e : ℕ) (b out : List ℕ) (k : ℕ) → fromCall e b out .
 unfolding fromCall pick unwritten
 from-refused e b out k = go (leb 2 e && leb e 8) (decimal b)
   where
-    W : Wrote
+    W : Result
     W = writeCall e (listOfBook b) out
 
     go : (t u : Bool) → pick t (pick u W (unwritten out 14)) (unwritten out 1) .reply ≡ refused k

@@ -13,12 +13,12 @@ use image_steps::plan::size;
 ghost use mathlib.Core.Path.{_≡_};
 ghost use Rattle.book.specs.Book.{listOfBook};
 ghost use Rattle.image.specs.Calls.{writeCall};
-ghost use Rattle.image_steps.specs.Wrote.{wrote};
+ghost use Rattle.image_steps.specs.Result.{resultOf};
 ghost use Rattle.book_in.specs.FromBook.{fromCall};
 
 // Writes the image of the list that a book says.
 fn write_list(book: &[u8], e: u32, out: &mut [u8]) -> Answer
-    ensures { λ r. ⌜ wrote r (now (out .exit)) ≡ writeCall e (listOfBook (now (book .entry))) (now (out .entry)) ⌝ }
+    ensures { λ r. ⌜ resultOf r (now (out .exit)) ≡ writeCall e (listOfBook (now (book .entry))) (now (out .entry)) ⌝ }
 {
     match layout_of(book, e) {
         Planned::Refused(k) => Answer::Refused(k),
@@ -35,7 +35,7 @@ fn write_list(book: &[u8], e: u32, out: &mut [u8]) -> Answer
 
 // Writes the image of a book to the start of out, and no byte beyond it.
 pub fn from_bcd(book: &[u8], e: u32, out: &mut [u8]) -> Answer
-    ensures { λ r. ⌜ wrote r (now (out .exit)) ≡ fromCall e (now (book .entry)) (now (out .entry)) ⌝ }
+    ensures { λ r. ⌜ resultOf r (now (out .exit)) ≡ fromCall e (now (book .entry)) (now (out .entry)) ⌝ }
 {
     let e_wrong = e < 2 || 8 < e;
     if e_wrong {

@@ -17,14 +17,14 @@ use Rattle.image.specs.Check.{accepted, check, headed}
 use Rattle.image.specs.Image.{image, maxTotal}
 use Rattle.image.specs.Read.{eOf, listOf}
 use Rattle.image.proofs.CallLaws.{put-refused}
-use Rattle.image_steps.specs.Wrote.{wrote}
+use Rattle.image_steps.specs.Result.{resultOf}
 use Rattle.image_steps.proofs.Writing.{splice-front}
 use Rattle.book.specs.Book.{bookOf, fourDigits}
 use Rattle.book.proofs.BookLaws.{length-book}
 use Rattle.book_out.specs.ToBook.{past, putBook, toCall}
 
 -- ---- the tests, one after another
-pub to-fails : (s out : List ℕ) (k : ℕ) → check s ≡ fails k → wrote (Refused k) out ≡ toCall s out
+pub to-fails : (s out : List ℕ) (k : ℕ) → check s ≡ fails k → resultOf (Refused k) out ≡ toCall s out
 unfolding toCall past unwritten told
 to-fails s out k h = rw h
 
@@ -36,16 +36,16 @@ pub to-past : (s out : List ℕ) → accepted s ≡ true → putBook (listOf s) 
 unfolding toCall past check pick
 to-past s out a = rw (headed-of s a, a)
 
-pub book-15 : (xs out : List ℕ) → fourDigits xs ≡ false → wrote (Refused 15) out ≡ putBook xs out
+pub book-15 : (xs out : List ℕ) → fourDigits xs ≡ false → resultOf (Refused 15) out ≡ putBook xs out
 unfolding putBook pick unwritten told
 book-15 xs out h = rw h
 
-pub book-4 : (xs out : List ℕ) (n : ℕ) → fourDigits xs ≡ true → n ≡ 2 * length xs → length out < n → wrote (Refused 4) out ≡ putBook xs out
+pub book-4 : (xs out : List ℕ) (n : ℕ) → fourDigits xs ≡ true → n ≡ 2 * length xs → length out < n → resultOf (Refused 4) out ≡ putBook xs out
 unfolding putBook put pick unwritten told
 book-4 xs out n h q l = rw (h, lt-leb (length (bookOf xs)) (length out) (omega (arith, length-book xs)))
 
 pub book-put : (xs out now : List ℕ) (n : ℕ) → fourDigits xs ≡ true → n ≡ 2 * length xs → n ≤ length out → now ≡ splice out 0 (bookOf xs)
-    → wrote (Number n) now ≡ putBook xs out
+    → resultOf (Number n) now ≡ putBook xs out
 unfolding putBook put pick told
 book-put xs out now n h q l e =
     rw (h, le-leb (length (bookOf xs)) (length out) (omega (arith, length-book xs)))
@@ -57,7 +57,7 @@ unfolding fourDigits within
 four-is s e = right (accepted s) (within 9999 (listOf s)) e
 
 -- an accepted image that does not pass
-pub to-wide : (s out : List ℕ) → accepted s ≡ true → (accepted s && within 9999 (listOf s)) ≡ false → wrote (Refused 15) out ≡ toCall s out
+pub to-wide : (s out : List ℕ) → accepted s ≡ true → (accepted s && within 9999 (listOf s)) ≡ false → resultOf (Refused 15) out ≡ toCall s out
 unfolding fourDigits within
 to-wide s out a e = book-15 (listOf s) out (ap (λ (t : Bool). t && within 9999 (listOf s)) (sym a) ∙ e) ∙ to-past s out a
 

@@ -14,7 +14,7 @@ ghost use mathlib.Core.Path.{_≡_};
 ghost use Rattle.image.specs.Check.{accepted};
 ghost use Rattle.image.specs.Code.Head.{HeadOf};
 ghost use Rattle.image.specs.Read.{listOf};
-ghost use Rattle.image_steps.specs.Wrote.{wrote};
+ghost use Rattle.image_steps.specs.Result.{resultOf};
 ghost use Rattle.book.specs.Book.{fourDigits};
 ghost use Rattle.book_out.specs.ToBook.{putBook, toCall};
 
@@ -24,7 +24,7 @@ const WIDEST: u64 = 9999;
 // Writes the book of an accepted image with no count above it.
 fn write_book(s: &[u8], h: Head, book: &mut [u8]) -> Answer
     requires { ⌜ (accepted (now s) ≡ true) × HeadOf (now s) h × (fourDigits (listOf (now s)) ≡ true) ⌝ }
-    ensures { λ r. ⌜ wrote r (now (book .exit)) ≡ putBook (listOf (now (s .entry))) (now (book .entry)) ⌝ }
+    ensures { λ r. ⌜ resultOf r (now (book .exit)) ≡ putBook (listOf (now (s .entry))) (now (book .entry)) ⌝ }
 {
     let n = 2 * h.hours;
     if (book.len() as u64) < n {
@@ -37,7 +37,7 @@ fn write_book(s: &[u8], h: Head, book: &mut [u8]) -> Answer
 // Writes the book of an image to the start of book, and no byte beyond it. Only an image that is turned down is checked twice: by the second
 // check, with no limit for the counts, it is known for which of two reasons.
 pub fn to_bcd(s: &[u8], book: &mut [u8]) -> Answer
-    ensures { λ r. ⌜ wrote r (now (book .exit)) ≡ toCall (now (s .entry)) (now (book .entry)) ⌝ }
+    ensures { λ r. ⌜ resultOf r (now (book .exit)) ≡ toCall (now (s .entry)) (now (book .entry)) ⌝ }
 {
     let Opening::Image(h) = open_image(s) else {
         return Answer::Refused(refusal::HEADER);

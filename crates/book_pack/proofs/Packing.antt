@@ -1,40 +1,18 @@
 -- Counts put into a book, one after another. Assumes nothing.
 use mathlib.Core.Path.{_≡_, sym, ap, ap₂, _∙_}
-use mathlib.Core.Bool.{true, false}
+use mathlib.Core.Bool.{true}
 use mathlib.Core.List.{List, [], _∷_}
-use Prim.Native.Nat.{ℕ, suc, _+_, _*_, _/_, _%_, _≤_, _<_}
-use native.Mathlib.Decide.{decLe}
+use Prim.Native.Nat.{ℕ, _+_, _*_, _/_, _%_, _≤_, _<_}
 use native.Mathlib.Numerals.{add-one}
 use native.Mathlib.Omega.{arith}
-use lib.ListN.{length, getD, set, take, length-take, List·getD-eq-default}
+use lib.ListN.{length, getD, set, take}
 use lib.Seq.{getD-take, length-take-le, take-suc}
 use Rattle.lists.specs.Lists.{splice}
 use Rattle.lists.proofs.Parts.{length-splice, sets-splice, splice-nil, splice-then}
 use Rattle.book.specs.Book.{bookOf, fourDigits, packedByte}
-use Rattle.book.proofs.BookLaws.{book-append, four-at, four-each, four-not, length-book}
+use Rattle.book.proofs.BookLaws.{book-append, four-at, length-book}
 
 -- ---- each of the first n counts
--- those before i, and i
-pub one-more : (c : List ℕ) (i : ℕ) → ((k : ℕ) → k < i → getD c k 0 ≤ 9999) → getD c i 0 ≤ 9999 → (k : ℕ) → k < i + 1 → getD c k 0 ≤ 9999
-one-more c i h l k m = go (decLe (suc k) i)
-  where
-    go : Dec (suc k ≤ i) → getD c k 0 ≤ 9999
-    go (yes q) = h k q
-    go (no q) = let e : i ≡ k = omega (arith, q) in rw e at l
-
-pub all-narrow : (c : List ℕ) (n i : ℕ) → n ≤ i → ((k : ℕ) → k < i → getD c k 0 ≤ 9999) → true ≡ fourDigits (take n c)
-all-narrow c n i l h = sym (four-each (take n c) at-each)
-  where
-    at-each : (k : ℕ) → getD (take n c) k 0 ≤ 9999
-    at-each k = go (decLe (suc k) n)
-      where
-        go : Dec (suc k ≤ n) → getD (take n c) k 0 ≤ 9999
-        go (yes q) = rw (getD-take n c k 0 q) (h k (omega arith))
-        go (no q) = rw (List·getD-eq-default (take n c) 0 {n = k} (omega (arith, q, length-take n c))) (omega arith)
-
-pub too-wide : (c : List ℕ) (n i : ℕ) → i < n → 9999 < getD c i 0 → false ≡ fourDigits (take n c)
-too-wide c n i l h = sym (four-not (take n c) i (rw (getD-take n c i 0 l) h))
-
 pub narrow-at : (c : List ℕ) (n i : ℕ) → fourDigits (take n c) ≡ true → i < n → getD c i 0 ≤ 9999
 narrow-at c n i h l = rw (getD-take n c i 0 l) at (four-at (take n c) h i)
 

@@ -1,4 +1,4 @@
-// Counts packed into a book: whether four digits hold each, and their bytes.
+// Counts packed into the bytes of a book.
 ghost use mathlib.Core.Bool.{true};
 ghost use mathlib.Core.List.{[], _∷_};
 ghost use mathlib.Core.Path.{_≡_};
@@ -6,21 +6,6 @@ ghost use Prim.Native.Nat.{_+_, _*_, _≤_, _<_};
 ghost use lib.ListN.{length, take};
 ghost use Rattle.lists.specs.Lists.{splice};
 ghost use Rattle.book.specs.Book.{bookOf, fourDigits, packedByte};
-
-// Whether four digits hold each of the first n counts: not refusal 15.
-pub fn is_narrow(counts: &[u32], n: usize) -> bool
-    requires { ⌜ n ≤ length (now counts) ⌝ }
-    ensures { λ r. ⌜ r ≡ fourDigits (take n (now (counts .entry))) ⌝ }
-{
-    let mut i = 0;
-    while i < n {
-        if 9999 < counts[i] {
-            return false;
-        }
-        i = i + 1;
-    }
-    true
-}
 
 // The byte with the two digits of a number: each ten of it counts 16 there, 6 more.
 fn packed(n: u16) -> u8

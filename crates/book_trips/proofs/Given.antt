@@ -10,7 +10,7 @@ use lib.Seq.{take-at}
 use borrow.Author.Tests.{le-leb}
 use Rattle.answers.specs.Image.{Reply, Verdict, fails, given, holds, refused}
 use Rattle.lists.specs.Lists.{pick}
-use Rattle.image.specs.Calls.{Wrote, lengthCall, put, putAfter, unwritten, writeCall}
+use Rattle.image.specs.Calls.{Result, lengthCall, put, putAfter, unwritten, writeCall}
 use Rattle.image.specs.Check.{accepted, check}
 use Rattle.image.specs.Image.{Limits, image}
 use Rattle.image.specs.Read.{listOf}
@@ -77,7 +77,7 @@ pub from-gives : (e : ℕ) (b out : List ℕ) → decimal b ≡ true → Limits 
     → Gave (fromCall e b out) (image e (listOfBook b))
 from-gives e b out d m l =
     let i : List ℕ = image e (listOfBook b) in
-    subst (λ (w : Wrote). Gave w i) (sym (write-put e (listOfBook b) out m l) ∙ from-list e b out (m .e-low) (m .e-high) d)
+    subst (λ (w : Result). Gave w i) (sym (write-put e (listOfBook b) out m l) ∙ from-list e b out (m .e-low) (m .e-high) d)
     (record { answer = refl; bytes = take-at i (drop (length i) out) (length i) refl })
 
 -- ---- from an image
@@ -110,10 +110,10 @@ book-gives xs out f l = rw f (put-gives out (bookOf xs) l)
 
 pub to-gives : (s out : List ℕ) → accepted s ≡ true → fourDigits (listOf s) ≡ true → length (bookOf (listOf s)) ≤ length out
     → Gave (toCall s out) (bookOf (listOf s))
-to-gives s out a f l = subst (λ (w : Wrote). Gave w (bookOf (listOf s))) (to-past s out a) (book-gives (listOf s) out f l)
+to-gives s out a f l = subst (λ (w : Result). Gave w (bookOf (listOf s))) (to-past s out a) (book-gives (listOf s) out f l)
 
 -- ---- the number that a call answers, and its buffer afterwards
-gave-first : (w : Wrote) (i o : List ℕ) (n : ℕ) → Gave w i → w .reply ≡ given n → o ≡ w .bytes → Gave w (take n o)
+gave-first : (w : Result) (i o : List ℕ) (n : ℕ) → Gave w i → w .reply ≡ given n → o ≡ w .bytes → Gave w (take n o)
 gave-first w i o n g q r =
     let m : n ≡ length i = same-number n (length i) (sym q ∙ g .answer) in
     let z : take n o ≡ i = ap (take n) r ∙ ap (λ (k : ℕ). take k (w .bytes)) m ∙ g .bytes in
@@ -123,7 +123,7 @@ put-does : (out i : List ℕ) (n : ℕ) → put out i .reply ≡ given n → Gav
 unfolding put pick unwritten
 put-does out i n = go (leb (length i) (length out))
   where
-    done : Wrote
+    done : Result
     done = record { reply = given (length i); bytes = i ++ drop (length i) out }
 
     go : (t : Bool) → pick t done (unwritten out 4) .reply ≡ given n → Gave (pick t done (unwritten out 4)) i
@@ -142,7 +142,7 @@ from-does : (e : ℕ) (b out : List ℕ) (n : ℕ) → fromCall e b out .reply �
 unfolding fromCall pick unwritten
 from-does e b out n = go (leb 2 e && leb e 8) (decimal b)
   where
-    W : Wrote
+    W : Result
     W = writeCall e (listOfBook b) out
 
     go : (t u : Bool) → pick t (pick u W (unwritten out 14)) (unwritten out 1) .reply ≡ given n

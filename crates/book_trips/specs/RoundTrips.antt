@@ -5,13 +5,13 @@ use mathlib.Core.Path.{_≡_}
 use Prim.Native.Nat.{ℕ, _≤_}
 use lib.ListN.{length, take}
 use Rattle.answers.specs.Image.{given}
-use Rattle.image.specs.Calls.{Wrote}
+use Rattle.image.specs.Calls.{Result}
 use Rattle.image.specs.Read.{eOf}
 use Rattle.book_in.specs.FromBook.{fromCall}
 use Rattle.book_out.specs.ToBook.{toCall}
 
 -- no refusal came, and s are the bytes that the call wrote: 'Both calls return how many bytes they wrote'
-pub record Gave (w : Wrote) (s : List ℕ) : Type 0 where
+pub record Gave (w : Result) (s : List ℕ) : Type 0 where
   pub answer : w .reply ≡ given (length s)
   pub bytes : take (length s) (w .bytes) ≡ s
 

@@ -22,7 +22,7 @@ use Rattle.store.proofs.CallLaws.{call-10, sound-call}
 use Rattle.store.proofs.Inserting.{sum-struck}
 use Rattle.store.proofs.SoundFacts.{facts}
 use Rattle.store.proofs.StepLaws.{Change, change-is, done, over, short}
-use Rattle.image.specs.Calls.{Wrote, lengthCall, put, putAfter, unwritten, writeCall}
+use Rattle.image.specs.Calls.{Result as ImageResult, lengthCall, put, putAfter, unwritten, writeCall}
 use Rattle.image.specs.Check.{accepted, check, headed}
 use Rattle.answers.specs.Image.{Verdict, fails, holds, Reply, given, refused}
 use Rattle.image.specs.Image.{image}
@@ -247,7 +247,7 @@ book-allowed : (r : Row) → r .gives ≡ aNumber → Among 15 (r .refusals) →
 unfolding putBook put pick unwritten ofImage
 book-allowed r g a c xs out = go (fourDigits xs) (leb (length (bookOf xs)) (length out))
   where
-    done : Wrote
+    done : ImageResult
     done = record { reply = given (length (bookOf xs)); bytes = bookOf xs ++ drop (length (bookOf xs)) out }
 
     go : (t u : Bool) → Allowed r (ofImage (pick t (pick u done (unwritten out 4)) (unwritten out 15) .reply))

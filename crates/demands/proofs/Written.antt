@@ -10,7 +10,7 @@ use lib.Seq.{take-at, drop-at}
 use lib.Dec.{leb}
 use borrow.Author.Tests.{leb-true}
 use Rattle.lists.specs.Lists.{pick}
-use Rattle.image.specs.Calls.{Wrote, lengthCall, put, putAfter, unwritten, writeCall}
+use Rattle.image.specs.Calls.{Result, lengthCall, put, putAfter, unwritten, writeCall}
 use Rattle.image.specs.Image.{Limits, code, image, size}
 use Rattle.answers.specs.Image.{Reply, given, refused}
 use Rattle.store.specs.Reading.{listIn}
@@ -26,14 +26,14 @@ pub length-is : (e : ℕ) (xs : List ℕ) → Limits e xs → lengthCall e xs �
 length-is e xs m = length-within e xs m ∙ ap given (length-image e xs)
 
 -- into a buffer that is long enough
-written : (w : Wrote) (i out : List ℕ) → length i ≤ length out → w ≡ record { reply = given (length i); bytes = i ++ drop (length i) out }
+written : (w : Result) (i out : List ℕ) → length i ≤ length out → w ≡ record { reply = given (length i); bytes = i ++ drop (length i) out }
     → Written w i out
 written w i out l e =
     record {
-      reply-is = ap (λ (r : Wrote). r .reply) e;
-      image-first = ap (λ (r : Wrote). take (length i) (r .bytes)) e ∙ take-at i (drop (length i) out) (length i) refl;
-      rest-same = ap (λ (r : Wrote). drop (length i) (r .bytes)) e ∙ drop-at i (drop (length i) out) (length i) refl;
-      as-long = ap (λ (r : Wrote). length (r .bytes)) e ∙ omega (arith, length-append i (drop (length i) out), length-drop (length i) out);
+      reply-is = ap (λ (r : Result). r .reply) e;
+      image-first = ap (λ (r : Result). take (length i) (r .bytes)) e ∙ take-at i (drop (length i) out) (length i) refl;
+      rest-same = ap (λ (r : Result). drop (length i) (r .bytes)) e ∙ drop-at i (drop (length i) out) (length i) refl;
+      as-long = ap (λ (r : Result). length (r .bytes)) e ∙ omega (arith, length-append i (drop (length i) out), length-drop (length i) out);
     }
 
 pub write-is : (e : ℕ) (xs out : List ℕ) → Limits e xs → length (image e xs) ≤ length out → Written (writeCall e xs out) (image e xs) out
@@ -50,7 +50,7 @@ has-room : (e : ℕ) (xs out : List ℕ) (n : ℕ) → Limits e xs → put out (
 unfolding put pick unwritten
 has-room e xs out n m = go (leb (length (image e xs)) (length out)) refl
   where
-    done : Wrote
+    done : Result
     done = record { reply = given (length (image e xs)); bytes = image e xs ++ drop (length (image e xs)) out }
 
     go : (b : Bool) → leb (length (image e xs)) (length out) ≡ b → pick b done (unwritten out 4) .reply ≡ given n → HasRoom e xs out n

@@ -13,7 +13,7 @@ use Rattle.bits.specs.Bits.{bits}
 use Rattle.reserve.specs.Reserve.{digits, reserve}
 use Rattle.tree.specs.Ranges.{Inside, Node, Parts, Side, end, left, node, right}
 use Rattle.tree.specs.Tree.{tree}
-use Rattle.image.specs.Calls.{Wrote, lengthCall, writeCall}
+use Rattle.image.specs.Calls.{Result, lengthCall, writeCall}
 use Rattle.image.specs.Check.{accepted, check}
 use Rattle.answers.specs.Image.{holds, Reply, given, refused}
 use Rattle.image.specs.Image.{IsImage, Limits, code, codeStart, image, page, pages, size, start}
@@ -82,7 +82,7 @@ pub record InCells (xs r : List ℕ) : Type 0 where
 
 -- what a call that writes the image i leaves in a buffer that is long enough: the image first, and the bytes beyond it as they were. It
 -- answers the image's length
-pub record Written (w : Wrote) (i out : List ℕ) : Type 0 where
+pub record Written (w : Result) (i out : List ℕ) : Type 0 where
   pub reply-is : w .reply ≡ given (length i)
   pub image-first : take (length i) (w .bytes) ≡ i
   pub rest-same : drop (length i) (w .bytes) ≡ drop (length i) out

@@ -11,7 +11,7 @@ use Rattle.lists.specs.Lists.{pick, sum}
 use Rattle.store.specs.Reading.{listIn}
 use Rattle.store.specs.Sound.{sound}
 use Rattle.store.proofs.SoundFacts.{facts}
-use Rattle.image.specs.Calls.{Wrote, lengthCall, unwritten, writeCall}
+use Rattle.image.specs.Calls.{Result, lengthCall, unwritten, writeCall}
 use Rattle.image.specs.Image.{image}
 use Rattle.answers.specs.Image.{given, refused}
 use Rattle.image.proofs.CallLaws.{write-refused}
@@ -41,7 +41,7 @@ pub freeze-refused : (e : ℕ) (s out : List ℕ) (k : ℕ) → freezeCall e s o
 unfolding freezeCall pick unwritten
 freeze-refused e s out k = go (sound s)
   where
-    W : Wrote
+    W : Result
     W = writeCall e (listIn s) out
 
     go : (b : Bool) → pick b W (unwritten out 10) .reply ≡ refused k → pick b W (unwritten out 10) .bytes ≡ out

@@ -11,13 +11,13 @@ ghost use mathlib.Core.Path.{_≡_};
 ghost use Rattle.store.specs.Reading.{listIn};
 ghost use Rattle.store.specs.Sound.{sound};
 ghost use Rattle.image.specs.Calls.{writeCall};
-ghost use Rattle.image_steps.specs.Wrote.{wrote};
+ghost use Rattle.image_steps.specs.Result.{resultOf};
 ghost use Rattle.freeze.specs.Freeze.{freezeCall};
 
 // Writes the image of a sound store's list.
 fn freeze_list(s: &[u8], e: u32, out: &mut [u8]) -> Answer
     requires { ⌜ sound (now s) ≡ true ⌝ }
-    ensures { λ r. ⌜ wrote r (now (out .exit)) ≡ writeCall e (listIn (now (s .entry))) (now (out .entry)) ⌝ }
+    ensures { λ r. ⌜ resultOf r (now (out .exit)) ≡ writeCall e (listIn (now (s .entry))) (now (out .entry)) ⌝ }
 {
     match layout_of(s, e) {
         Planned::Refused(k) => Answer::Refused(k),
@@ -34,7 +34,7 @@ fn freeze_list(s: &[u8], e: u32, out: &mut [u8]) -> Answer
 
 // Writes the image of a store's list to the start of out, and no byte beyond it.
 pub fn freeze(s: &[u8], e: u32, out: &mut [u8]) -> Answer
-    ensures { λ r. ⌜ wrote r (now (out .exit)) ≡ freezeCall e (now (s .entry)) (now (out .entry)) ⌝ }
+    ensures { λ r. ⌜ resultOf r (now (out .exit)) ≡ freezeCall e (now (s .entry)) (now (out .entry)) ⌝ }
 {
     if !soundness::check(s) {
         return Answer::Refused(refusal::UNSOUND);

@@ -8,7 +8,7 @@ use lib.ListN.{length, drop}
 use lib.Dec.{leb}
 use Rattle.lists.specs.Lists.{pick}
 use Rattle.answers.specs.Image.{Reply, Verdict, fails, given, holds}
-use Rattle.image.specs.Calls.{Wrote, put, unwritten, writeCall}
+use Rattle.image.specs.Calls.{Result, put, unwritten, writeCall}
 use Rattle.image.specs.Check.{check}
 use Rattle.image.specs.Read.{listOf}
 use Rattle.image.proofs.Accepted.{accepted-only}
@@ -39,7 +39,7 @@ book-small : (xs out : List ℕ) → length xs ≤ 65536 → Small (ofImage (put
 unfolding putBook put pick unwritten ofImage
 book-small xs out l = go (fourDigits xs) (leb (length (bookOf xs)) (length out))
   where
-    done : Wrote
+    done : Result
     done = record { reply = given (length (bookOf xs)); bytes = bookOf xs ++ drop (length (bookOf xs)) out }
 
     go : (t u : Bool) → Small (ofImage (pick t (pick u done (unwritten out 4)) (unwritten out 15) .reply))
@@ -59,11 +59,11 @@ to-small s out = go (check s) refl (check-small s)
 pub from-answers : (b out t : List ℕ) (e w : ℕ) (r : Reply) → w ≡ wordOf (ofImage r) → record { reply = r; bytes = t } ≡ fromCall e b out
     → Answers (ImageFromBcd b e out) w (b ∷ t ∷ [])
 from-answers b out t e w r q d =
-    answers (ImageFromBcd b e out) w (b ∷ t ∷ []) (ofImage (fromCall e b out .reply)) (refl, ap (λ (z : Wrote). b ∷ z .bytes ∷ []) d) tt
-    (from-small e b out) (reply-word w r (fromCall e b out .reply) q (ap (λ (z : Wrote). z .reply) d))
+    answers (ImageFromBcd b e out) w (b ∷ t ∷ []) (ofImage (fromCall e b out .reply)) (refl, ap (λ (z : Result). b ∷ z .bytes ∷ []) d) tt
+    (from-small e b out) (reply-word w r (fromCall e b out .reply) q (ap (λ (z : Result). z .reply) d))
 
 pub to-answers : (s out t : List ℕ) (w : ℕ) (r : Reply) → w ≡ wordOf (ofImage r) → record { reply = r; bytes = t } ≡ toCall s out
     → Answers (ImageToBcd s out) w (s ∷ t ∷ [])
 to-answers s out t w r q d =
-    answers (ImageToBcd s out) w (s ∷ t ∷ []) (ofImage (toCall s out .reply)) (refl, ap (λ (z : Wrote). s ∷ z .bytes ∷ []) d) tt
-    (to-small s out) (reply-word w r (toCall s out .reply) q (ap (λ (z : Wrote). z .reply) d))
+    answers (ImageToBcd s out) w (s ∷ t ∷ []) (ofImage (toCall s out .reply)) (refl, ap (λ (z : Result). s ∷ z .bytes ∷ []) d) tt
+    (to-small s out) (reply-word w r (toCall s out .reply) q (ap (λ (z : Result). z .reply) d))

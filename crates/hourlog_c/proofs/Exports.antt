@@ -13,7 +13,7 @@ use Rattle.store.specs.Reading.{listIn}
 use Rattle.store.specs.Sound.{sound}
 use Rattle.store.proofs.Sizes.{Small as SmallAnswer, call-small, fresh-small}
 use Rattle.coin_cost.specs.Cost.{TakesAtMost, cellsFor}
-use Rattle.image.specs.Calls.{Wrote, lengthCall, unwritten, writeCall}
+use Rattle.image.specs.Calls.{Result, lengthCall, unwritten, writeCall}
 use Rattle.image.specs.Check.{check}
 use Rattle.answers.specs.Image.{Verdict, fails, holds, Reply, given, refused}
 use Rattle.image.specs.Query.{count, reading}
@@ -115,14 +115,14 @@ length-answers xs e w r q d =
 pub write-answers : (xs out t : List ℕ) (e w : ℕ) (r : Reply) → w ≡ wordOf (ofImage r) → record { reply = r; bytes = t } ≡ writeCall e xs out
     → Answers (ImageWrite xs e out) w (xs ∷ t ∷ [])
 write-answers xs out t e w r q d =
-    answers (ImageWrite xs e out) w (xs ∷ t ∷ []) (ofImage (writeCall e xs out .reply)) (refl, ap (λ (z : Wrote). xs ∷ z .bytes ∷ []) d) tt
-    (small-image (writeCall e xs out .reply) (write-small e xs out)) (reply-word w r (writeCall e xs out .reply) q (ap (λ (z : Wrote). z .reply) d))
+    answers (ImageWrite xs e out) w (xs ∷ t ∷ []) (ofImage (writeCall e xs out .reply)) (refl, ap (λ (z : Result). xs ∷ z .bytes ∷ []) d) tt
+    (small-image (writeCall e xs out .reply) (write-small e xs out)) (reply-word w r (writeCall e xs out .reply) q (ap (λ (z : Result). z .reply) d))
 
 pub freeze-answers : (s out t : List ℕ) (e w : ℕ) (r : Reply) → ((j : ℕ) → getD s j 0 < 256) → w ≡ wordOf (ofImage r) → record { reply = r; bytes = t } ≡ freezeCall e s out
     → Answers (Freeze s e out) w (s ∷ t ∷ [])
 freeze-answers s out t e w r bytes q d =
-    answers (Freeze s e out) w (s ∷ t ∷ []) (ofImage (freezeCall e s out .reply)) (refl, ap (λ (z : Wrote). s ∷ z .bytes ∷ []) d) (freeze-ten s e out bytes)
-    (small-image (freezeCall e s out .reply) (freeze-small e s out)) (reply-word w r (freezeCall e s out .reply) q (ap (λ (z : Wrote). z .reply) d))
+    answers (Freeze s e out) w (s ∷ t ∷ []) (ofImage (freezeCall e s out .reply)) (refl, ap (λ (z : Result). s ∷ z .bytes ∷ []) d) (freeze-ten s e out bytes)
+    (small-image (freezeCall e s out .reply) (freeze-small e s out)) (reply-word w r (freezeCall e s out .reply) q (ap (λ (z : Result). z .reply) d))
 
 pub check-answers : (s : List ℕ) (w : ℕ) (v : Verdict) → w ≡ wordOf (ofCheck v) → v ≡ check s → Answers (ImageCheck s) w (s ∷ [])
 check-answers s w v q d =

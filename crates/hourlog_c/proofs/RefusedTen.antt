@@ -15,7 +15,7 @@ use Rattle.store.specs.Reading.{listIn}
 use Rattle.store.specs.Sound.{sound}
 use Rattle.store.proofs.ItemLaws.{items-sound, sound-items}
 use Rattle.store.proofs.Refusals.{ten-exactly}
-use Rattle.image.specs.Calls.{Wrote, put, putAfter, unwritten, writeCall}
+use Rattle.image.specs.Calls.{Result, put, putAfter, unwritten, writeCall}
 use Rattle.image.specs.Image.{image}
 use Rattle.answers.specs.Image.{Reply, given, refused}
 use Rattle.freeze.specs.Freeze.{freezeCall}
@@ -50,7 +50,7 @@ put-not-ten out i = go (leb (length i) (length out))
 
 freeze-exactly : (e : ℕ) (s out : List ℕ) → (freezeCall e s out .reply ≡ refused 10) ↔ (sound s ≡ false)
 unfolding writeCall putAfter unwritten pick
-freeze-exactly e s out = (only (sound s) refl, λ q. sym (ap (λ (z : Wrote). z .reply) (freeze-10 e s out q)))
+freeze-exactly e s out = (only (sound s) refl, λ q. sym (ap (λ (z : Result). z .reply) (freeze-10 e s out q)))
   where
     xs : List ℕ
     xs = listIn s
@@ -64,7 +64,7 @@ freeze-exactly e s out = (only (sound s) refl, λ q. sym (ap (λ (z : Wrote). z 
     only true h q =
         absurd (sized (leb 2 e && leb e 8)
         (ap (λ (r : Reply). putAfter r out (image e xs) .reply) (sym (only-page-size e s h))
-        ∙ ap (λ (z : Wrote). z .reply) (freeze-sound e s out h) ∙ q))
+        ∙ ap (λ (z : Result). z .reply) (freeze-sound e s out h) ∙ q))
 
 pub freeze-ten : (s : List ℕ) (e : ℕ) (out : List ℕ) → ((j : ℕ) → getD s j 0 < 256) → Ten (Freeze s e out) (ofImage (freezeCall e s out .reply))
 freeze-ten s e out bytes = Iff·trans (image-refused (freezeCall e s out .reply) 10) (Iff·trans (freeze-exactly e s out) (items-exactly s bytes))

@@ -8,7 +8,7 @@ use lib.ListN.{length, drop}
 use lib.Dec.{leb}
 use borrow.Author.Tests.{le-leb, leb-true}
 use Rattle.lists.specs.Lists.{pick, sum}
-use Rattle.image.specs.Calls.{Wrote, lengthCall, put, putAfter, unwritten, writeCall}
+use Rattle.image.specs.Calls.{Result, lengthCall, put, putAfter, unwritten, writeCall}
 use Rattle.image.specs.Image.{Limits, image, maxHours, maxTotal}
 use Rattle.answers.specs.Image.{Reply, given, refused}
 use Rattle.lists.proofs.Tests.{left, right}
@@ -50,7 +50,7 @@ pub put-refused : (out i : List ℕ) (k : ℕ) → put out i .reply ≡ refused 
 unfolding put unwritten pick
 put-refused out i k = go (leb (length i) (length out))
   where
-    done : Wrote
+    done : Result
     done = record { reply = given (length i); bytes = i ++ drop (length i) out }
 
     go : (b : Bool) → pick b done (unwritten out 4) .reply ≡ refused k → pick b done (unwritten out 4) .bytes ≡ out

@@ -17,23 +17,23 @@ lengthCall e xs =
     (refused pageSizeWrong)
 
 -- what a call that writes answers, and its buffer afterwards
-pub record Wrote : Type 0 where
+pub record Result : Type 0 where
   pub reply : Reply
   pub bytes : List ℕ
 
 -- 'A refusal is its number alone; no byte changes.'
-unfoldable pub unwritten : List ℕ → ℕ → Wrote
+unfoldable pub unwritten : List ℕ → ℕ → Result
 unwritten out k = record { reply = refused k; bytes = out }
 
 -- an image into a buffer: 4, 'shorter than the image'; 'Bytes beyond the image are left unchanged.'
-unfoldable pub put : List ℕ → List ℕ → Wrote
+unfoldable pub put : List ℕ → List ℕ → Result
 put out i = pick (leb (length i) (length out)) (record { reply = given (length i); bytes = i ++ drop (length i) out }) (unwritten out 4)
 
 -- past the refusals of length
-unfoldable pub putAfter : Reply → List ℕ → List ℕ → Wrote
+unfoldable pub putAfter : Reply → List ℕ → List ℕ → Result
 putAfter (given n) out i = put out i
 putAfter (refused k) out i = unwritten out k
 
 -- write: the refusals of length, then 4
-unfoldable pub writeCall : ℕ → List ℕ → List ℕ → Wrote
+unfoldable pub writeCall : ℕ → List ℕ → List ℕ → Result
 writeCall e xs out = putAfter (lengthCall e xs) out (image e xs)

@@ -9,7 +9,7 @@ use Rattle.lists.specs.Lists.{pick, splice}
 use Rattle.answers.specs.Image.{told, Reply, given}
 use Rattle.image.specs.Calls.{lengthCall, put, putAfter, unwritten, writeCall}
 use Rattle.image.specs.Image.{Limits, image}
-use Rattle.image_steps.specs.Wrote.{wrote}
+use Rattle.image_steps.specs.Result.{resultOf}
 use Rattle.image_steps.specs.Code.Planning.{Laying, LayoutOf, Planned}
 use Rattle.image_steps.specs.Code.Writing.{Room}
 use Rattle.image_steps.specs.declared.plan.Layout.{Layout}
@@ -25,7 +25,7 @@ pub length-no : (e : ℕ) (xs : List ℕ) (p : Outcome) (k : ℕ) → Planned e 
 unfolding told
 length-no e xs p k h q = sym (subst (Planned e xs) q h)
 
-pub write-no : (e : ℕ) (xs out : List ℕ) (p : Outcome) (k : ℕ) → Planned e xs p → p ≡ Refused k → wrote (No k) out ≡ writeCall e xs out
+pub write-no : (e : ℕ) (xs out : List ℕ) (p : Outcome) (k : ℕ) → Planned e xs p → p ≡ Refused k → resultOf (No k) out ≡ writeCall e xs out
 unfolding told writeCall putAfter unwritten
 write-no e xs out p k h q = sym (ap (λ (r : Reply). putAfter r out (image e xs)) (subst (Planned e xs) q h))
 
@@ -53,7 +53,7 @@ unfolding told
 length-yes e xs r n z = ap given (z .size-is) ∙ sym (length-within e xs (z .limits))
 
 -- a buffer that is too short
-pub write-short : (e : ℕ) (xs out : List ℕ) (r : Layout) (n : ℕ) → Sized e xs r n → length out < n → wrote (No 4) out ≡ writeCall e xs out
+pub write-short : (e : ℕ) (xs out : List ℕ) (r : Layout) (n : ℕ) → Sized e xs r n → length out < n → resultOf (No 4) out ≡ writeCall e xs out
 unfolding told writeCall putAfter put pick unwritten
 write-short e xs out r n z l = sym (rw (length-within e xs (z .limits), lt-leb (length (image e xs)) (length out) (omega (arith, z .size-is))))
 
@@ -67,7 +67,7 @@ room e xs out r n z l =
     }
 
 pub write-yes : (e : ℕ) (xs out now : List ℕ) (r : Layout) (n : ℕ) → Sized e xs r n → n ≤ length out
-    → now ≡ splice out 0 (image (r .e) xs) → wrote (Number n) now ≡ writeCall e xs out
+    → now ≡ splice out 0 (image (r .e) xs) → resultOf (Number n) now ≡ writeCall e xs out
 unfolding told
 write-yes e xs out now r n z l q =
     ap₂ (λ (k : ℕ) (b : List ℕ). record { reply = given k; bytes = b }) (z .size-is)

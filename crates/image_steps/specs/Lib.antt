@@ -1,3 +1,3 @@
 -- Definitions of the crate.
 pub mod Code
-pub mod Wrote
+pub mod Result

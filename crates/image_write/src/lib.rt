@@ -11,7 +11,7 @@ use image_steps::plan::size;
 ghost use mathlib.Core.Path.{_≡_};
 ghost use Rattle.answers.specs.Image.{told};
 ghost use Rattle.image.specs.Calls.{lengthCall, writeCall};
-ghost use Rattle.image_steps.specs.Wrote.{wrote};
+ghost use Rattle.image_steps.specs.Result.{resultOf};
 
 // The length in bytes of the image of counts.
 pub fn length(counts: &[u32], e: u32) -> Answer
@@ -25,7 +25,7 @@ pub fn length(counts: &[u32], e: u32) -> Answer
 
 // Writes the image of counts to the start of out, and no byte beyond it.
 pub fn write(counts: &[u32], e: u32, out: &mut [u8]) -> Answer
-    ensures { λ r. ⌜ wrote r (now (out .exit)) ≡ writeCall e (now (counts .entry)) (now (out .entry)) ⌝ }
+    ensures { λ r. ⌜ resultOf r (now (out .exit)) ≡ writeCall e (now (counts .entry)) (now (out .entry)) ⌝ }
 {
     match layout_of(counts, e) {
         Planned::Refused(k) => Answer::Refused(k),

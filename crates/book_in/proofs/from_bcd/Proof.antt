@@ -8,7 +8,7 @@ use native.Mathlib.Omega.{arith}
 use borrow.Author.Needs.{needs}
 use borrow.Author.Tests.{ltb-true, ltb-false, not-false, not-true}
 use Rattle.answers.specs.declared.image.Answer.the-variants.{Refused}
-use Rattle.image_steps.specs.Wrote.{wrote}
+use Rattle.image_steps.specs.Result.{resultOf}
 use Rattle.book_in.specs.FromBook.{fromCall}
 use Rattle.book_in.proofs.FromLaws.{from-14, from-e-high, from-e-low, from-list}
 use Rattle.book_in.proofs.from_bcd.Statement.{statement}
@@ -22,7 +22,7 @@ module _ (c : tie.Joined1) where
   abbrev e : ℕ
   e = call .args .e
 
-  wrong : c .if1 .e-wrong ≡ true → (b out : List ℕ) → wrote (Refused 1) out ≡ fromCall e b out
+  wrong : c .if1 .e-wrong ≡ true → (b out : List ℕ) → resultOf (Refused 1) out ≡ fromCall e b out
   wrong h b out =
       ⊎-elim (λ w. from-e-low e b out (w .0 .taken)) (λ w. from-e-high e b out (w .0 .left) (ltb-true 8 e (sym (w .1) ∙ h))) (c .if1 .came)
 
