@@ -29,7 +29,7 @@ pub struct Aim {
     pub want: u64,
 }
 
-// What the search in a page comes to: the run's first hour and its hours, or where it goes on behind the page.
+// What the search in a page comes to: the run's first hour and its hours, or that more is wanted than the page has.
 pub enum Sought {
     Found(u64, u64),
     Beyond(Aim),
@@ -77,7 +77,7 @@ fn seek(
     requires { ⌜ (accepted (now s) ≡ true) × HeadOf (now s) h × (1 ≤ q) ⌝ }
     requires { ⌜ PageOf (listOf (now s)) page (now marks) × CountsOf (listOf (now s)) page (now front) ⌝ }
     requires { ⌜ Seeks (listOf (now s)) q (page .first) from × Ready (now s) (from .lo) (now back) ⌝ }
-    ensures { λ r. ⌜ Brings (now (s .entry)) q (page .first + page .hours) (now (back .exit)) r ⌝ }
+    ensures { λ r. ⌜ Brings (now (s .entry)) q page (now (back .exit)) r ⌝ }
 {
     let mut at = from;
     let mut there = Part { hours: 0, sum: 0 };
@@ -90,10 +90,7 @@ fn seek(
         turn(s, h, at.lo, next.lo - at.lo, back);
         at = next;
     }
-    Sought::Beyond(Aim {
-        lo: at.lo,
-        want: at.want - page.sum,
-    })
+    Sought::Beyond(at)
 }
 
 // The first hours with sum q, of these the fewest.
@@ -114,7 +111,10 @@ pub(crate) fn find(s: &[u8], h: Head, q: u64) -> Bag
                 return Bag::Run(lo, hours);
             }
             Sought::Beyond(next) => {
-                at = next;
+                at = Aim {
+                    lo: next.lo,
+                    want: next.want - page.sum,
+                };
             }
         }
         first = first + (page.hours as u64);

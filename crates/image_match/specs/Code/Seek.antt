@@ -11,6 +11,7 @@ use Rattle.runs.specs.Code.{Passed}
 use Rattle.runs.specs.Runs.{FirstMatch, NoMatch}
 use Rattle.answers.specs.declared.image.Bag.{Bag}
 use Rattle.answers.specs.declared.image.Bag.the-variants.{Run, None, Refused}
+use Rattle.image_match.specs.declared.page.Page.{Page}
 use Rattle.image_match.specs.declared.seek.Aim.{Aim}
 use Rattle.image_match.specs.declared.seek.Sought.{Sought}
 use Rattle.image_match.specs.declared.seek.Sought.the-variants.{Beyond, Found}
@@ -29,10 +30,10 @@ pub record Later (xs : List ℕ) (h : Head) (q first : ℕ) (at r : Aim) : Type 
   pub on : at .lo < r .lo
   pub room : at .lo % 2 ^ h .e + (r .lo - at .lo) ≤ 2 ^ h .e
 
--- what a page brought: the run, or where the search stands behind the page, with the page of hour lo in an array
-abbrev pub Brings : List ℕ → ℕ → ℕ → List ℕ → Sought → Type 0
-Brings s q first back (Found lo hours) = FirstMatch (listOf s) q lo hours
-Brings s q first back (Beyond at) = Seeks (listOf s) q first at × Ready s (at .lo) back
+-- what a page brought: the run, or a first hour for which more is wanted than the page has, with the page of this hour in an array
+abbrev pub Brings : List ℕ → ℕ → Page → List ℕ → Sought → Type 0
+Brings s q page back (Found lo hours) = FirstMatch (listOf s) q lo hours
+Brings s q page back (Beyond at) = Seeks (listOf s) q (page .first) at × (page .sum < at .want) × Ready s (at .lo) back
 
 -- what was found: the run, or that there is none
 abbrev pub Finds : List ℕ → ℕ → Bag → Type 0

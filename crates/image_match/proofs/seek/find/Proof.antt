@@ -8,7 +8,7 @@ use Rattle.image.specs.Read.{listOf}
 use Rattle.image_cursor.specs.Code.Cursor.{Ready}
 use Rattle.image_match.specs.Code.Seek.{Brings, Seeks}
 use Rattle.image_match.proofs.PageLaws.{Border, border-first, border-next, hours}
-use Rattle.image_match.proofs.SeekLaws.{seeks-as, seeks-first, seeks-none}
+use Rattle.image_match.proofs.SeekLaws.{seeks-as, seeks-beyond, seeks-first, seeks-none}
 use Rattle.image_match.proofs.seek.find.Statement.{statement}
 use Rattle.image_match.proofs.seek.find.Tie as tie
 
@@ -66,32 +66,40 @@ returns : tie.Need-returns Inv-loop μ-loop
 returns c =
     let a = c .before .before .before .before .before .before .before .before .before .before .before .before .before .before .before .before .before .before .before .before .args in
     let f = c .before .before .before .before .before .before .before .before .before .before .front-page .result in
-    subst (Brings (a .s .now) (a .q) (f .first + f .hours) _) (c .before .lo .given .1) (c .before .before .before .before .seek .ensures)
+    subst (Brings (a .s .now) (a .q) f _) (c .before .lo .given .1) (c .before .before .before .before .seek .ensures)
 
 enum-known-next : tie.Need-enum-known-next Inv-loop μ-loop
 enum-known-next c = search needs
 
+sub-t28 : tie.Need-sub-t28 Inv-loop μ-loop
+sub-t28 c =
+    let a = c .before .before .before .before .before .before .before .before .before .before .before .before .before .before .before .before .before .before .before .before .before .before .args in
+    let f = c .before .before .before .before .before .before .before .before .before .before .before .before .front-page in
+    let x = subst (Brings (a .s .now) (a .q) (f .result) _) (c .before .before .before .next .given .1) (c .before .before .before .before .before .before .seek .ensures) in
+    omega (arith, x .1)
+
 add-first : tie.Need-add-first Inv-loop μ-loop
 add-first c =
-    let a = c .before .before .before .before .before .before .before .before .before .before .before .before .before .before .before .before .before .before .before .before .pre in
-    record { fits = omega (arith, c .before .before .before .before .before .before .before .before .before .before .front-page .ensures .whole .inside, a .1 .hours-small) }
+    let a = c .before .before .before .before .before .before .before .before .before .before .before .before .before .before .before .before .before .before .before .before .before .before .pre in
+    let w = c .before .before .before .before .before .before .before .before .before .before .before .before .front-page .ensures .whole in
+    record { fits = omega (arith, w .inside, a .1 .hours-small) }
 
 loop-less : tie.Need-loop-less Inv-loop μ-loop
 loop-less c =
-    let w = c .before .before .before .before .before .before .before .before .before .before .front-page .ensures .whole in
-    omega (arith, w .some (c .before .before .before .before .before .before .before .before .before .before .before .before .before .if1 .taken), w .inside)
+    let w = c .before .before .before .before .before .before .before .before .before .before .before .before .front-page .ensures .whole in
+    omega (arith, w .some (c .before .before .before .before .before .before .before .before .before .before .before .before .before .before .before .if1 .taken), w .inside)
 
 loop-again : tie.Need-loop-again Inv-loop μ-loop
 loop-again c =
-    let b = c .before .before .before .before .before .before .before .before .before .before .before .before .before .before .before in
+    let b = c .before .before .before .before .before .before .before .before .before .before .before .before .before .before .before .before .before in
     let a = b .before .before .before .before .before .args in
-    let f = c .before .before .before .before .before .before .before .before .before .before .front-page in
+    let f = c .before .before .before .before .before .before .before .before .before .before .before .before .front-page in
     let g = f .ensures in
     let e = ap (λ (z : ℕ). z + f .result .hours) (sym (g .first-is)) in
-    let x = subst (Brings (a .s .now) (a .q) (f .result .first + f .result .hours) _) (c .before .next .given .1) (c .before .before .before .before .seek .ensures) in (
-      border-next _ _ _ (c .before .before .before .before .before .before .before .before .before .before .before .before .before .if1 .taken) (b .loop .inv .0) (g .whole),
-      seeks-as _ _ _ _ _ e (x .0),
-      x .1,
+    let x = subst (Brings (a .s .now) (a .q) (f .result) _) (c .before .before .before .next .given .1) (c .before .before .before .before .before .before .seek .ensures) in (
+      border-next _ _ _ (c .before .before .before .before .before .before .before .before .before .before .before .before .before .before .before .if1 .taken) (b .loop .inv .0) (g .whole),
+      seeks-as _ _ _ _ _ e (seeks-beyond _ _ _ _ (g .page-is) _ (x .0) (x .1)),
+      x .2,
       g .long,
       g .page-is .marked .long,
     )
@@ -121,6 +129,7 @@ find-spec =
     enum-known-lo
     returns
     enum-known-next
+    sub-t28
     add-first
     loop-less
     loop-again

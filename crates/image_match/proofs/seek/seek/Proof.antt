@@ -9,7 +9,7 @@ use Rattle.image_match.specs.Code.Part.{PartOf}
 use Rattle.image_match.specs.Code.Seek.{Seeks}
 use Rattle.image_match.proofs.PageLaws.{counts-small, hours}
 use Rattle.image_match.proofs.PartLaws.{part-first, part-wider}
-use Rattle.image_match.proofs.SeekLaws.{counts-marked, found-here, over-missed, seeks-beyond, want-grows}
+use Rattle.image_match.proofs.SeekLaws.{counts-marked, found-here, over-missed, want-grows}
 use Rattle.image_match.proofs.seek.seek.Statement.{statement}
 use Rattle.image_match.proofs.seek.seek.Tie as tie
 
@@ -91,19 +91,15 @@ loop-again c =
       part-wider _ _ _ _ _ (want-grows _ _ _ _ (b .loop .inv .0) _ (x .seeks) (x .on)) (c .before .before .before .before .before .before .before .before .before .before .before .look .ensures .part),
     )
 
-sub-t22 : tie.Need-sub-t22 Inv-loop μ-loop
-sub-t22 c = omega (arith, c .before .before .if1 .left)
-
 same-length-2 : tie.Need-same-length-2 Inv-loop μ-loop
 same-length-2 c =
-    let b = c .before .before .before .before .before in
+    let b = c .before .before .before in
     omega (arith, b .loop .inv .1 .long, b .before .before .before .before .before .pre .1 .1 .1 .long)
 
 returns-2 : tie.Need-returns-2 Inv-loop μ-loop
 returns-2 c =
-    let b = c .before .before .before .before .before in
-    let a = b .before .before .before .before .before .pre .1 .0 in
-    (seeks-beyond _ _ _ _ (a .0) _ (b .loop .inv .0) (omega (arith, c .before .before .if1 .left)), b .loop .inv .1)
+    let l = c .before .before .before .loop .inv in
+    (l .0, omega (arith, c .if1 .left), l .1)
 
 pub seek-spec : {M : Type 1} → statement M
 seek-spec =
@@ -122,6 +118,5 @@ seek-spec =
     turn-requires
     loop-less
     loop-again
-    sub-t22
     same-length-2
     returns-2)
