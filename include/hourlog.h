@@ -63,8 +63,8 @@
  * costs as much again for each page from its hour on.  An image is written
  * and checked in time that grows with its hours; its count and reading take the
  * same few hundred instructions whatever its length, reach about twice as many.
- * The busiest stretch takes about three times as long as check, a bag's match
- * three to seven times.
+ * The busiest stretch, and a bag's match, take two to three times as long as
+ * check; four times and more where pages have four hours (e = 2).
  * Threads and interrupts: any number of calls may run at once, unless one of
  * them changes a buffer that another is lent.
  * Power: a call is not atomic.  Cut off within fresh, append, set, insert or
