@@ -34,12 +34,16 @@ counts-none (suc h) b a =
     rw (left-none b a, counts-none h b (leftAt 0 a), counts-none h b (rightAt h 0 0 a))
     (sym (zeros-split (2 ^ suc h) (2 ^ h) (2 ^ h) (omega (arith, pow-succ' 2 h))))
 
--- its counts stand in the zeros already
+-- zeros that were put there are its counts
+pub zeros-written : (l o b : List ℕ) (i m h s a : ℕ) → m ≡ 2 ^ h → s ≡ 0 → o ≡ splice l i (replicate m 0) → o ≡ splice l i (counts h s b a)
+zeros-written l o b i m h s a em e eo =
+    eo ∙ ap (λ (k : ℕ). splice l i (replicate k 0)) em ∙ ap (splice l i) (sym (ap (λ (k : ℕ). counts h k b a) e ∙ counts-none h b a))
+
+-- where zeros stand, its counts stand already
 pub none-written : (l b : List ℕ) (i h s a : ℕ) → s ≡ 0 → part l i (2 ^ h) ≡ replicate (2 ^ h) 0 → l ≡ splice l i (counts h s b a)
 none-written l b i h s a e z =
     let n : length (replicate {A = ℕ} (2 ^ h) 0) ≡ 2 ^ h = length-replicate (2 ^ h) 0 in
-    sym (splice-back l (replicate (2 ^ h) 0) i (ap (part l i) n ∙ z))
-    ∙ ap (splice l i) (sym (ap (λ (k : ℕ). counts h k b a) e ∙ counts-none h b a))
+    zeros-written l l b i (2 ^ h) h s a refl e (sym (splice-back l (replicate (2 ^ h) 0) i (ap (part l i) n ∙ z)))
 
 -- ---- the halves of n zeros at i, m each
 module _ (l : List ℕ) (i m n : ℕ) (en : m + m ≡ n) (z : part l i n ≡ replicate n 0) where

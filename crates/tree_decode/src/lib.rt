@@ -1,6 +1,6 @@
-// The counts of a tree that is some list's code. A recursion in which h falls, one level a call. It ends at a tree of zeros, at eight
-// counts, whose bits come out of one load or three, at four, out of one, or at one count where these do not fit a word. It reads over
-// `&&[u8]`, a thin pointer.
+// The counts of a tree that is some list's code. A recursion in which h falls, one level a call, and which calls no empty half. It ends
+// at eight counts, whose bits come out of one load or three, at four, out of one, or at one count where these do not fit a word. It reads
+// over `&&[u8]`, a thin pointer.
 mod from_word;
 
 use bits_field::front;
@@ -46,15 +46,12 @@ fn lowest(b: &[u8], row: &[u8; 64], at: usize, s: u64, out: &mut [u32], from: us
     four(front::load(b, r.second), s - r.left, out, from + 4);
 }
 
-// The counts of the node at bit at and below it, into zeros: those of an empty half stand there already.
+// The counts of the node at bit at and below it, into zeros: those of an empty half stand there already, so it is not called.
 fn decode_node(b: &&[u8], row: &[u8; 64], at: usize, h: u32, s: u64, out: &mut [u32], from: usize)
     requires { ⌜ Lies (now (now b)) at h s × (exact h s (bits (now (now b))) at ≡ true) × (s < 4294967296) ⌝ }
     requires { ⌜ Fours (now row) × (from + 2 ^ h ≤ length (now out)) × (part (now out) from (2 ^ h) ≡ replicate (2 ^ h) 0) ⌝ }
     ensures { λ _. ⌜ now (out .exit) ≡ splice (now (out .entry)) from (counts h s (bits (now (now (b .entry)))) at) ⌝ }
 {
-    if s == 0 {
-        return;
-    }
     if h == 3 && s < 524288 {
         lowest(*b, row, at, s, out, from);
         return;
@@ -70,8 +67,14 @@ fn decode_node(b: &&[u8], row: &[u8; 64], at: usize, h: u32, s: u64, out: &mut [
     let down = h - 1;
     let r = root_by_shifts(*b, at, down, s);
     let half = reserve::power(down) as usize;
-    decode_node(b, row, r.first, down, r.left, out, from);
-    decode_node(b, row, r.second, down, s - r.left, out, from + half);
+    let left = r.left;
+    let right = s - left;
+    if left != 0 {
+        decode_node(b, row, r.first, down, left, out, from);
+    }
+    if right != 0 {
+        decode_node(b, row, r.second, down, right, out, from + half);
+    }
 }
 
 // Puts the counts of the tree of 2^h counts with sum s at bit at, which is some list's code, into out from index from on.
@@ -80,6 +83,9 @@ pub fn decode(b: &[u8], at: usize, h: u32, s: u64, out: &mut [u32], from: usize)
     ensures { λ _. ⌜ now (out .exit) ≡ splice (now (out .entry)) from (counts h s (bits (now (b .entry))) at) ⌝ }
 {
     zeros(out, from, reserve::power(h) as usize);
+    if s == 0 {
+        return;
+    }
     let row = reserve_table::fours();
     decode_node(&b, &row, at, h, s, out, from);
 }

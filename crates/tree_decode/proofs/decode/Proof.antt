@@ -1,9 +1,10 @@
--- `tree_decode::decode` meets its contract: what is written into the range that it clears is all that is new. Assumes nothing.
+-- `tree_decode::decode` meets its contract: the zeros of the range that it clears are the counts of a tree of sum 0, and what is written
+-- there is else all that is new. Assumes nothing.
 use Prim.Native.Nat.{_^_}
 use native.Mathlib.Omega.{arith}
 use borrow.Author.Needs.{needs}
 use Rattle.bits.specs.Bits.{bits}
-use Rattle.tree_decode.proofs.IntoZeros.{cleared, cleared-then}
+use Rattle.tree_decode.proofs.IntoZeros.{zeros-written, cleared, cleared-then}
 use Rattle.tree_decode.proofs.decode.Statement.{statement}
 use Rattle.tree_decode.proofs.decode.Tie as tie
 
@@ -13,12 +14,21 @@ power-requires c κs = search needs
 zeros-requires : tie.Need-zeros-requires
 zeros-requires c κs = search needs
 
+same-length : tie.Need-same-length
+same-length c = search needs
+
+returns : tie.Need-returns
+returns c =
+    let z = c .before .before .before in
+    let a = z .before .before .before .before .before .args in
+    zeros-written (a .out .now) _ (bits (a .t1 .now)) (a .from) _ (a .h) (a .s) (a .at) (z .before .power .ensures) (c .if1 .taken) (z .zeros .ensures)
+
 fours-requires : tie.Need-fours-requires
 fours-requires c κs = search needs
 
 decode-node-requires : tie.Need-decode-node-requires
 decode-node-requires c κs =
-    let z = c .before .before .before .before .before .before in
+    let z = c .before .before .before .before .before .before .before in
     let d = z .before .before .before .before .before in
     let a = d .args in
     let p = d .pre in
@@ -27,13 +37,13 @@ decode-node-requires c κs =
       (c .before .before .before .fours .ensures, omega arith, cleared (a .out .now) _ (a .from) _ (2 ^ a .h) e (omega arith) (z .zeros .ensures)),
     )
 
-same-length : tie.Need-same-length
-same-length c = search needs
+same-length-2 : tie.Need-same-length-2
+same-length-2 c = search needs
 
-returns : tie.Need-returns
-returns c =
+returns-2 : tie.Need-returns-2
+returns-2 c =
     let n = c .before .before in
-    let z = n .before .before .before .before .before .before .before in
+    let z = n .before .before .before .before .before .before .before .before in
     let d = z .before .before .before .before .before in
     let a = d .args in
     cleared-then (a .out .now) _ _ (bits (a .t1 .now)) (a .from) _ (a .h) (a .s) (a .at) (z .before .power .ensures) (d .pre .3) (z .zeros .ensures) (n .decode-node .ensures)
@@ -44,7 +54,9 @@ decode-spec =
     (tie.spec
     power-requires
     zeros-requires
+    same-length
+    returns
     fours-requires
     decode-node-requires
-    same-length
-    returns)
+    same-length-2
+    returns-2)
