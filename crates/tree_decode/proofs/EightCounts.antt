@@ -40,7 +40,7 @@ module _ {s w t l : ℕ} (q : Top s w t l) where
   pub left-le : l ≤ s
   left-le = leb-true l s (both .le)
 
-  pub room : t + reserve 2 l + reserve 2 (s - l) ≤ 38
+  room : t + reserve 2 l + reserve 2 (s - l) ≤ 38
   room = omega (arith, q .digits-are, eight-fits s (q .few), left-le, fit-all 2 s l (s - l) (omega (arith, left-le)))
 
   -- the word's bits behind the left sum, and those behind the left four, whose reserve is x

@@ -45,7 +45,7 @@ root-by-shifts-requires : tie.Need-root-by-shifts-requires
 root-by-shifts-requires c κs = c .before .before .before .pre .0
 
 load-requires-2 : tie.Need-load-requires-2
-load-requires-2 c κs = omega (arith, first-lies (read c))
+load-requires-2 c κs = omega (arith, first-lies (read c), second-lies (read c))
 
 four-requires : tie.Need-four-requires
 four-requires c κs =
@@ -53,7 +53,7 @@ four-requires c κs =
     (first-exact (read d) _ (c .before .load2 .ensures), few-digits (call d .pre .2) _ (root-le (read d)), omega arith)
 
 load-requires-3 : tie.Need-load-requires-3
-load-requires-3 c κs = omega (arith, second-lies (read (c .before .before .before .before .before)))
+load-requires-3 c κs = let d = c .before .before .before .before .before in omega (arith, first-lies (read d), second-lies (read d))
 
 sub-four : tie.Need-sub-four
 sub-four c = root-le (read (c .before .before .before .before .before .before .before))

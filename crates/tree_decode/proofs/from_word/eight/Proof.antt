@@ -1,12 +1,13 @@
 -- `tree_decode::from_word::eight` meets its contract. Assumes nothing.
 use mathlib.Core.Path.{_≡_}
+use Prim.Native.Nat.{ℕ, _+_, _<_}
 use native.Mathlib.Omega.{arith}
 use lib.ListN.{getD}
 use borrow.Author.Needs.{needs}
 use Rattle.reserve.specs.Reserve.{reserve}
 use Rattle.reserve.proofs.Exact.{digits-le}
-use Rattle.tree_decode.proofs.InWord.{few-digits}
-use Rattle.tree_decode.proofs.EightCounts.{Top, short, left-le, room, left-exact, right-exact, eight-written}
+use Rattle.tree_decode.proofs.InWord.{four-fits, few-digits}
+use Rattle.tree_decode.proofs.EightCounts.{Top, short, left-le, left-exact, right-exact, eight-written}
 use Rattle.tree_decode.proofs.from_word.eight.Statement.{statement}
 use Rattle.tree_decode.proofs.from_word.eight.Tie as tie
 
@@ -21,6 +22,10 @@ module _ (c : tie.After-part) where
   -- the row's entry
   looked-up : getD (call .args .row .now) (c .part .result) 0 ≡ reserve 2 (c .part .result)
   looked-up = call .pre .0 .entry (c .part .result) (omega (arith, left-le top))
+
+  -- a shift by any of its entries stays within the word
+  within : (j : ℕ) → j < 64 → c .before .digits-of .result + getD (call .args .row .now) j 0 < 64
+  within j k = omega (arith, short top, call .pre .0 .entry j k, four-fits j (digits-le j 19 (omega arith)))
 
 digits-of-requires : tie.Need-digits-of-requires
 digits-of-requires c κs = search needs
@@ -43,16 +48,16 @@ element-copy-out-four : tie.Need-element-copy-out-four
 element-copy-out-four c = omega (arith, left-le (top (c .before .before .before .before)))
 
 cast-four-2 : tie.Need-cast-four-2
-cast-four-2 c = let d = c .before .before .before .before .before in omega (arith, room (top d), looked-up d)
+cast-four-2 c = omega (arith, within (c .before .before .before .before .before) _ (element-copy-out-four (c .before)))
 
 add-four : tie.Need-add-four
-add-four c = let d = c .before .before .before .before .before in omega (arith, room (top d), looked-up d)
+add-four c = omega (arith, within (c .before .before .before .before .before) _ (element-copy-out-four (c .before)))
 
 cast-four-3 : tie.Need-cast-four-3
-cast-four-3 c = let d = c .before .before .before .before .before in omega (arith, room (top d), looked-up d)
+cast-four-3 c = omega (arith, within (c .before .before .before .before .before) _ (element-copy-out-four (c .before)))
 
 shl-four-2 : tie.Need-shl-four-2
-shl-four-2 c = let d = c .before .before .before .before .before in omega (arith, room (top d), looked-up d)
+shl-four-2 c = omega (arith, within (c .before .before .before .before .before) _ (element-copy-out-four (c .before)))
 
 sub-four : tie.Need-sub-four
 sub-four c = left-le (top (c .before .before .before .before .before))
