@@ -15,7 +15,7 @@ fn packed(n: u16) -> u8
     (n + 6 * (n / 10)) as u8
 }
 
-// Puts the four digits of a count into two bytes of a book. In numbers of 16 bits: the compiler then packs eight counts at once.
+// Puts the four digits of a count into two bytes of a book. In numbers of 16 bits: the compiler then packs several counts at once.
 fn put_hour(book: &mut [u8], at: usize, count: u32)
     requires { ⌜ (at + 1 < length (now book)) × (count ≤ 9999) ⌝ }
     ensures { λ _. ⌜ now (book .exit) ≡ splice (now (book .entry)) at (bookOf (count ∷ [])) ⌝ }
