@@ -34,6 +34,22 @@ pub eight-fits : (s : ℕ) → s < 64 → reserve 3 s ≤ 38
 unfolding A B
 eight-fits s l = omega (arith, bound 3 s 6)
 
+-- what a tree of height h keeps to that is decoded out of one word
+abbrev pub Whole : ℕ → ℕ → Type 0
+Whole h s = (3 ≤ h) × (h ≤ 6) × (s < 64) × (reserve h s ≤ 57)
+
+pub sixteen : {h s : ℕ} → h ≡ 4 → s < 36 → Whole h s
+unfolding A B
+sixteen {h} {s} e l = rw e (omega (arith, bound 4 s 6))
+
+pub thirty-two : {h s : ℕ} → h ≡ 5 → s < 17 → Whole h s
+unfolding A B
+thirty-two {h} {s} e l = rw e (omega (arith, bound 5 s 5))
+
+pub sixty-four : {h s : ℕ} → h ≡ 6 → s < 13 → Whole h s
+unfolding A B
+sixty-four {h} {s} e l = rw e (omega (arith, bound 6 s 4))
+
 pub few-digits : {s : ℕ} → s < 524288 → (x : ℕ) → x ≤ s → digits x ≤ 19
 few-digits l x k = digits-le x 19 (omega arith)
 

@@ -1,13 +1,15 @@
-// Four or eight counts out of the bits of one word, at whose high end their tree stands.
+// Counts out of the bits of one word, at whose high end their tree stands: four, eight, or all of a larger tree with few coins.
 use bits_field::front;
 use reserve::digits_of;
+use reserve::power;
+use reserve::reserve_of;
 ghost use mathlib.Core.Bool.{true};
 ghost use mathlib.Core.Path.{_≡_};
-ghost use Prim.Native.Nat.{_+_, _≤_, _<_};
-ghost use lib.ListN.{length};
-ghost use Rattle.lists.specs.Lists.{splice};
+ghost use Prim.Native.Nat.{_+_, _≤_, _<_, _^_};
+ghost use lib.ListN.{length, replicate};
+ghost use Rattle.lists.specs.Lists.{part, splice};
 ghost use Rattle.bits.specs.Bits.{field};
-ghost use Rattle.reserve.specs.Reserve.{digits};
+ghost use Rattle.reserve.specs.Reserve.{digits, reserve as reserved};
 ghost use Rattle.reserve_table.specs.Code.Tabled.{Fours};
 ghost use Rattle.tree.specs.Read.{counts};
 ghost use Rattle.tree.specs.Exact.{exact};
@@ -44,4 +46,40 @@ pub(crate) fn eight(w: u64, row: &[u8; 64], s: u64, out: &mut [u32], from: usize
         out,
         from + 4,
     );
+}
+
+// Whether all bits of a tree of 16, 32 or 64 counts with sum s are in one load, which has 57 at least. Each bound is the largest.
+pub(crate) fn fits(h: u32, s: u64) -> bool
+    ensures { λ r. ⌜ (r ≡ true → (3 ≤ h) × (h ≤ 6) × (s < 64) × (reserved h s ≤ 57)) ⌝ }
+{
+    if h == 4 {
+        return s < 36;
+    }
+    if h == 5 {
+        return s < 17;
+    }
+    h == 6 && s < 13
+}
+
+// The 2^h counts with sum s, into zeros. A recursion in which h falls to eight counts, and which calls no empty half.
+pub(crate) fn in_word(w: u64, row: &[u8; 64], h: u32, s: u64, out: &mut [u32], from: usize)
+    requires { ⌜ Fours (now row) × (exact h s (field 64 w) 0 ≡ true) × ((3 ≤ h) × (h ≤ 6) × (s < 64) × (reserved h s ≤ 57)) ⌝ }
+    requires { ⌜ (from + 2 ^ h ≤ length (now out)) × (part (now out) from (2 ^ h) ≡ replicate (2 ^ h) 0) ⌝ }
+    ensures { λ _. ⌜ now (out .exit) ≡ splice (now (out .entry)) from (counts h s (field 64 w) 0) ⌝ }
+{
+    if h == 3 {
+        eight(w, row, s, out, from);
+        return;
+    }
+    let down = h - 1;
+    let t = digits_of(s);
+    let left = front::part(w, 0, t);
+    let right = s - left;
+    if left != 0 {
+        in_word(w << t, row, down, left, out, from);
+    }
+    if right != 0 {
+        let k = t + reserve_of(down, left) as u32;
+        in_word(w << k, row, down, right, out, from + power(down) as usize);
+    }
 }
