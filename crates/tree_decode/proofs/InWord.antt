@@ -22,6 +22,7 @@ use Rattle.tree.specs.Exact.{exact}
 use Rattle.tree.specs.Code.Node.{Lies}
 use Rattle.tree.proofs.Exacts.{field-part, counts-local}
 use Rattle.tree.proofs.Local.{exact-local}
+use Rattle.tree_decode.specs.Code.FromWord.{Whole}
 
 -- ---- what small trees own, and the digits of the sums below s
 pub four-fits : (s : ℕ) → digits s ≤ 19 → reserve 2 s ≤ 57
@@ -34,11 +35,7 @@ pub eight-fits : (s : ℕ) → s < 64 → reserve 3 s ≤ 38
 unfolding A B
 eight-fits s l = omega (arith, bound 3 s 6)
 
--- what a tree of height h keeps to that is decoded out of one word
-abbrev pub Whole : ℕ → ℕ → Type 0
-Whole h s = (3 ≤ h) × (h ≤ 6) × (s < 64) × (reserve h s ≤ 57)
-
-pub sixteen : {h s : ℕ} → h ≡ 4 → s < 36 → Whole h s
+pub sixteen : {h s : ℕ} → h ≡ 4 → s < 37 → Whole h s
 unfolding A B
 sixteen {h} {s} e l = rw e (omega (arith, bound 4 s 6))
 

@@ -9,10 +9,11 @@ ghost use Prim.Native.Nat.{_+_, _≤_, _<_, _^_};
 ghost use lib.ListN.{length, replicate};
 ghost use Rattle.lists.specs.Lists.{part, splice};
 ghost use Rattle.bits.specs.Bits.{field};
-ghost use Rattle.reserve.specs.Reserve.{digits, reserve as reserved};
+ghost use Rattle.reserve.specs.Reserve.{digits};
 ghost use Rattle.reserve_table.specs.Code.Tabled.{Fours};
 ghost use Rattle.tree.specs.Read.{counts};
 ghost use Rattle.tree.specs.Exact.{exact};
+ghost use Rattle.tree_decode.specs.Code.FromWord.{Whole};
 
 // The four counts with sum s. A pair's left count stands in a field of its own, behind the left sum.
 pub(crate) fn four(w: u64, s: u64, out: &mut [u32], from: usize)
@@ -48,12 +49,12 @@ pub(crate) fn eight(w: u64, row: &[u8; 64], s: u64, out: &mut [u32], from: usize
     );
 }
 
-// Whether all bits of a tree of 16, 32 or 64 counts with sum s are in one load, which has 57 at least. Each bound is the largest.
+// Whether a tree of 2^h counts with sum s is one of 16, 32 or 64 that own 57 bits at most. A sum one higher owns more.
 pub(crate) fn fits(h: u32, s: u64) -> bool
-    ensures { λ r. ⌜ (r ≡ true → (3 ≤ h) × (h ≤ 6) × (s < 64) × (reserved h s ≤ 57)) ⌝ }
+    ensures { λ r. ⌜ (r ≡ true → Whole h s) ⌝ }
 {
     if h == 4 {
-        return s < 36;
+        return s < 37;
     }
     if h == 5 {
         return s < 17;
@@ -61,9 +62,9 @@ pub(crate) fn fits(h: u32, s: u64) -> bool
     h == 6 && s < 13
 }
 
-// The 2^h counts with sum s, into zeros. A recursion in which h falls to eight counts, and which calls no empty half.
+// All 2^h counts with sum s, into zeros. A recursion in which h falls to 3 and which calls no empty half.
 pub(crate) fn in_word(w: u64, row: &[u8; 64], h: u32, s: u64, out: &mut [u32], from: usize)
-    requires { ⌜ Fours (now row) × (exact h s (field 64 w) 0 ≡ true) × ((3 ≤ h) × (h ≤ 6) × (s < 64) × (reserved h s ≤ 57)) ⌝ }
+    requires { ⌜ Fours (now row) × Whole h s × (exact h s (field 64 w) 0 ≡ true) ⌝ }
     requires { ⌜ (from + 2 ^ h ≤ length (now out)) × (part (now out) from (2 ^ h) ≡ replicate (2 ^ h) 0) ⌝ }
     ensures { λ _. ⌜ now (out .exit) ≡ splice (now (out .entry)) from (counts h s (field 64 w) 0) ⌝ }
 {

@@ -1,6 +1,6 @@
 // The counts of a tree that is some list's code. A recursion in which h falls, one level a call, and which calls no empty half. It ends
-// at eight counts, whose bits come out of one load or three, at four, out of one, or at one count where these do not fit a word. It reads
-// over `&&[u8]`, a thin pointer.
+// where one load has all the bits of 16 counts or more; else at eight counts, whose bits come out of one load or three, at four, out of
+// one, or at one count where these do not fit a word. It reads over `&&[u8]`, a thin pointer.
 mod from_word;
 
 use bits_field::front;

@@ -12,8 +12,9 @@ use Rattle.reserve.specs.Reserve.{digits}
 use Rattle.tree.specs.Read.{counts}
 use Rattle.tree.proofs.Rooting.{top, halved, left-lies, right-lies}
 use Rattle.tree.proofs.Shape.{length-counts}
+use Rattle.tree_decode.specs.Code.FromWord.{Whole}
 use Rattle.tree_decode.proofs.Decoding.{Unfolded, unfolded, one-count, both-halves, OfHeight, of-height, height-written}
-use Rattle.tree_decode.proofs.InWord.{Whole, Held, loaded, word-exact, word-counts, four-fits}
+use Rattle.tree_decode.proofs.InWord.{Held, loaded, word-exact, word-counts, four-fits}
 use Rattle.tree_decode.proofs.IntoZeros.{none-written, left-zeros, right-zeros}
 use borrow.Author.Needs.{needs}
 use Prim.Native.Nat.{ℕ, _<_}
@@ -75,7 +76,7 @@ module _ (t : ℕ) (c : decode-node-lts.After-load (callees t) (decode-node-at t
   in-one = c .before .before .before .fits2 .ensures (c .before .before .if1 .taken)
 
   all-held : Held (bits (small .args .b .now .now)) (small .args .at) (small .args .h) (small .args .s) (c .load .result)
-  all-held = loaded _ (small .pre .1 .0 .0) (in-one .3) (c .load .ensures)
+  all-held = loaded _ (small .pre .1 .0 .0) (in-one .bits) (c .load .ensures)
 
 -- where eight counts are decoded
 module _ (t : ℕ) (c : decode-node-lts.Then3 (callees t) (decode-node-at t) decode-node.Post) where
@@ -149,7 +150,7 @@ decode-node-in-word-requires : (t : ℕ) → decode-node-lts.Need-in-word-requir
 decode-node-in-word-requires t c κs =
     let d = c .before in
     let p = small t d .pre .1 in
-    ((p .1 .0, word-exact (all-held t d) (p .0 .1), in-one t d), (p .1 .1, p .1 .2))
+    ((p .1 .0, in-one t d, word-exact (all-held t d) (p .0 .1)), (p .1 .1, p .1 .2))
 
 decode-node-same-length : (t : ℕ) → decode-node-lts.Need-same-length (callees t) (decode-node-at t) decode-node.Post
 decode-node-same-length t c = search needs

@@ -14,9 +14,9 @@ use Rattle.tree.specs.Read.{counts}
 use Rattle.tree.specs.Exact.{exact}
 use Rattle.tree.proofs.Rooting.{halved}
 use Rattle.tree.proofs.Shape.{length-counts}
+use Rattle.tree_decode.specs.Code.FromWord.{Whole}
 use Rattle.tree_decode.proofs.Decoding.{height-written}
-use Rattle.tree_decode.proofs.InWord.{Whole}
-use Rattle.tree_decode.proofs.EightCounts.{Top, short, left-le, room, left-exact, right-exact, word-written}
+use Rattle.tree_decode.proofs.WordHalves.{Top, short, left-le, room, left-exact, right-exact, word-written}
 use Rattle.tree_decode.proofs.IntoZeros.{none-written, left-zeros, right-zeros}
 use borrow.Author.Needs.{needs}
 use Prim.Native.Nat.{ℕ, _<_}
@@ -64,27 +64,27 @@ module _ (t : ℕ) (c : in-word-lts.After-part (callees t) (in-word-at t) in-wor
   call = c .before .before .before .before
 
   up : suc (call .args .h - 1) ≡ call .args .h
-  up = omega (arith, call .pre .1 .0 .2)
+  up = omega (arith, call .pre .1 .0 .1)
 
   half-is : 2 ^ (call .args .h - 1) + 2 ^ (call .args .h - 1) ≡ 2 ^ call .args .h
-  half-is = halved (call .args .h) (λ (e : call .args .h ≡ 0). omega (arith, call .pre .1 .0 .2))
+  half-is = halved (call .args .h) (λ (e : call .args .h ≡ 0). omega (arith, call .pre .1 .0 .1))
 
   top : Top (call .args .h - 1) (call .args .s) (call .args .w) (c .before .digits-of .result) (c .part .result)
   top =
       let p = call .pre .1 .0 in
       record {
-        code = ap (λ (k : ℕ). exact k (call .args .s) (field 64 (call .args .w)) 0) up ∙ p .1;
-        few = p .2 .2;
-        whole = rw up (p .2 .3);
+        code = ap (λ (k : ℕ). exact k (call .args .s) (field 64 (call .args .w)) 0) up ∙ p .2;
+        few = p .1 .few;
+        whole = rw up (p .1 .bits);
         digits-are = c .before .digits-of .ensures;
         left = c .part .ensures;
       }
 
   left-whole : Whole (call .args .h - 1) (c .part .result)
-  left-whole = omega (arith, call .pre .1 .0 .2, c .before .before .if1 .left, left-le top, room top)
+  left-whole = omega (arith, call .pre .1 .0 .1, c .before .before .if1 .left, left-le top, room top)
 
   right-whole : Whole (call .args .h - 1) (call .args .s - c .part .result)
-  right-whole = omega (arith, call .pre .1 .0 .2, c .before .before .if1 .left, left-le top, room top)
+  right-whole = omega (arith, call .pre .1 .0 .1, c .before .before .if1 .left, left-le top, room top)
 
 -- where the left half's counts stand, whether it was called or is empty
 module _ (t : ℕ) (c : in-word-lts.Joined2 (callees t) (in-word-at t) in-word.Post) where
@@ -137,7 +137,7 @@ in-word-eight-requires t c κs =
     let a = q .args in
     let p = q .pre .1 in
     let e : 2 ^ a .h ≡ 8 = rw (d .if1 .taken) in
-    (p .0 .0, ap (λ (k : ℕ). exact k (a .s) (field 64 (a .w)) 0) (sym (d .if1 .taken)) ∙ p .0 .1, p .0 .2 .2, omega (arith, e, p .1 .0))
+    (p .0 .0, ap (λ (k : ℕ). exact k (a .s) (field 64 (a .w)) 0) (sym (d .if1 .taken)) ∙ p .0 .2, p .0 .1 .few, omega (arith, e, p .1 .0))
 
 in-word-same-length : (t : ℕ) → in-word-lts.Need-same-length (callees t) (in-word-at t) in-word.Post
 in-word-same-length t c = search needs
@@ -157,7 +157,7 @@ in-word-digits-of-requires t c κs = search needs
 in-word-part-requires : (t : ℕ) → in-word-lts.Need-part-requires (callees t) (in-word-at t) in-word.Post
 in-word-part-requires t c κs =
     let q = c .before .before .before in
-    omega (arith, c .digits-of .ensures, digits-le (q .args .s) 6 (q .pre .1 .0 .2 .2))
+    omega (arith, c .digits-of .ensures, digits-le (q .args .s) 6 (q .pre .1 .0 .1 .few))
 
 in-word-sub-right : (t : ℕ) → in-word-lts.Need-sub-right (callees t) (in-word-at t) in-word.Post
 in-word-sub-right t c = left-le (top t c)
@@ -173,9 +173,9 @@ in-word-in-word-requires t c κs =
     let n = c .before .before in
     let a = call t n .args in
     let p = call t n .pre .1 in (
-      omega (arith, call t n .pre .0, p .0 .2),
+      omega (arith, call t n .pre .0, p .0 .1),
       (
-        (p .0 .0, left-exact (top t n), left-whole t n),
+        (p .0 .0, left-whole t n, left-exact (top t n)),
         (omega (arith, half-is t n, p .1 .0), left-zeros (a .out .now) (a .from) _ _ (half-is t n) (p .1 .1)),
       ),
     )
@@ -210,9 +210,9 @@ in-word-in-word-requires-2 t c κs =
     let n = read t j in
     let e = c .power .ensures in
     let p = whole t j .pre .1 in (
-      omega (arith, whole t j .pre .0, p .0 .2),
+      omega (arith, whole t j .pre .0, p .0 .1),
       (
-        (p .0 .0, right-exact (top t n) _ (d .reserve-of .ensures), right-whole t n),
+        (p .0 .0, right-whole t n, right-exact (top t n) _ (d .reserve-of .ensures)),
         (omega (arith, half-is t n, as-long t j, e, p .1 .0), right-none t j _ e),
       ),
     )

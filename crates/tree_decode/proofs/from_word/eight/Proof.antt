@@ -7,7 +7,7 @@ use borrow.Author.Needs.{needs}
 use Rattle.reserve.specs.Reserve.{reserve}
 use Rattle.reserve.proofs.Exact.{digits-le}
 use Rattle.tree_decode.proofs.InWord.{four-fits, eight-fits, few-digits}
-use Rattle.tree_decode.proofs.EightCounts.{Top, short, left-le, left-exact, right-exact, word-written}
+use Rattle.tree_decode.proofs.WordHalves.{Top, short, left-le, left-exact, right-exact, word-written}
 use Rattle.tree_decode.proofs.from_word.eight.Statement.{statement}
 use Rattle.tree_decode.proofs.from_word.eight.Tie as tie
 
