@@ -1,69 +1,22 @@
--- Eight counts: out of one word, or each four out of a word of their own. Assumes nothing.
-use mathlib.Core.Path.{_≡_, refl, ap, _∙_, subst}
+-- Eight counts, each four out of a word of their own. Assumes nothing.
+use mathlib.Core.Path.{_≡_, refl, ap, _∙_}
 use mathlib.Core.Bool.{true}
 use mathlib.Core.List.{List}
-use Prim.Native.Nat.{ℕ, _+_, _-_, _*_, _/_, _%_, _^_, _≤_, _<_}
+use Prim.Native.Nat.{ℕ, _+_, _-_, _≤_, _<_}
 use native.Mathlib.Omega.{arith}
 use lib.ListN.{length}
-use borrow.Author.Tests.{leb-true}
 use Rattle.lists.specs.Lists.{splice}
 use Rattle.bits.specs.Bits.{bits, field}
 use Rattle.bits_field.specs.Code.Front.{Front}
-use Rattle.reserve.specs.Reserve.{digits, reserve}
-use Rattle.reserve.proofs.Exact.{digits-le}
-use Rattle.reserve.proofs.Fit.{fit-all}
-use Rattle.tree.specs.Read.{leftOf, leftAt, rightAt, counts}
+use Rattle.tree.specs.Read.{counts}
 use Rattle.tree.specs.Exact.{exact}
 use Rattle.tree.specs.Code.Node.{Lies, Rooted}
 use Rattle.tree.specs.declared.node.Split.{Split}
 use Rattle.tree.proofs.Rooting.{left-lies, right-lies}
-use Rattle.tree_decode.proofs.Decoding.{BothExact, both-exact, Unfolded, unfolded, halves-written, both-halves}
-use Rattle.tree_decode.proofs.InWord.{Held, loaded, raised, word-exact, word-counts, left-at, four-fits, eight-fits, few-digits}
+use Rattle.tree_decode.proofs.Decoding.{Unfolded, unfolded, both-halves}
+use Rattle.tree_decode.proofs.InWord.{Held, loaded, word-exact, word-counts, four-fits, few-digits}
 
--- ---- out of the word w, as the code works them out: the left sum l, by the digits t of s
-pub record Top (s w t l : ℕ) : Type 0 where
-  pub code : exact 3 s (field 64 w) 0 ≡ true
-  pub few : s < 64
-  pub digits-are : t ≡ digits s
-  pub left : l ≡ w / 2 ^ (64 - (0 + t)) % 2 ^ t
-
-module _ {s w t l : ℕ} (q : Top s w t l) where
-  pub short : t ≤ 6
-  short = omega (arith, q .digits-are, digits-le s 6 (q .few))
-
-  left-is : leftOf s (field 64 w) 0 ≡ l
-  left-is = left-at s w 0 0 t l refl (q .digits-are) (omega (arith, short)) (q .left)
-
-  both : BothExact 2 s (field 64 w) 0 l
-  both = subst (BothExact 2 s (field 64 w) 0) left-is (both-exact 2 s (field 64 w) 0 (q .code))
-
-  pub left-le : l ≤ s
-  left-le = leb-true l s (both .le)
-
-  room : t + reserve 2 l + reserve 2 (s - l) ≤ 38
-  room = omega (arith, q .digits-are, eight-fits s (q .few), left-le, fit-all 2 s l (s - l) (omega (arith, left-le)))
-
-  -- the word's bits behind the left sum, and those behind the left four, whose reserve is x
-  left-held : Held (field 64 w) (leftAt s 0) 2 l ((w * 2 ^ t) % 2 ^ 64)
-  left-held = raised w (leftAt s 0) 2 l t (omega (arith, q .digits-are)) (omega (arith, room))
-
-  pub left-exact : exact 2 l (field 64 ((w * 2 ^ t) % 2 ^ 64)) 0 ≡ true
-  left-exact = word-exact left-held (both .left)
-
-  module _ (x : ℕ) (ex : x ≡ reserve 2 l) where
-    right-held : Held (field 64 w) (rightAt 2 s l 0) 2 (s - l) ((w * 2 ^ (t + x)) % 2 ^ 64)
-    right-held = raised w (rightAt 2 s l 0) 2 (s - l) (t + x) (omega (arith, q .digits-are, ex)) (omega (arith, ex, room))
-
-    pub right-exact : exact 2 (s - l) (field 64 ((w * 2 ^ (t + x)) % 2 ^ 64)) 0 ≡ true
-    right-exact = word-exact right-held (both .right)
-
-    pub eight-written : (o m r : List ℕ) (i : ℕ) → i + 8 ≤ length o → m ≡ splice o i (counts 2 l (field 64 ((w * 2 ^ t) % 2 ^ 64)) 0)
-        → r ≡ splice m (i + 4) (counts 2 (s - l) (field 64 ((w * 2 ^ (t + x)) % 2 ^ 64)) 0) → r ≡ splice o i (counts 3 s (field 64 w) 0)
-    eight-written o m r i fits em er =
-        halves-written 2 s l (field 64 w) 0 left-is o m r i 4 refl fits (em ∙ ap (splice o i) (word-counts left-held (both .left)))
-        (er ∙ ap (splice m (i + 4)) (word-counts right-held (both .right)))
-
--- ---- out of the words v and w, each loaded where a half starts
+-- the words v and w are each loaded where a half starts
 pub record InHalves (b : List ℕ) (a s : ℕ) (r : Split) : Type 0 where
   pub lies : Lies b a 3 s
   pub code : exact 3 s (bits b) a ≡ true

@@ -22,6 +22,7 @@ use Rattle.tree.specs.Exact.{exact}
 use Rattle.tree.specs.Code.Node.{Lies}
 use Rattle.tree.proofs.Exacts.{field-part, counts-local}
 use Rattle.tree.proofs.Local.{exact-local}
+use Rattle.tree_decode.specs.Code.FromWord.{Whole}
 
 -- ---- what small trees own, and the digits of the sums below s
 pub four-fits : (s : ℕ) → digits s ≤ 19 → reserve 2 s ≤ 57
@@ -33,6 +34,18 @@ four-fits s l =
 pub eight-fits : (s : ℕ) → s < 64 → reserve 3 s ≤ 38
 unfolding A B
 eight-fits s l = omega (arith, bound 3 s 6)
+
+pub sixteen : {h s : ℕ} → h ≡ 4 → s < 37 → Whole h s
+unfolding A B
+sixteen {h} {s} e l = rw e (omega (arith, bound 4 s 6))
+
+pub thirty-two : {h s : ℕ} → h ≡ 5 → s < 17 → Whole h s
+unfolding A B
+thirty-two {h} {s} e l = rw e (omega (arith, bound 5 s 5))
+
+pub sixty-four : {h s : ℕ} → h ≡ 6 → s < 13 → Whole h s
+unfolding A B
+sixty-four {h} {s} e l = rw e (omega (arith, bound 6 s 4))
 
 pub few-digits : {s : ℕ} → s < 524288 → (x : ℕ) → x ≤ s → digits x ≤ 19
 few-digits l x k = digits-le x 19 (omega arith)

@@ -1,6 +1,7 @@
--- Laws of the counts: half by half, out of a word's own bits, four and eight at a time, into zeros.
+-- Laws of the counts: half by half, out of a word's own bits, both halves out of one word, four and eight at a time, into zeros.
 pub mod Decoding
 pub mod InWord
+pub mod WordHalves
 pub mod FourCounts
 pub mod EightCounts
 pub mod IntoZeros

@@ -1,11 +1,13 @@
 // The counts of a tree that is some list's code. A recursion in which h falls, one level a call, and which calls no empty half. It ends
-// at eight counts, whose bits come out of one load or three, at four, out of one, or at one count where these do not fit a word. It reads
-// over `&&[u8]`, a thin pointer.
+// where one load has all the bits of 16 counts or more; else at eight counts, whose bits come out of one load or three, at four, out of
+// one, or at one count where these do not fit a word. It reads over `&&[u8]`, a thin pointer.
 mod from_word;
 
 use bits_field::front;
 use from_word::eight;
+use from_word::fits;
 use from_word::four;
+use from_word::in_word;
 use tree::node::one_word;
 use tree::node::root_by_shifts;
 ghost use mathlib.Core.Bool.{true};
@@ -52,6 +54,10 @@ fn decode_node(b: &&[u8], row: &[u8; 64], at: usize, h: u32, s: u64, out: &mut [
     requires { ⌜ Fours (now row) × (from + 2 ^ h ≤ length (now out)) × (part (now out) from (2 ^ h) ≡ replicate (2 ^ h) 0) ⌝ }
     ensures { λ _. ⌜ now (out .exit) ≡ splice (now (out .entry)) from (counts h s (bits (now (now (b .entry)))) at) ⌝ }
 {
+    if fits(h, s) {
+        in_word(front::load(*b, at), row, h, s, out, from);
+        return;
+    }
     if h == 3 && s < 524288 {
         lowest(*b, row, at, s, out, from);
         return;

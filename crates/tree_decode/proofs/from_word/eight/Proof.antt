@@ -1,13 +1,13 @@
 -- `tree_decode::from_word::eight` meets its contract. Assumes nothing.
-use mathlib.Core.Path.{_≡_}
+use mathlib.Core.Path.{_≡_, refl}
 use Prim.Native.Nat.{ℕ, _+_, _<_}
 use native.Mathlib.Omega.{arith}
 use lib.ListN.{getD}
 use borrow.Author.Needs.{needs}
 use Rattle.reserve.specs.Reserve.{reserve}
 use Rattle.reserve.proofs.Exact.{digits-le}
-use Rattle.tree_decode.proofs.InWord.{four-fits, few-digits}
-use Rattle.tree_decode.proofs.EightCounts.{Top, short, left-le, left-exact, right-exact, eight-written}
+use Rattle.tree_decode.proofs.InWord.{four-fits, eight-fits, few-digits}
+use Rattle.tree_decode.proofs.WordHalves.{Top, short, left-le, left-exact, right-exact, word-written}
 use Rattle.tree_decode.proofs.from_word.eight.Statement.{statement}
 use Rattle.tree_decode.proofs.from_word.eight.Tie as tie
 
@@ -16,8 +16,15 @@ module _ (c : tie.After-part) where
   abbrev call : tie.Start
   call = c .before .before .before
 
-  top : Top (call .args .s) (call .args .w) (c .before .digits-of .result) (c .part .result)
-  top = record { code = call .pre .1; few = call .pre .2; digits-are = c .before .digits-of .ensures; left = c .part .ensures }
+  top : Top 2 (call .args .s) (call .args .w) (c .before .digits-of .result) (c .part .result)
+  top =
+      record {
+        code = call .pre .1;
+        few = call .pre .2;
+        whole = omega (arith, eight-fits (call .args .s) (call .pre .2));
+        digits-are = c .before .digits-of .ensures;
+        left = c .part .ensures;
+      }
 
   -- the row's entry
   looked-up : getD (call .args .row .now) (c .part .result) 0 ≡ reserve 2 (c .part .result)
@@ -77,7 +84,7 @@ returns : tie.Need-returns
 returns c =
     let d = c .before .before .before .before .before .before .before .before .before in
     let a = call d .args in
-    eight-written (top d) _ (looked-up d) (a .out .now) _ _ (a .from) (call d .pre .3) (c .before .before .before .before .before .before .before .four .ensures)
+    word-written (top d) _ (looked-up d) (a .out .now) _ _ (a .from) 4 refl (call d .pre .3) (c .before .before .before .before .before .before .before .four .ensures)
     (c .before .before .four2 .ensures)
 
 pub eight-spec : {M : Type 1} → statement M
