@@ -68,3 +68,13 @@ pub fn one_word(h: u32, s: u64) -> bool
     }
     digits_of(s) <= 19
 }
+
+// Whether a tree of 2^h counts with sum s is one of eight counts that own 57 bits at most. A sum of 439 owns 58.
+pub fn eight_in_word(h: u32, s: u64) -> bool
+    ensures { λ r. ⌜ (r ≡ true → (h ≡ 3) × (s < 439)) ⌝ }
+{
+    if h != 3 {
+        return false;
+    }
+    s < 439
+}

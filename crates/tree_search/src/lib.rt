@@ -24,7 +24,7 @@ fn search_four(b: &[u8], at: usize, s: u64, q: u64, n: u64) -> u64
     if s < left {
         return DAMAGED;
     }
-    let p = one_pair(w, s, left, left < q);
+    let p = one_pair(w, 0, s, left, left < q);
     if p.sum < p.count {
         return DAMAGED;
     }

@@ -1,4 +1,4 @@
--- The lowest two levels on a walk's way: which of two pairs it goes to, out of the word at whose high end their bits stand. Assumes nothing.
+-- The lowest two levels on a walk's way: which of two pairs it goes to, out of the word in which their bits stand. Assumes nothing.
 use mathlib.Core.Path.{_≡_, refl, sym, ap, ap₂, _∙_, subst}
 use mathlib.Core.Bool.{Bool, true, false}
 use mathlib.Core.List.{List}
@@ -9,15 +9,16 @@ use lib.Dec.{leb, ltb, eqb, eqb·suc-zero}
 use borrow.Author.Tests.{leb-true, leb-false, ltb-true, ltb-false, le-leb, lt-leb}
 use Rattle.lists.specs.Lists.{pick}
 use Rattle.bits.specs.Bits.{bits}
-use Rattle.reserve.specs.Reserve.{digits}
+use Rattle.reserve.specs.Reserve.{digits, reserve}
 use Rattle.tree.specs.Read.{leftOf, leftAt, rightAt, later, walk, shifted, seek}
 use Rattle.tree.specs.Code.Node.{Lies}
+use Rattle.tree.specs.Code.InWord.{InWord}
 use Rattle.tree_walk.specs.Code.Pairs.{Entered}
 use Rattle.tree_walk.specs.Code.Answers.{walkAnswer, spotted}
 use Rattle.tree.specs.declared.node.Split.{Split}
 use Rattle.tree_walk.specs.declared.pairs.Pair.{Pair}
 use Rattle.tree.proofs.Rooting.{Inner}
-use Rattle.tree.proofs.OneWord.{Low, fewer-digits, left-pair, right-pair}
+use Rattle.tree.proofs.OneWord.{three-fields, left-pair, right-pair}
 use Rattle.tree.proofs.WalkLaws.{walk-left, walk-right}
 use Rattle.tree.proofs.SearchLaws.{seek-left, seek-right}
 use Rattle.tree_walk.proofs.WalkSteps.{walk-damaged, walk-low, walk-high}
@@ -44,13 +45,16 @@ module _ {s l sum passed : ℕ} (le : l ≤ s) where
   in-sum true es ep = omega (arith, es, ep)
   in-sum false es ep = omega (arith, es, ep)
 
-  pub narrow : digits s ≤ 19 → (c : Bool) → sum ≡ pick c (s - l) l → passed ≡ pick c l 0 → (digits passed ≤ 19) × (digits sum ≤ 19)
-  narrow few c es ep = (fewer-digits few passed (omega (arith, in-sum c es ep)), fewer-digits few sum (omega (arith, in-sum c es ep)))
+  -- both are fields of the four counts
+  pub narrow : (c : Bool) → sum ≡ pick c (s - l) l → passed ≡ pick c l 0 → digits s + digits passed + digits sum ≤ reserve 2 s
+  unfolding pick digits
+  narrow true es ep = rw (es, ep) (three-fields s l le)
+  narrow false es ep = rw (es, ep) (omega (arith, three-fields s l le))
 
 -- the pair's left count, by widths that were computed
-pub count-of : (w s passed sum x t f g : ℕ) → t ≡ digits s → f ≡ digits passed → g ≡ digits sum → x ≡ w / 2 ^ (64 - (t + f + g)) % 2 ^ g
-    → x ≡ w / 2 ^ (64 - (digits s + digits passed + digits sum)) % 2 ^ digits sum
-count-of w s passed sum x t f g et ef eg ex = ex ∙ rw (et, ef, eg)
+pub count-of : (w k s passed sum x t f g : ℕ) → t ≡ digits s → f ≡ digits passed → g ≡ digits sum → x ≡ w / 2 ^ (64 - (k + t + f + g)) % 2 ^ g
+    → x ≡ w / 2 ^ (64 - (k + digits s + digits passed + digits sum)) % 2 ^ digits sum
+count-of w k s passed sum x t f g et ef eg ex = ex ∙ rw (et, ef, eg)
 
 -- ---- a pair: its left count x, and the other one
 module _ (sum x : ℕ) (b : List ℕ) (a : ℕ) (e : leftOf sum b a ≡ x) where
@@ -75,110 +79,116 @@ module _ (sum x : ℕ) (b : List ℕ) (a : ℕ) (e : leftOf sum b a ≡ x) where
       go true f = rw (f, seek-right 0 sum x b a q e l (ltb-true x q f))
       go false f = rw (f, seek-left 0 sum x b a q e l (ltb-false x q f))
 
--- ---- height 2, as it was tested
-pub at-two : {b : List ℕ} {a h s : ℕ} → h ≡ 2 → Lies b a h s → Lies b a 2 s
-at-two {b} {a} {h} {s} e y = subst (λ (k : ℕ). Lies b a k s) e y
+-- ---- a height, as it was tested
+pub of-height : {b : List ℕ} {a h g s : ℕ} → h ≡ g → Lies b a h s → Lies b a g s
+of-height {b} {a} {h} {g} {s} e y = subst (λ (k : ℕ). Lies b a k s) e y
 
 pub room-for-four : {h : ℕ} (n : ℕ) → h ≡ 2 → n + 2 ^ h < 2 ^ 63 → n + 4 < 2 ^ 63
 room-for-four {h} n e l = subst (λ (k : ℕ). n + 2 ^ k < 2 ^ 63) e l
 
-pub walk-two-high : {h : ℕ} (acc k s : ℕ) (b : List ℕ) (a j : ℕ) → h ≡ 2 → walkAnswer acc k (walk 2 s b a j) ≡ walkAnswer acc k (walk h s b a j)
-walk-two-high acc k s b a j e = ap (λ (z : ℕ). walkAnswer acc k (walk z s b a j)) (sym e)
+pub walk-height : {h g : ℕ} (acc k s : ℕ) (b : List ℕ) (a j : ℕ) → h ≡ g → walkAnswer acc k (walk g s b a j) ≡ walkAnswer acc k (walk h s b a j)
+walk-height acc k s b a j e = ap (λ (z : ℕ). walkAnswer acc k (walk z s b a j)) (sym e)
 
 pub seek-two-high : {h : ℕ} (n s : ℕ) (b : List ℕ) (a q : ℕ) → h ≡ 2 → spotted n (seek 2 s b a q) ≡ spotted n (seek h s b a q)
 seek-two-high n s b a q e = ap (λ (z : ℕ). spotted n (seek z s b a q)) (sym e)
 
--- ---- four counts with sum s at bit a, whose bits stand at the high end of w
-module _ {b : List ℕ} {a s w : ℕ} (o : Low b a s w) where
-  module _ (l : ℕ) (el : leftOf s (bits b) a ≡ l) where
-    above : s < l → leb (leftOf s (bits b) a) s ≡ false
-    above k = ap (λ (z : ℕ). leb z s) el ∙ lt-leb l s k
+-- ---- a left sum l above its node's sum s
+module _ (h s l : ℕ) (b : List ℕ) (a : ℕ) (el : leftOf s b a ≡ l) (i : s < l) where
+  above : leb (leftOf s b a) s ≡ false
+  above = ap (λ (z : ℕ). leb z s) el ∙ lt-leb l s i
 
-    pub walk-four-bad : (acc k j : ℕ) → s < l → 2 ^ 63 ≡ walkAnswer acc k (walk 2 s (bits b) a j)
-    unfolding walkAnswer
-    walk-four-bad acc k j i = rw (walk-damaged 1 s (bits b) a j (above i))
+  pub walk-above : (acc keep j : ℕ) → 2 ^ 63 ≡ walkAnswer acc keep (walk (suc h) s b a j)
+  unfolding walkAnswer
+  walk-above acc keep j = rw (walk-damaged h s b a j above)
 
-    pub seek-four-bad : (n q : ℕ) → s < l → 2 ^ 63 ≡ spotted n (seek 2 s (bits b) a q)
-    unfolding spotted
-    seek-four-bad n q i = rw (seek-damaged 1 s (bits b) a q (above i))
+  pub seek-above : (n q : ℕ) → 2 ^ 63 ≡ spotted n (seek (suc h) s b a q)
+  unfolding spotted
+  seek-above n q = rw (seek-damaged h s b a q above)
 
-    module _ (le : l ≤ s) where
-      -- the root, as one that was read
-      abbrev split : Split
-      split = record { ok = true; left = l; first = leftAt s a; second = rightAt 1 s l a }
+-- ---- a node with left sum l, as one that was read
+module _ (h s l : ℕ) (b : List ℕ) (a : ℕ) (el : leftOf s b a ≡ l) (le : l ≤ s) where
+  abbrev pub split : Split
+  split = record { ok = true; left = l; first = leftAt s a; second = rightAt h s l a }
 
-      inner : Inner (bits b) a 2 s split
-      inner =
-          record {
-            high = λ e. omega (arith, e);
-            root =
-                record {
-                  ok-is = sym (ap (λ (z : ℕ). leb z s) el ∙ le-leb l s le);
-                  left-is = λ _. sym el;
-                  left-le = λ _. le;
-                  first-is = λ _. refl;
-                  second-is = λ _. refl;
-                };
-            sound = refl;
-          }
+  pub inner : Inner b a (suc h) s split
+  inner =
+      record {
+        high = λ e. omega (arith, e);
+        root =
+            record {
+              ok-is = sym (ap (λ (z : ℕ). leb z s) el ∙ le-leb l s le);
+              left-is = λ _. sym el;
+              left-le = λ _. le;
+              first-is = λ _. refl;
+              second-is = λ _. ap (λ (i : ℕ). rightAt i s l a) {x = h} {y = suc h - 1} (omega arith);
+            };
+        sound = refl;
+      }
 
-      -- where the pair starts
-      abbrev start : Bool → ℕ
-      start c = pick c (rightAt 1 s l a) (leftAt s a)
+-- ---- four counts with sum s and left sum l at bit a, whose bits stand in w behind its k high ones
+module _ {b : List ℕ} {a s w k : ℕ} (o : InWord b a 2 s w k) (l : ℕ) (el : leftOf s b a ≡ l) (le : l ≤ s) where
+  -- where the pair starts
+  abbrev start : Bool → ℕ
+  start c = pick c (rightAt 1 s l a) (leftAt s a)
 
-      -- its left count, as it is read there
-      count-at : (c : Bool) (passed sum x : ℕ) → passed ≡ pick c l 0 → sum ≡ pick c (s - l) l
-          → x ≡ w / 2 ^ (64 - (digits s + digits passed + digits sum)) % 2 ^ digits sum → leftOf sum (bits b) (start c) ≡ x
-      unfolding pick digits
-      count-at true passed sum x ep es ex = ap (λ (z : ℕ). leftOf z (bits b) (rightAt 1 s l a)) es ∙ right-pair o l le ∙ sym (ex ∙ rw (ep, es))
-      count-at false passed sum x ep es ex =
-          let e : digits s + digits 0 + digits l ≡ digits s + digits l = omega arith in
-          ap (λ (z : ℕ). leftOf z (bits b) (leftAt s a)) es ∙ left-pair o l le ∙ sym (ex ∙ rw (ep, es) (ap (λ (k : ℕ). w / 2 ^ (64 - k) % 2 ^ digits l) e))
+  -- its left count, as it is read there
+  count-at : (c : Bool) (passed sum x : ℕ) → passed ≡ pick c l 0 → sum ≡ pick c (s - l) l
+      → x ≡ w / 2 ^ (64 - (k + digits s + digits passed + digits sum)) % 2 ^ digits sum → leftOf sum b (start c) ≡ x
+  unfolding pick digits
+  count-at true passed sum x ep es ex = ap (λ (z : ℕ). leftOf z b (rightAt 1 s l a)) es ∙ right-pair o l le ∙ sym (ex ∙ rw (ep, es))
+  count-at false passed sum x ep es ex =
+      let e : k + digits s + digits 0 + digits l ≡ k + digits s + digits l = omega arith in
+      ap (λ (z : ℕ). leftOf z b (leftAt s a)) es ∙ left-pair o l le ∙ sym (ex ∙ rw (ep, es) (ap (λ (i : ℕ). w / 2 ^ (64 - i) % 2 ^ digits l) e))
 
-      count-is : (c : Bool) {p : Pair} → Entered w s l c p → leftOf (p .sum) (bits b) (start c) ≡ p .count
-      count-is c {p} e = count-at c (p .passed) (p .sum) (p .count) (e .passed-is) (e .sum-is) (e .count-is)
+  count-is : (c : Bool) {p : Pair} → Entered w k s l c p → leftOf (p .sum) b (start c) ≡ p .count
+  count-is c {p} e = count-at c (p .passed) (p .sum) (p .count) (e .passed-is) (e .sum-is) (e .count-is)
 
-      module _ (acc k j : ℕ) where
-        chosen : (c : Bool) → leb 2 j ≡ c → (passed sum : ℕ) → passed ≡ pick c l 0 → sum ≡ pick c (s - l) l
-            → walkAnswer (acc + k * passed) k (walk 1 sum (bits b) (start c) (j - pick c 2 0)) ≡ walkAnswer acc k (walk 2 s (bits b) a j)
-        unfolding pick
-        chosen true e passed sum ep es = rw (ep, es) (walk-high inner j acc k {m = 2} refl (leb-true 2 j e))
-        chosen false e passed sum ep es =
-            rw (ep, es)
-            (ap₂ (λ (x y : ℕ). walkAnswer x k (walk 1 l (bits b) (leftAt s a) y)) {x = acc + k * 0} {y = acc} (omega arith) (omega arith)
-            ∙ walk-low inner j acc k {m = 2} refl (leb-false 2 j e))
+  module _ (acc keep j : ℕ) where
+    chosen : (c : Bool) → leb 2 j ≡ c → (passed sum : ℕ) → passed ≡ pick c l 0 → sum ≡ pick c (s - l) l
+        → walkAnswer (acc + keep * passed) keep (walk 1 sum b (start c) (j - pick c 2 0)) ≡ walkAnswer acc keep (walk 2 s b a j)
+    unfolding pick
+    chosen true e passed sum ep es = rw (ep, es) (walk-high (inner 1 s l b a el le) j acc keep {m = 2} refl (leb-true 2 j e))
+    chosen false e passed sum ep es =
+        rw (ep, es)
+        (ap₂ (λ (x y : ℕ). walkAnswer x keep (walk 1 l b (leftAt s a) y)) {x = acc + keep * 0} {y = acc} (omega arith) (omega arith)
+        ∙ walk-low (inner 1 s l b a el le) j acc keep {m = 2} refl (leb-false 2 j e))
 
-        module _ {p : Pair} (e : Entered w s l (leb 2 j) p) where
-          pub walk-two-bad : p .sum < p .count → 2 ^ 63 ≡ walkAnswer acc k (walk 2 s (bits b) a j)
-          walk-two-bad i =
-              walk-pair-bad (p .sum) (p .count) (bits b) (start (leb 2 j)) (count-is (leb 2 j) e) (acc + k * p .passed) k (j - pick (leb 2 j) 2 0) i
-              ∙ chosen (leb 2 j) refl (p .passed) (p .sum) (e .passed-is) (e .sum-is)
+    module _ {p : Pair} (e : Entered w k s l (leb 2 j) p) where
+      pub walk-two-bad : p .sum < p .count → 2 ^ 63 ≡ walkAnswer acc keep (walk 2 s b a j)
+      walk-two-bad i =
+          walk-pair-bad (p .sum) (p .count) b (start (leb 2 j)) (count-is (leb 2 j) e) (acc + keep * p .passed) keep (j - pick (leb 2 j) 2 0) i
+          ∙ chosen (leb 2 j) refl (p .passed) (p .sum) (e .passed-is) (e .sum-is)
 
-          -- d counts are passed over, and z is the answer within the pair
-          pub walk-two : p .count ≤ p .sum → (d z : ℕ) → d ≡ pick (leb 2 j) 2 0 → z ≡ pick (eqb (j - d) 0) (p .count) (p .sum - p .count + k * p .count)
-              → acc + k * p .passed + z ≡ walkAnswer acc k (walk 2 s (bits b) a j)
-          walk-two i d z ed ez =
-              ap (λ (x : ℕ). acc + k * p .passed + x) (ez ∙ ap (λ (x : ℕ). pick (eqb (j - x) 0) (p .count) (p .sum - p .count + k * p .count)) ed)
-              ∙ walk-pair (p .sum) (p .count) (bits b) (start (leb 2 j)) (count-is (leb 2 j) e) (acc + k * p .passed) k (j - pick (leb 2 j) 2 0) i
-              ∙ chosen (leb 2 j) refl (p .passed) (p .sum) (e .passed-is) (e .sum-is)
+      -- d counts are passed over, and z is the answer within the pair
+      pub walk-two : p .count ≤ p .sum → (d z : ℕ) → d ≡ pick (leb 2 j) 2 0 → z ≡ pick (eqb (j - d) 0) (p .count) (p .sum - p .count + keep * p .count)
+          → acc + keep * p .passed + z ≡ walkAnswer acc keep (walk 2 s b a j)
+      walk-two i d z ed ez =
+          ap (λ (x : ℕ). acc + keep * p .passed + x) (ez ∙ ap (λ (x : ℕ). pick (eqb (j - x) 0) (p .count) (p .sum - p .count + keep * p .count)) ed)
+          ∙ walk-pair (p .sum) (p .count) b (start (leb 2 j)) (count-is (leb 2 j) e) (acc + keep * p .passed) keep (j - pick (leb 2 j) 2 0) i
+          ∙ chosen (leb 2 j) refl (p .passed) (p .sum) (e .passed-is) (e .sum-is)
 
-      module _ (q n : ℕ) {p : Pair} (e : Entered w s l (ltb l q) p) where
-        onward : (hours : ℕ) → hours ≡ pick (ltb l q) 2 0
-            → Goes b 1 q n (spotted n (seek 2 s (bits b) a q)) (p .passed) hours (p .sum) (start (ltb l q))
-        onward hours eh =
-            goes-on (o .lies) inner q n {m = 2} refl record { passed-is = e .passed-is; hours-is = eh; sum-is = e .sum-is; start-is = refl }
+-- the same four counts, in bytes b
+module _ {b : List ℕ} {a s w k : ℕ} (y : Lies b a 2 s) (o : InWord (bits b) a 2 s w k) (l : ℕ) (el : leftOf s (bits b) a ≡ l) (le : l ≤ s)
+    (q n : ℕ) {p : Pair} (e : Entered w k s l (ltb l q) p) where
+  abbrev from : ℕ
+  from = start o l el le (ltb l q)
 
-        pub passed-le : p .passed ≤ q
-        passed-le = onward _ refl .few
+  onward : (hours : ℕ) → hours ≡ pick (ltb l q) 2 0
+      → Goes b 1 q n (spotted n (seek 2 s (bits b) a q)) (p .passed) hours (p .sum) from
+  onward hours eh =
+      goes-on y (inner 1 s l (bits b) a el le) q n {m = 2} refl record { passed-is = e .passed-is; hours-is = eh; sum-is = e .sum-is; start-is = refl }
 
-        pub seek-two-bad : p .sum < p .count → 2 ^ 63 ≡ spotted n (seek 2 s (bits b) a q)
-        seek-two-bad i =
-            seek-pair-bad (p .sum) (p .count) (bits b) (start (ltb l q)) (count-is (ltb l q) e) (n + pick (ltb l q) 2 0) (q - p .passed) i
-            ∙ onward _ refl .same
+  pub passed-le : p .passed ≤ q
+  passed-le = onward _ refl .few
 
-        pub seek-two : p .count ≤ p .sum → (d z : ℕ) → d ≡ pick (ltb l q) 2 0 → z ≡ pick (ltb (p .count) (q - p .passed)) 2 1
-            → n + d + z ≡ spotted n (seek 2 s (bits b) a q)
-        seek-two i d z ed ez =
-            ap (λ (x : ℕ). n + d + x) ez
-            ∙ seek-pair (p .sum) (p .count) (bits b) (start (ltb l q)) (count-is (ltb l q) e) (n + d) (q - p .passed) i
-            ∙ onward d ed .same
+  pub seek-two-bad : p .sum < p .count → 2 ^ 63 ≡ spotted n (seek 2 s (bits b) a q)
+  seek-two-bad i =
+      seek-pair-bad (p .sum) (p .count) (bits b) from (count-is o l el le (ltb l q) e) (n + pick (ltb l q) 2 0) (q - p .passed) i
+      ∙ onward _ refl .same
+
+  pub seek-two : p .count ≤ p .sum → (d z : ℕ) → d ≡ pick (ltb l q) 2 0 → z ≡ pick (ltb (p .count) (q - p .passed)) 2 1
+      → n + d + z ≡ spotted n (seek 2 s (bits b) a q)
+  seek-two i d z ed ez =
+      ap (λ (x : ℕ). n + d + x) ez
+      ∙ seek-pair (p .sum) (p .count) (bits b) from (count-is o l el le (ltb l q) e) (n + d) (q - p .passed) i
+      ∙ onward d ed .same

@@ -1,5 +1,5 @@
 // The walk down a tree to a count by its index, a recursion in which h falls, one level a call; `tree_search` has the one to an index by a
-// prefix sum. Each ends at four counts, whose bits come out of one load, or at one count where these do not fit a word. It answers one
+// prefix sum. It ends at eight counts or four, whose bits come out of one load, or at one count where these do not fit a word. It answers one
 // number, so that nothing is handed up through memory. It goes over `&&[u8]`, a thin pointer: the compiler then makes the call that a
 // function ends with a jump, which it does not where a slice is handed on (docs/BENCHMARK.md).
 mod by_index;

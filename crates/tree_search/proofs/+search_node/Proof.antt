@@ -10,7 +10,7 @@ use Rattle.tree_walk.specs.Code.Answers.{spotted}
 use Rattle.tree.specs.declared.node.Split.{Split}
 use Rattle.tree.proofs.Rooting.{Inner, halved, top}
 use Rattle.tree_walk.proofs.SeekSteps.{seek-leaf, seek-bad, Goes, goes-on}
-use Rattle.tree_walk.proofs.LowPairs.{at-two, room-for-four, seek-two-high}
+use Rattle.tree_walk.proofs.LowPairs.{of-height, room-for-four, seek-two-high}
 use Prim.Native.Nat.{ℕ, _<_}
 use borrow.Fn.Kinds.{In}
 use borrow.Fn.PlainCycle.{Measures, is, falls, and}
@@ -94,7 +94,7 @@ search-node-search-four-requires : (t : ℕ) → search-node-lts.Need-search-fou
 search-node-search-four-requires t c κs =
     let a = c .before .before .before in
     let w = c .before .before .one-word .ensures (c .before .if1 .taken) in
-    (at-two (w .0) (a .pre .1 .0), w .1, room-for-four _ (w .0) (a .pre .1 .1))
+    (of-height (w .0) (a .pre .1 .0), w .1, room-for-four _ (w .0) (a .pre .1 .1))
 
 search-node-returns : (t : ℕ) → search-node-lts.Need-returns (callees t) (search-node-at t) search-node.Post
 search-node-returns t c =
