@@ -31,9 +31,9 @@ four-fits s l =
     let small : s < 2 ^ 19 = lt-of-lt-of-le (digits-is s .0) (pow-mono {i = digits s} {j = 19} l) in
     omega (arith, bound 2 s 19)
 
-pub eight-fits : (s : ℕ) → s < 64 → reserve 3 s ≤ 38
+pub eight-fits : (s : ℕ) → s < 439 → reserve 3 s ≤ 57
 unfolding A B
-eight-fits s l = omega (arith, bound 3 s 6)
+eight-fits s l = omega (arith, bound 3 s 9)
 
 pub sixteen : {h s : ℕ} → h ≡ 4 → s < 37 → Whole h s
 unfolding A B

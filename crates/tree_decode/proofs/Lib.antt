@@ -5,3 +5,4 @@ pub mod WordHalves
 pub mod FourCounts
 pub mod EightCounts
 pub mod IntoZeros
+pub mod WordZeros

@@ -2,15 +2,14 @@
 use mathlib.Core.Path.{_≡_, refl, ap, _∙_, subst}
 use mathlib.Core.Bool.{true}
 use mathlib.Core.List.{List}
-use Prim.Native.Nat.{ℕ, suc, _+_, _-_, _*_, _/_, _%_, _^_, _≤_, _<_}
+use Prim.Native.Nat.{ℕ, suc, _+_, _-_, _*_, _/_, _%_, _^_, _≤_}
 use native.Mathlib.Omega.{arith}
 use lib.ListN.{length}
 use borrow.Author.Tests.{leb-true}
 use Rattle.lists.specs.Lists.{splice}
 use Rattle.bits.specs.Bits.{field}
 use Rattle.reserve.specs.Reserve.{digits, reserve}
-use Rattle.reserve.proofs.Exact.{digits-le}
-use Rattle.reserve.proofs.Fit.{fit-all}
+use Rattle.reserve.proofs.Fit.{fit-all, grows}
 use Rattle.tree.specs.Read.{leftOf, leftAt, rightAt, counts}
 use Rattle.tree.specs.Exact.{exact}
 use Rattle.tree_decode.proofs.Decoding.{BothExact, both-exact, halves-written}
@@ -19,14 +18,13 @@ use Rattle.tree_decode.proofs.InWord.{Held, raised, word-exact, word-co
 -- as the code works them out: the left sum l, by the digits t of s
 pub record Top (h s w t l : ℕ) : Type 0 where
   pub code : exact (suc h) s (field 64 w) 0 ≡ true
-  pub few : s < 64
   pub whole : reserve (suc h) s ≤ 57
   pub digits-are : t ≡ digits s
   pub left : l ≡ w / 2 ^ (64 - (0 + t)) % 2 ^ t
 
 module _ {h s w t l : ℕ} (q : Top h s w t l) where
-  pub short : t ≤ 6
-  short = omega (arith, q .digits-are, digits-le s 6 (q .few))
+  pub short : t ≤ 57
+  short = omega (arith, q .digits-are, q .whole, fit-all h s 0 s (omega arith))
 
   left-is : leftOf s (field 64 w) 0 ≡ l
   left-is = left-at s w 0 0 t l refl (q .digits-are) (omega (arith, short)) (q .left)
@@ -39,6 +37,10 @@ module _ {h s w t l : ℕ} (q : Top h s w t l) where
 
   pub room : t + reserve h l + reserve h (s - l) ≤ 57
   room = omega (arith, q .digits-are, q .whole, left-le, fit-all h s l (s - l) (omega (arith, left-le)))
+
+  -- behind the left sum there is room for the reserve y of any sum x within s
+  pub behind : (x y : ℕ) → y ≡ reserve h x → x ≤ s → t + y ≤ 57
+  behind x y e k = omega (arith, q .digits-are, q .whole, grows h x s k, fit-all h s s 0 (omega arith))
 
   -- the word's bits behind the left sum, and those behind the left half, whose reserve is x
   left-held : Held (field 64 w) (leftAt s 0) h l ((w * 2 ^ t) % 2 ^ 64)

@@ -34,7 +34,7 @@ pub(crate) fn four(w: u64, s: u64, out: &mut [u32], from: usize)
 
 // The eight counts with sum s below 64, which own 38 bits at most. The right four stand behind the left sum and the left four, whose
 // reserve the row has.
-pub(crate) fn eight(w: u64, row: &[u8; 64], s: u64, out: &mut [u32], from: usize)
+fn eight(w: u64, row: &[u8; 64], s: u64, out: &mut [u32], from: usize)
     requires { ⌜ Fours (now row) × (exact 3 s (field 64 w) 0 ≡ true) × (s < 64) × (from + 8 ≤ length (now out)) ⌝ }
     ensures { λ _. ⌜ now (out .exit) ≡ splice (now (out .entry)) from (counts 3 s (field 64 w) 0) ⌝ }
 {
@@ -47,6 +47,18 @@ pub(crate) fn eight(w: u64, row: &[u8; 64], s: u64, out: &mut [u32], from: usize
         out,
         from + 4,
     );
+}
+
+// The eight counts with sum s up to 438, which own 57 bits at most. The left four's reserve is worked out: the row ends at 63.
+pub(crate) fn eight_wide(w: u64, s: u64, out: &mut [u32], from: usize)
+    requires { ⌜ (exact 3 s (field 64 w) 0 ≡ true) × (s < 439) × (from + 8 ≤ length (now out)) ⌝ }
+    ensures { λ _. ⌜ now (out .exit) ≡ splice (now (out .entry)) from (counts 3 s (field 64 w) 0) ⌝ }
+{
+    let t = digits_of(s);
+    let left = front::part(w, 0, t);
+    four(w << t, left, out, from);
+    let k = t + reserve_of(2, left) as u32;
+    four(w << k, s - left, out, from + 4);
 }
 
 // Whether a tree of 2^h counts with sum s is one of 16, 32 or 64 that own 57 bits at most. A sum one higher owns more.
@@ -62,14 +74,32 @@ pub(crate) fn fits(h: u32, s: u64) -> bool
     h == 6 && s < 13
 }
 
-// All 2^h counts with sum s, into zeros. A recursion in which h falls to 3 and which calls no empty half.
+// The sixteen counts with sum s, which own 57 bits at most, into zeros. An empty half is not called.
+fn sixteen(w: u64, row: &[u8; 64], s: u64, out: &mut [u32], from: usize)
+    requires { ⌜ Fours (now row) × Whole 4 s × (exact 4 s (field 64 w) 0 ≡ true) ⌝ }
+    requires { ⌜ (from + 16 ≤ length (now out)) × (part (now out) from 16 ≡ replicate 16 0) ⌝ }
+    ensures { λ _. ⌜ now (out .exit) ≡ splice (now (out .entry)) from (counts 4 s (field 64 w) 0) ⌝ }
+{
+    let t = digits_of(s);
+    let left = front::part(w, 0, t);
+    let right = s - left;
+    if left != 0 {
+        eight(w << t, row, left, out, from);
+    }
+    if right != 0 {
+        let k = t + reserve_of(3, left) as u32;
+        eight(w << k, row, right, out, from + 8);
+    }
+}
+
+// All 2^h counts with sum s, into zeros. A recursion in which h falls to 4 and which calls no empty half.
 pub(crate) fn in_word(w: u64, row: &[u8; 64], h: u32, s: u64, out: &mut [u32], from: usize)
     requires { ⌜ Fours (now row) × Whole h s × (exact h s (field 64 w) 0 ≡ true) ⌝ }
     requires { ⌜ (from + 2 ^ h ≤ length (now out)) × (part (now out) from (2 ^ h) ≡ replicate (2 ^ h) 0) ⌝ }
     ensures { λ _. ⌜ now (out .exit) ≡ splice (now (out .entry)) from (counts h s (field 64 w) 0) ⌝ }
 {
-    if h == 3 {
-        eight(w, row, s, out, from);
+    if h == 4 {
+        sixteen(w, row, s, out, from);
         return;
     }
     let down = h - 1;

@@ -4,7 +4,7 @@
 mod from_word;
 
 use bits_field::front;
-use from_word::eight;
+use from_word::eight_wide;
 use from_word::fits;
 use from_word::four;
 use from_word::in_word;
@@ -35,12 +35,12 @@ fn zeros(out: &mut [u32], from: usize, n: usize)
 
 // The lowest three levels: the eight counts with sum s at bit at. They come out of one word where it has all their bits, else each four
 // out of a word of their own.
-fn lowest(b: &[u8], row: &[u8; 64], at: usize, s: u64, out: &mut [u32], from: usize)
-    requires { ⌜ Lies (now b) at 3 s × (exact 3 s (bits (now b)) at ≡ true) × (s < 524288) × (from + 8 ≤ length (now out)) × Fours (now row) ⌝ }
+fn lowest(b: &[u8], at: usize, s: u64, out: &mut [u32], from: usize)
+    requires { ⌜ Lies (now b) at 3 s × (exact 3 s (bits (now b)) at ≡ true) × (s < 524288) × (from + 8 ≤ length (now out)) ⌝ }
     ensures { λ _. ⌜ now (out .exit) ≡ splice (now (out .entry)) from (counts 3 s (bits (now (b .entry))) at) ⌝ }
 {
-    if s < 64 {
-        eight(front::load(b, at), row, s, out, from);
+    if s < 439 {
+        eight_wide(front::load(b, at), s, out, from);
         return;
     }
     let r = root_by_shifts(b, at, 2, s);
@@ -59,7 +59,7 @@ fn decode_node(b: &&[u8], row: &[u8; 64], at: usize, h: u32, s: u64, out: &mut [
         return;
     }
     if h == 3 && s < 524288 {
-        lowest(*b, row, at, s, out, from);
+        lowest(*b, at, s, out, from);
         return;
     }
     if one_word(h, s) {

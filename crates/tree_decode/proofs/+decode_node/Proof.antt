@@ -165,7 +165,7 @@ decode-node-lowest-requires : (t : ℕ) → decode-node-lts.Need-lowest-requires
 decode-node-lowest-requires t c κs =
     let d = c .before .before in
     let k = eight-at t d in
-    (k .lies, k .code, ltb-true _ _ (d .if3 .taken), k .room, eight t d .pre .1 .1 .0)
+    (k .lies, k .code, ltb-true _ _ (d .if3 .taken), k .room)
 
 decode-node-same-length-2 : (t : ℕ) → decode-node-lts.Need-same-length-2 (callees t) (decode-node-at t) decode-node.Post
 decode-node-same-length-2 t c = search needs

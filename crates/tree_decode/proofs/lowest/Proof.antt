@@ -15,7 +15,7 @@ module _ (c : tie.After-load) where
   whole = c .before .before .before .before
 
   held : Held (bits (whole .args .b .now)) (whole .args .at) 3 (whole .args .s) (c .load .result)
-  held = loaded _ (whole .pre .0) (omega (arith, eight-fits (whole .args .s) (c .before .if1 .taken))) (c .load .ensures)
+  held = loaded _ (whole .pre .0) (eight-fits (whole .args .s) (omega arith)) (c .load .ensures)
 
 -- where the root was read
 module _ (c : tie.After-root-by-shifts) where
@@ -28,10 +28,10 @@ module _ (c : tie.After-root-by-shifts) where
 load-requires : tie.Need-load-requires
 load-requires c κs = search needs
 
-eight-requires : tie.Need-eight-requires
-eight-requires c κs =
+eight-wide-requires : tie.Need-eight-wide-requires
+eight-wide-requires c κs =
     let d = c .before in
-    (whole d .pre .4, word-exact (held d) (whole d .pre .1), d .before .if1 .taken, omega arith)
+    (word-exact (held d) (whole d .pre .1), omega arith, omega arith)
 
 same-length : tie.Need-same-length
 same-length c = search needs
@@ -39,7 +39,7 @@ same-length c = search needs
 returns : tie.Need-returns
 returns c =
     let d = c .before .before .before .before in
-    c .before .before .eight .ensures ∙ ap (splice (whole d .args .out .now) (whole d .args .from)) (word-counts (held d) (whole d .pre .1))
+    c .before .before .eight-wide .ensures ∙ ap (splice (whole d .args .out .now) (whole d .args .from)) (word-counts (held d) (whole d .pre .1))
 
 root-by-shifts-requires : tie.Need-root-by-shifts-requires
 root-by-shifts-requires c κs = c .before .before .before .pre .0
@@ -84,7 +84,7 @@ lowest-spec =
     tie.close
     (tie.spec
     load-requires
-    eight-requires
+    eight-wide-requires
     same-length
     returns
     root-by-shifts-requires

@@ -20,8 +20,7 @@ module _ (c : tie.After-part) where
   top =
       record {
         code = call .pre .1;
-        few = call .pre .2;
-        whole = omega (arith, eight-fits (call .args .s) (call .pre .2));
+        whole = eight-fits (call .args .s) (omega arith);
         digits-are = c .before .digits-of .ensures;
         left = c .part .ensures;
       }
@@ -32,7 +31,9 @@ module _ (c : tie.After-part) where
 
   -- a shift by any of its entries stays within the word
   within : (j : ℕ) → j < 64 → c .before .digits-of .result + getD (call .args .row .now) j 0 < 64
-  within j k = omega (arith, short top, call .pre .0 .entry j k, four-fits j (digits-le j 19 (omega arith)))
+  within j k =
+      let t = digits-le (call .args .s) 6 (call .pre .2) in
+      omega (arith, c .before .digits-of .ensures, call .pre .0 .entry j k, four-fits j (digits-le j 19 (omega arith)))
 
 digits-of-requires : tie.Need-digits-of-requires
 digits-of-requires c κs = search needs
