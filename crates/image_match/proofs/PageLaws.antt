@@ -1,24 +1,28 @@
 -- The page at the front, in the numbers that the code has. Assumes nothing.
 use mathlib.Core.Bool.{true}
 use mathlib.Core.List.{List}
-use mathlib.Core.Path.{_≡_, refl, ap, _∙_}
-use Prim.Native.Nat.{ℕ, _+_, _%_, _^_, _≤_, _<_}
-use native.Mathlib.Nat.{add-mod-right, zero-mod}
+use mathlib.Core.Path.{_≡_, ap, sym, _∙_}
+use Prim.Native.Nat.{ℕ, suc, _+_, _*_, _/_, _%_, _^_, _≤_, _<_}
+use native.Mathlib.Nat.{add-mod-right, mul-suc, zero-mod}
+use native.Mathlib.Decide.{decLe}
 use native.Mathlib.Omega.{arith}
 use lib.ListN.{length, getD, drop}
-use Rattle.lists.specs.Lists.{reading}
+use lib.Seq.{take-all}
+use Rattle.lists.specs.Lists.{reading, sum}
 use Rattle.lists.proofs.Sums.{sum-take-le}
 use Rattle.image.specs.Check.{accepted}
 use Rattle.image.specs.Code.Head.{HeadOf}
-use Rattle.image.specs.Read.{listOf}
+use Rattle.image.specs.Image.{page as pageAt, root}
+use Rattle.image.specs.Read.{eOf, listOf}
 use Rattle.image.specs.declared.head.Head.{Head}
 use Rattle.image.proofs.Accepted.{accepted-only, length-list}
+use Rattle.image.proofs.PageLaws.{hour-split, page-sum}
 use Rattle.image_cursor.specs.Code.Cursor.{Ahead, Ready}
 use Rattle.image_cursor.proofs.CursorLaws.{count-of, page-small as pages-small}
 use Rattle.runs.specs.Runs.{runSum}
 use Rattle.runs.proofs.PrefixSums.{reading-held, run-reading}
 use Rattle.image_match.specs.Code.Marks.{Marked}
-use Rattle.image_match.specs.Code.Page.{CountsOf, FrontPage, PageOf}
+use Rattle.image_match.specs.Code.Page.{CountsOf, FrontPage, Held, PageOf}
 use Rattle.image_match.specs.declared.page.Page.{Page}
 use Rattle.image_match.proofs.MarkLaws.{marked-of}
 
@@ -27,8 +31,8 @@ module _ (s : List ℕ) (a : accepted s ≡ true) {h : Head} (o : HeadOf s h) wh
   hours = omega (arith, length-list s, o .hours-is)
 
   -- the sum of a page is that of some hours
-  pub page-small : (page : Page) (marks : List ℕ) → PageOf (listOf s) page marks → page .sum ≤ 4294967295
-  page-small page marks g =
+  pub page-small : (page : Page) → PageOf (listOf s) page → page .sum ≤ 4294967295
+  page-small page g =
       omega (
         arith,
         run-reading (listOf s) (page .first) (page .hours),
@@ -37,38 +41,70 @@ module _ (s : List ℕ) (a : accepted s ≡ true) {h : Head} (o : HeadOf s h) wh
         accepted-only s a .limits .total,
       )
 
-  pub counts-small : (page : Page) (marks counts : List ℕ) → PageOf (listOf s) page marks → CountsOf (listOf s) page counts
+  pub counts-small : (page : Page) (counts : List ℕ) → PageOf (listOf s) page → CountsOf (listOf s) page counts
       → reading counts (page .hours) ≤ 4294967295
-  counts-small page marks counts g f = omega (arith, page-small page marks g, g .sum-is, f .readings (page .hours) (omega arith))
+  counts-small page counts g f = omega (arith, page-small page g, g .sum-is, f .readings (page .hours) (omega arith))
 
   -- ---- the page from an hour on, where pages meet
-  module _ (first n : ℕ) (counts : List ℕ) (l : first < h .hours) (z : first % 2 ^ h .e ≡ 0) (d : Ahead h first n) (r : Ready s first counts) where
-    pub held-long : n ≤ length counts
-    held-long = omega (arith, d .room, pages-small s o a, r .long)
+  module _ (first n : ℕ) (l : first < h .hours) (z : first % 2 ^ h .e ≡ 0) (d : Ahead h first n) where
+    abbrev p : ℕ
+    p = first / 2 ^ h .e
 
-    held : (k : ℕ) → k < n → getD counts k 0 ≡ getD (listOf s) (first + k) 0
-    held k m = count-of s o first k k counts (omega arith) l (omega (arith, d .room)) r
+    starts : 2 ^ h .e * p ≡ first
+    starts = omega (arith, hour-split (h .e) first)
 
-    held-readings : (k : ℕ) → k ≤ n → reading counts k ≡ runSum (listOf s) first k
-    held-readings = reading-held (listOf s) counts first n held-long (omega (arith, d .inside, hours)) held
+    -- behind its last hour that is logged zeros alone are in the page
+    ends : reading (listOf s) (2 ^ h .e * suc p) ≡ reading (listOf s) (first + n)
+    ends = go (decLe (h .hours) (first + n))
+      where
+        next : 2 ^ h .e * suc p ≡ first + 2 ^ h .e
+        next = omega (arith, mul-suc (2 ^ h .e) p, starts)
 
-    pub held-small : reading counts n ≤ 4294967295
-    held-small =
-        omega
-        (arith, held-readings n (omega arith), run-reading (listOf s) first n, sum-take-le (first + n) (listOf s), accepted-only s a .limits .total)
+        go : Dec (h .hours ≤ first + n) → reading (listOf s) (2 ^ h .e * suc p) ≡ reading (listOf s) (first + n)
+        go (yes m) =
+            ap sum
+            (take-all (2 ^ h .e * suc p) (listOf s) (omega (arith, next, hours, d .inside, d .room))
+            ∙ sym (take-all (first + n) (listOf s) (omega (arith, hours))))
+        go (no m) =
+            let f : 2 ^ h .e * suc p ≡ first + n = omega (arith, next, z, d .whole (omega arith)) in
+            ap (reading (listOf s)) f
 
-    pub front-page-is : (t stamp : ℕ) (marks : List ℕ) → t ≡ reading counts n → Marked counts n stamp marks
-        → FrontPage s h first (record { first = first; hours = n; sum = t; stamp = stamp }) counts marks
-    front-page-is t stamp marks e m = record {
-      first-is = refl;
+    pub front-page-is : (t stamp : ℕ) → t ≡ sum (pageAt (eOf s) (listOf s) p)
+        → FrontPage s h (record { first = first; hours = n; sum = t; stamp = stamp })
+    unfolding root
+    front-page-is t stamp e = record {
+      logged = l;
+      meets = z;
       whole = d;
       page-is = record {
         inside = omega (arith, d .inside, hours);
-        sum-is = e ∙ held-readings n (omega arith);
-        marked = marked-of counts (drop first (listOf s)) n stamp marks held-readings m;
+        sum-is =
+            let f : t ≡ sum (pageAt (h .e) (listOf s) p) = e ∙ ap (λ (y : ℕ). sum (pageAt y (listOf s) p)) (sym (o .e-is)) in
+            omega (arith, page-sum (h .e) (listOf s) p, ends, run-reading (listOf s) first n, ap (reading (listOf s)) starts);
       };
-      counts-are = record { long = held-long; readings = held-readings };
-      long = r .long;
+    }
+
+  -- its counts read, and their sums marked
+  module _ (page : Page) (counts : List ℕ) (g : FrontPage s h page) (r : Ready s (page .first) counts) where
+    pub held-long : page .hours ≤ length counts
+    held-long = omega (arith, g .whole .room, pages-small s o a, r .long)
+
+    held : (k : ℕ) → k < page .hours → getD counts k 0 ≡ getD (listOf s) (page .first + k) 0
+    held k m = count-of s o (page .first) k k counts (omega arith) (omega arith) (omega (arith, g .whole .room)) r
+
+    held-readings : (k : ℕ) → k ≤ page .hours → reading counts k ≡ runSum (listOf s) (page .first) k
+    held-readings = reading-held (listOf s) counts (page .first) (page .hours) held-long (g .page-is .inside) held
+
+    held-counts : CountsOf (listOf s) page counts
+    held-counts = record { long = held-long; readings = held-readings }
+
+    pub held-small : reading counts (page .hours) ≤ 4294967295
+    held-small = counts-small page counts (g .page-is) held-counts
+
+    pub held-page : (marks : List ℕ) → Marked counts (page .hours) (page .stamp) marks → Held (listOf s) page counts marks
+    held-page marks m = record {
+      counts-are = held-counts;
+      marked = marked-of counts (drop (page .first) (listOf s)) (page .hours) (page .stamp) marks held-readings m;
     }
 
 -- ---- where pages meet, or the list ends
@@ -79,10 +115,10 @@ pub record Border (h : Head) (first : ℕ) : Type 0 where
 pub border-first : (h : Head) → Border h 0
 border-first h = record { inside = omega arith; meets = λ l. zero-mod (2 ^ h .e) }
 
-pub border-next : (h : Head) (first n : ℕ) → first < h .hours → Border h first → Ahead h first n → Border h (first + n)
-border-next h first n l b d = record {
-  inside = d .inside;
-  meets = λ (m : first + n < h .hours).
-      let e : n ≡ 2 ^ h .e = omega (arith, d .whole m, b .meets l) in
-      ap (λ (z : ℕ). (first + z) % 2 ^ h .e) e ∙ add-mod-right first (2 ^ h .e) ∙ b .meets l;
+pub border-next : (s : List ℕ) (h : Head) (first : ℕ) (page : Page) → page .first ≡ first → FrontPage s h page → Border h (first + page .hours)
+border-next s h first page q g = record {
+  inside = omega (arith, g .whole .inside);
+  meets = λ (m : first + page .hours < h .hours).
+      let e : page .hours ≡ 2 ^ h .e = omega (arith, g .whole .whole (omega arith), g .meets) in
+      ap (λ (z : ℕ). (first + z) % 2 ^ h .e) e ∙ add-mod-right first (2 ^ h .e) ∙ ap (λ (z : ℕ). z % 2 ^ h .e) (sym q) ∙ g .meets;
 }

@@ -13,7 +13,7 @@ use Rattle.image_cursor.specs.Code.Cursor.{Ahead, Ready}
 use Rattle.image_cursor.proofs.CursorLaws.{count-of, place-in}
 use Rattle.runs.specs.Code.{Passed}
 use Rattle.image_match.specs.Code.Marks.{Unmarked}
-use Rattle.image_match.specs.Code.Page.{PageOf}
+use Rattle.image_match.specs.Code.Page.{MarksOf, PageOf}
 use Rattle.image_match.specs.Code.Seek.{Later, Seeks}
 use Rattle.image_match.specs.declared.seek.Aim.{Aim}
 use Rattle.image_match.specs.declared.page.Page.{Page}
@@ -71,8 +71,8 @@ module _ (s : List ℕ) (a : accepted s ≡ true) {h : Head} (o : HeadOf s h) (l
           inside = omega arith;
         }
 
-    pub passing-on : (marks : List ℕ) → PageOf (listOf s) page marks → i < n → want + getD back (p + i) 0 ≤ page .sum
+    pub passing-on : (marks : List ℕ) → PageOf (listOf s) page → MarksOf (listOf s) page marks → i < n → want + getD back (p + i) 0 ≤ page .sum
         → Unmarked marks (page .stamp) (want + getD back (p + i) 0) → Passing (listOf s) q page lo (i + 1) (want + getD back (p + i) 0)
-    passing-on marks g l m u =
+    passing-on marks g v l m u =
         let x = ends-here l .seeks in
-        (x, m, over-unmarked (listOf s) q page marks g _ x m u)
+        (x, m, over-unmarked (listOf s) q page g _ x m marks v u)

@@ -11,7 +11,7 @@ use Rattle.runs.specs.Runs.{FirstMatch, NoMatch, runSum}
 use Rattle.runs.proofs.MatchLaws.{passed-first, passed-found, passed-none, passed-on}
 use Rattle.runs.proofs.PrefixSums.{reading-grows, reading-next, run-reading}
 use Rattle.image_match.specs.Code.Marks.{Marked, Unmarked}
-use Rattle.image_match.specs.Code.Page.{CountsOf, PageOf}
+use Rattle.image_match.specs.Code.Page.{CountsOf, Held, MarksOf, PageOf}
 use Rattle.image_match.specs.Code.Part.{Looked}
 use Rattle.image_match.specs.Code.Seek.{Seeks}
 use Rattle.image_match.specs.declared.seek.Aim.{Aim}
@@ -46,12 +46,11 @@ module _ (xs : List ℕ) (q first : ℕ) (at : Aim) (w : Seeks xs q first at) wh
   seeks-none e = passed-none xs q (at .lo) (w .passed) (omega (arith, w .wants, w .some, ap (reading xs) e))
 
 -- ---- the search in a page
-pub counts-marked : (xs : List ℕ) (page : Page) (marks counts : List ℕ) → PageOf xs page marks → CountsOf xs page counts
-    → Marked counts (page .hours) (page .stamp) marks
-counts-marked xs page marks counts g f =
-    marked-of (drop (page .first) xs) counts (page .hours) (page .stamp) marks (λ k l. sym (f .readings k l)) (g .marked)
+pub counts-marked : (xs : List ℕ) (page : Page) (counts marks : List ℕ) → Held xs page counts marks → Marked counts (page .hours) (page .stamp) marks
+counts-marked xs page counts marks g =
+    marked-of (drop (page .first) xs) counts (page .hours) (page .stamp) marks (λ k l. sym (g .counts-are .readings k l)) (g .marked)
 
-module _ (xs : List ℕ) (q : ℕ) (page : Page) (marks : List ℕ) (g : PageOf xs page marks) (at : Aim) (w : Seeks xs q (page .first) at) where
+module _ (xs : List ℕ) (q : ℕ) (page : Page) (g : PageOf xs page) (at : Aim) (w : Seeks xs q (page .first) at) where
   behind : reading xs (page .first + page .hours) ≡ reading xs (page .first) + page .sum
   behind = omega (arith, run-reading xs (page .first) (page .hours), g .sum-is)
 
@@ -95,8 +94,8 @@ module _ (xs : List ℕ) (q : ℕ) (page : Page) (marks : List ℕ) (g : PageOf 
         go m e (no d) (no c) = within m e (omega arith) (m - page .first) (omega arith) (omega arith)
 
     -- there is no mark of it
-    pub over-unmarked : Unmarked marks (page .stamp) (at .want) → Passed xs q (at .lo + 1)
-    over-unmarked u = over (λ k a b e. u (drop (page .first) xs) (page .hours) (g .marked) k a b e)
+    pub over-unmarked : (marks : List ℕ) → MarksOf xs page marks → Unmarked marks (page .stamp) (at .want) → Passed xs q (at .lo + 1)
+    over-unmarked marks m u = over (λ k a b e. u (drop (page .first) xs) (page .hours) m k a b e)
 
     module _ (counts : List ℕ) (f : CountsOf xs page counts) (r : Part) (p : Looked counts (page .hours) (at .want) r) where
       -- it was looked for, and not found

@@ -7,10 +7,10 @@ ghost use lib.ListN.{length};
 ghost use Rattle.lists.specs.Lists.{reading};
 ghost use Rattle.image_match.specs.Code.Marks.{Marked, Unmarked};
 
-// Marks the sums of n counts, and adds these up.
-pub(crate) fn mark(counts: &[u32], n: usize, stamp: u8, marks: &mut [u8]) -> u64
+// Marks the sums of n counts.
+pub(crate) fn mark(counts: &[u32], n: usize, stamp: u8, marks: &mut [u8])
     requires { ⌜ (n ≤ length (now counts)) × (reading (now counts) n ≤ 4294967295) × (length (now marks) ≡ 2048) ⌝ }
-    ensures { λ r. ⌜ (r ≡ reading (now (counts .entry)) n) × Marked (now (counts .entry)) n stamp (now (marks .exit)) ⌝ }
+    ensures { λ _. ⌜ Marked (now (counts .entry)) n stamp (now (marks .exit)) ⌝ }
 {
     let mut sum = 0;
     let mut i = 0;
@@ -19,7 +19,6 @@ pub(crate) fn mark(counts: &[u32], n: usize, stamp: u8, marks: &mut [u8]) -> u64
         marks[(sum % 2048) as usize] = stamp;
         i = i + 1;
     }
-    sum
 }
 
 // Whether there is a mark at the place of a sum.

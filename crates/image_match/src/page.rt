@@ -1,15 +1,17 @@
-// The page at the front, where runs may end: read, and its sums marked.
+// The page at the front, where runs may end: its sum, by its root; and its counts read, and their sums marked.
 use crate::marks::mark;
 use image::head::Head;
 use image_cursor::cursor::ahead;
 use image_cursor::cursor::read_page;
+use image_page::page_sum;
 ghost use mathlib.Core.Bool.{true};
 ghost use mathlib.Core.Path.{_≡_};
 ghost use Prim.Native.Nat.{_%_, _^_, _<_};
 ghost use lib.ListN.{length};
 ghost use Rattle.image.specs.Check.{accepted};
 ghost use Rattle.image.specs.Code.Head.{HeadOf};
-ghost use Rattle.image_match.specs.Code.Page.{FrontPage};
+ghost use Rattle.image.specs.Read.{listOf};
+ghost use Rattle.image_match.specs.Code.Page.{FrontPage, Held};
 
 // Its first hour, how many it has and their sum, and the stamp of its marks.
 pub struct Page {
@@ -19,27 +21,30 @@ pub struct Page {
     pub stamp: u8,
 }
 
-// Reads the page whose first hour this is, and marks its sums. Stamps come again after 255 pages: one of old does no harm, and none has to be
+// The page whose first hour this is. None of its counts is read. Stamps come again after 255 pages: one of old does no harm, and none has to be
 // taken away.
-pub(crate) fn front_page(
-    s: &[u8],
-    h: Head,
-    first: u64,
-    counts: &mut [u32],
-    marks: &mut [u8],
-) -> Page
+pub(crate) fn front_page(s: &[u8], h: Head, first: u64) -> Page
     requires { ⌜ (accepted (now s) ≡ true) × HeadOf (now s) h × (first < h .hours) × (first % 2 ^ h .e ≡ 0) ⌝ }
-    requires { ⌜ (length (now counts) ≡ 256) × (length (now marks) ≡ 2048) ⌝ }
-    ensures { λ r. ⌜ FrontPage (now (s .entry)) h first r (now (counts .exit)) (now (marks .exit)) ⌝ }
+    ensures { λ r. ⌜ (r .first ≡ first) × FrontPage (now (s .entry)) h r ⌝ }
 {
-    read_page(s, h, first, counts);
+    let p = first >> h.e;
     let hours = ahead(h, first);
-    let stamp = ((first >> h.e) % 255 + 1) as u8;
-    let sum = mark(counts, hours, stamp, marks);
+    let sum = page_sum(s, h, p as usize);
+    let stamp = (p % 255 + 1) as u8;
     Page {
         first,
         hours,
         sum,
         stamp,
     }
+}
+
+// Reads the page's counts, and marks their sums.
+pub(crate) fn mark_page(s: &[u8], h: Head, page: Page, counts: &mut [u32], marks: &mut [u8])
+    requires { ⌜ (accepted (now s) ≡ true) × HeadOf (now s) h × FrontPage (now s) h page ⌝ }
+    requires { ⌜ (length (now counts) ≡ 256) × (length (now marks) ≡ 2048) ⌝ }
+    ensures { λ _. ⌜ Held (listOf (now (s .entry))) page (now (counts .exit)) (now (marks .exit)) ⌝ }
+{
+    read_page(s, h, page.first, counts);
+    mark(counts, page.hours, page.stamp, marks);
 }

@@ -4,6 +4,7 @@
 use crate::marks::carries;
 use crate::page::Page;
 use crate::page::front_page;
+use crate::page::mark_page;
 use crate::part::Part;
 use crate::part::look;
 use answers::image::Bag;
@@ -15,12 +16,13 @@ use image_cursor::cursor::turn;
 ghost use mathlib.Core.Bool.{true};
 ghost use mathlib.Core.Path.{_≡_};
 ghost use Prim.Native.Nat.{_+_, _≤_};
+ghost use lib.ListN.{length};
 ghost use Rattle.image.specs.Check.{accepted};
 ghost use Rattle.image.specs.Code.Head.{HeadOf};
 ghost use Rattle.image.specs.Read.{listOf};
 ghost use Rattle.image_cursor.specs.Code.Cursor.{Ready};
 ghost use Rattle.runs.specs.Code.{Passed};
-ghost use Rattle.image_match.specs.Code.Page.{CountsOf, PageOf};
+ghost use Rattle.image_match.specs.Code.Page.{FrontPage, Held, MarksOf, PageOf};
 ghost use Rattle.image_match.specs.Code.Seek.{Brings, Finds, Later, Seeks};
 
 // The first hour of the runs that are tried, and how many coins more than before the page at the front are wanted where one of them ends.
@@ -38,9 +40,9 @@ pub enum Sought {
 // Passes over hour lo, and over the next ones of its page, which back has, until the coins that one wants may be met in the page at the front,
 // or are more than this has.
 fn pass(s: &[u8], h: Head, q: u64, page: Page, at: Aim, marks: &[u8], back: &[u32]) -> Aim
-    requires { ⌜ (accepted (now s) ≡ true) × HeadOf (now s) h × (1 ≤ q) × PageOf (listOf (now s)) page (now marks) ⌝ }
+    requires { ⌜ (accepted (now s) ≡ true) × HeadOf (now s) h × (1 ≤ q) × PageOf (listOf (now s)) page ⌝ }
     requires { ⌜ Seeks (listOf (now s)) q (page .first) at × (at .want ≤ page .sum) × Passed (listOf (now s)) q (at .lo + 1) ⌝ }
-    requires { ⌜ Ready (now s) (at .lo) (now back) ⌝ }
+    requires { ⌜ Ready (now s) (at .lo) (now back) × MarksOf (listOf (now s)) page (now marks) ⌝ }
     ensures { λ r. ⌜ Later (listOf (now (s .entry))) h q (page .first) at r ⌝ }
 {
     let b = low_bits(at.lo, h.e) as usize;
@@ -75,7 +77,7 @@ fn seek(
     back: &mut [u32],
 ) -> Sought
     requires { ⌜ (accepted (now s) ≡ true) × HeadOf (now s) h × (1 ≤ q) ⌝ }
-    requires { ⌜ PageOf (listOf (now s)) page (now marks) × CountsOf (listOf (now s)) page (now front) ⌝ }
+    requires { ⌜ PageOf (listOf (now s)) page × Held (listOf (now s)) page (now front) (now marks) ⌝ }
     requires { ⌜ Seeks (listOf (now s)) q (page .first) from × Ready (now s) (from .lo) (now back) ⌝ }
     ensures { λ r. ⌜ Brings (now (s .entry)) q page (now (back .exit)) r ⌝ }
 {
@@ -93,6 +95,30 @@ fn seek(
     Sought::Beyond(at)
 }
 
+// The search in the page at the front, which is not read yet. Where it has fewer coins than are wanted, no run from hour lo or a later one on
+// ends in it: that is known by its sum alone, and its counts need not be decoded.
+fn visit(
+    s: &[u8],
+    h: Head,
+    q: u64,
+    page: Page,
+    at: Aim,
+    front: &mut [u32],
+    marks: &mut [u8],
+    back: &mut [u32],
+) -> Sought
+    requires { ⌜ (accepted (now s) ≡ true) × HeadOf (now s) h × (1 ≤ q) × FrontPage (now s) h page ⌝ }
+    requires { ⌜ (length (now front) ≡ 256) × (length (now marks) ≡ 2048) ⌝ }
+    requires { ⌜ Seeks (listOf (now s)) q (page .first) at × Ready (now s) (at .lo) (now back) ⌝ }
+    ensures { λ r. ⌜ Brings (now (s .entry)) q page (now (back .exit)) r ⌝ }
+{
+    if page.sum < at.want {
+        return Sought::Beyond(at);
+    }
+    mark_page(s, h, page, front, marks);
+    seek(s, h, q, page, at, front, marks, back)
+}
+
 // The first hours with sum q, of these the fewest.
 pub(crate) fn find(s: &[u8], h: Head, q: u64) -> Bag
     requires { ⌜ (accepted (now s) ≡ true) × HeadOf (now s) h × (1 ≤ q) ⌝ }
@@ -105,8 +131,8 @@ pub(crate) fn find(s: &[u8], h: Head, q: u64) -> Bag
     let mut at = Aim { lo: 0, want: q };
     let mut first = 0;
     while first < h.hours {
-        let page = front_page(s, h, first, &mut front, &mut marks);
-        match seek(s, h, q, page, at, &front, &marks, &mut back) {
+        let page = front_page(s, h, first);
+        match visit(s, h, q, page, at, &mut front, &mut marks, &mut back) {
             Sought::Found(lo, hours) => {
                 return Bag::Run(lo, hours);
             }

@@ -1,7 +1,7 @@
 -- The page at the front, where runs may end. Assumes nothing.
 use mathlib.Core.List.{List}
 use mathlib.Core.Path.{_≡_}
-use Prim.Native.Nat.{ℕ, _+_, _≤_}
+use Prim.Native.Nat.{ℕ, _+_, _%_, _^_, _≤_, _<_}
 use lib.ListN.{length, drop}
 use Rattle.lists.specs.Lists.{reading}
 use Rattle.image.specs.Read.{listOf}
@@ -11,21 +11,28 @@ use Rattle.runs.specs.Runs.{runSum}
 use Rattle.image_match.specs.Code.Marks.{Marked}
 use Rattle.image_match.specs.declared.page.Page.{Page}
 
--- a page of the list: its hours, their sum, and the marks of their sums
-pub record PageOf (xs : List ℕ) (page : Page) (marks : List ℕ) : Type 0 where
+-- a page of the list: its hours and their sum
+pub record PageOf (xs : List ℕ) (page : Page) : Type 0 where
   pub inside : page .first + page .hours ≤ length xs
   pub sum-is : page .sum ≡ runSum xs (page .first) (page .hours)
-  pub marked : Marked (drop (page .first) xs) (page .hours) (page .stamp) marks
+
+-- a table with the marks of its sums
+abbrev pub MarksOf : List ℕ → Page → List ℕ → Type 0
+MarksOf xs page marks = Marked (drop (page .first) xs) (page .hours) (page .stamp) marks
 
 -- an array that holds the page's counts
 pub record CountsOf (xs : List ℕ) (page : Page) (counts : List ℕ) : Type 0 where
   pub long : page .hours ≤ length counts
   pub readings : (k : ℕ) → k ≤ page .hours → reading counts k ≡ runSum xs (page .first) k
 
--- the page from an hour on, in an array and a table of marks
-pub record FrontPage (s : List ℕ) (h : Head) (first : ℕ) (page : Page) (counts marks : List ℕ) : Type 0 where
-  pub first-is : page .first ≡ first
-  pub whole : Ahead h first (page .hours)
-  pub page-is : PageOf (listOf s) page marks
-  pub counts-are : CountsOf (listOf s) page counts
-  pub long : length counts ≡ 256
+-- a page of the image: it starts with an hour that is logged, where pages meet, and has all from there on
+pub record FrontPage (s : List ℕ) (h : Head) (page : Page) : Type 0 where
+  pub logged : page .first < h .hours
+  pub meets : page .first % 2 ^ h .e ≡ 0
+  pub whole : Ahead h (page .first) (page .hours)
+  pub page-is : PageOf (listOf s) page
+
+-- the page in an array and a table of marks
+pub record Held (xs : List ℕ) (page : Page) (counts marks : List ℕ) : Type 0 where
+  pub counts-are : CountsOf xs page counts
+  pub marked : MarksOf xs page marks

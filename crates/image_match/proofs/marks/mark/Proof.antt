@@ -52,7 +52,7 @@ returns c =
     let l = c .before .loop in
     let a = c .before .before .args in
     let e : l .i ≡ a .n = omega (arith, l .inv .0, c .loop-test .left) in
-    subst (λ (z : ℕ). Marking (a .counts .now) z (a .stamp) (l .marks) (l .sum)) e (l .inv .1)
+    subst (λ (z : ℕ). Marking (a .counts .now) z (a .stamp) (l .marks) (l .sum)) e (l .inv .1) .1
 
 pub mark-spec : {M : Type 1} → statement M
 mark-spec =

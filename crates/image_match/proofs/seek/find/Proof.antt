@@ -30,78 +30,72 @@ loop-holds c =
     let a = c .before .before .before .before in
     (border-first _, seeks-first _ _ (a .pre .2), c .before .read-page .ensures, refl, refl)
 
-slice-aggregate-front-page : tie.Need-slice-aggregate-front-page Inv-loop μ-loop
-slice-aggregate-front-page c = search needs
-
-slice-aggregate-front-page-2 : tie.Need-slice-aggregate-front-page-2 Inv-loop μ-loop
-slice-aggregate-front-page-2 c = search needs
-
 front-page-requires : tie.Need-front-page-requires Inv-loop μ-loop
 front-page-requires c κs =
-    let b = c .before .before .before .before in
+    let b = c .before .before in
     let a = b .before .before .before .before .before .pre in
-    let l = c .before .before .if1 .taken in
-    ((a .0, a .1, l, b .loop .inv .0 .meets l), (b .loop .inv .3, b .loop .inv .4))
+    let l = c .if1 .taken in
+    (a .0, a .1, l, b .loop .inv .0 .meets l)
 
-slice-aggregate-seek : tie.Need-slice-aggregate-seek Inv-loop μ-loop
-slice-aggregate-seek c = search needs
+slice-aggregate-visit : tie.Need-slice-aggregate-visit Inv-loop μ-loop
+slice-aggregate-visit c = search needs
 
-slice-aggregate-seek-2 : tie.Need-slice-aggregate-seek-2 Inv-loop μ-loop
-slice-aggregate-seek-2 c = search needs
+slice-aggregate-visit-2 : tie.Need-slice-aggregate-visit-2 Inv-loop μ-loop
+slice-aggregate-visit-2 c = search needs
 
-slice-aggregate-seek-3 : tie.Need-slice-aggregate-seek-3 Inv-loop μ-loop
-slice-aggregate-seek-3 c = search needs
+slice-aggregate-visit-3 : tie.Need-slice-aggregate-visit-3 Inv-loop μ-loop
+slice-aggregate-visit-3 c = search needs
 
-seek-requires : tie.Need-seek-requires Inv-loop μ-loop
-seek-requires c κs =
-    let b = c .before .before .before .before .before .before .before .before .before .before in
+visit-requires : tie.Need-visit-requires Inv-loop μ-loop
+visit-requires c κs =
+    let b = c .before .before .before .before .before .before in
     let a = b .before .before .before .before .before .pre in
-    let f = c .before .before .before .before .before .front-page .ensures in
-    (a, ((f .page-is, f .counts-are), (seeks-as _ _ _ _ _ (f .first-is) (b .loop .inv .1), b .loop .inv .2)))
+    let f = c .before .before .before .front-page .ensures in
+    ((a .0, a .1, a .2, f .1), ((b .loop .inv .3, b .loop .inv .4), (seeks-as _ _ _ _ _ (f .0) (b .loop .inv .1), b .loop .inv .2)))
 
 enum-known-lo : tie.Need-enum-known-lo Inv-loop μ-loop
 enum-known-lo c = search needs
 
 returns : tie.Need-returns Inv-loop μ-loop
 returns c =
-    let a = c .before .before .before .before .before .before .before .before .before .before .before .before .before .before .before .before .before .before .before .before .args in
+    let a = c .before .before .before .before .before .before .before .before .before .before .before .before .before .before .before .before .before .before .args in
     let f = c .before .before .before .before .before .before .before .before .before .before .front-page .result in
-    subst (Brings (a .s .now) (a .q) f _) (c .before .lo .given .1) (c .before .before .before .before .seek .ensures)
+    subst (Brings (a .s .now) (a .q) f _) (c .before .lo .given .1) (c .before .before .before .before .before .before .visit .ensures)
 
 enum-known-next : tie.Need-enum-known-next Inv-loop μ-loop
 enum-known-next c = search needs
 
-sub-t28 : tie.Need-sub-t28 Inv-loop μ-loop
-sub-t28 c =
-    let a = c .before .before .before .before .before .before .before .before .before .before .before .before .before .before .before .before .before .before .before .before .before .before .args in
-    let f = c .before .before .before .before .before .before .before .before .before .before .before .before .front-page in
-    let x = subst (Brings (a .s .now) (a .q) (f .result) _) (c .before .before .before .next .given .1) (c .before .before .before .before .before .before .seek .ensures) in
+sub-t24 : tie.Need-sub-t24 Inv-loop μ-loop
+sub-t24 c =
+    let a = c .before .before .before .before .before .before .before .before .before .before .before .before .before .before .before .before .before .before .before .before .args in
+    let f = c .before .before .before .before .before .before .before .before .before .before .before .before .front-page .result in
+    let x = subst (Brings (a .s .now) (a .q) f _) (c .before .before .before .next .given .1) (c .before .before .before .before .before .before .before .before .visit .ensures) in
     omega (arith, x .1)
 
 add-first : tie.Need-add-first Inv-loop μ-loop
 add-first c =
-    let a = c .before .before .before .before .before .before .before .before .before .before .before .before .before .before .before .before .before .before .before .before .before .before .pre in
-    let w = c .before .before .before .before .before .before .before .before .before .before .before .before .front-page .ensures .whole in
-    record { fits = omega (arith, w .inside, a .1 .hours-small) }
+    let a = c .before .before .before .before .before .before .before .before .before .before .before .before .before .before .before .before .before .before .before .before .pre in
+    let f = c .before .before .before .before .before .before .before .before .before .before .before .before .front-page .ensures in
+    record { fits = omega (arith, f .0, f .1 .whole .inside, a .1 .hours-small) }
 
 loop-less : tie.Need-loop-less Inv-loop μ-loop
 loop-less c =
-    let w = c .before .before .before .before .before .before .before .before .before .before .before .before .front-page .ensures .whole in
-    omega (arith, w .some (c .before .before .before .before .before .before .before .before .before .before .before .before .before .before .before .if1 .taken), w .inside)
+    let f = c .before .before .before .before .before .before .before .before .before .before .before .before .front-page .ensures in
+    omega (arith, f .0, f .1 .whole .some (f .1 .logged), f .1 .whole .inside)
 
 loop-again : tie.Need-loop-again Inv-loop μ-loop
 loop-again c =
-    let b = c .before .before .before .before .before .before .before .before .before .before .before .before .before .before .before .before .before in
+    let b = c .before .before .before .before .before .before .before .before .before .before .before .before .before .before .before in
     let a = b .before .before .before .before .before .args in
     let f = c .before .before .before .before .before .before .before .before .before .before .before .before .front-page in
     let g = f .ensures in
-    let e = ap (λ (z : ℕ). z + f .result .hours) (sym (g .first-is)) in
-    let x = subst (Brings (a .s .now) (a .q) (f .result) _) (c .before .before .before .next .given .1) (c .before .before .before .before .before .before .seek .ensures) in (
-      border-next _ _ _ (c .before .before .before .before .before .before .before .before .before .before .before .before .before .before .before .if1 .taken) (b .loop .inv .0) (g .whole),
-      seeks-as _ _ _ _ _ e (seeks-beyond _ _ _ _ (g .page-is) _ (x .0) (x .1)),
+    let e = ap (λ (z : ℕ). z + f .result .hours) (sym (g .0)) in
+    let x = subst (Brings (a .s .now) (a .q) (f .result) _) (c .before .before .before .next .given .1) (c .before .before .before .before .before .before .before .before .visit .ensures) in (
+      border-next _ _ _ _ (g .0) (g .1),
+      seeks-as _ _ _ _ _ e (seeks-beyond _ _ _ (g .1 .page-is) _ (x .0) (x .1)),
       x .2,
-      g .long,
-      g .page-is .marked .long,
+      omega (arith, b .loop .inv .3),
+      omega (arith, b .loop .inv .4),
     )
 
 returns-2 : tie.Need-returns-2 Inv-loop μ-loop
@@ -119,17 +113,15 @@ find-spec =
     slice-aggregate-read-page
     read-page-requires
     loop-holds
-    slice-aggregate-front-page
-    slice-aggregate-front-page-2
     front-page-requires
-    slice-aggregate-seek
-    slice-aggregate-seek-2
-    slice-aggregate-seek-3
-    seek-requires
+    slice-aggregate-visit
+    slice-aggregate-visit-2
+    slice-aggregate-visit-3
+    visit-requires
     enum-known-lo
     returns
     enum-known-next
-    sub-t28
+    sub-t24
     add-first
     loop-less
     loop-again

@@ -52,7 +52,7 @@ shared-slice-read-want c =
     let b = c .before .before in
     let a = b .before .before .before .before .before .before .pre in
     let p = place-here _ (a .0 .0) (a .0 .1) _ _ _ (b .before .ahead .ensures) (b .before .before .low-bits .ensures) _ (c .before .loop-test .taken) in
-    omega (arith, p, a .1 .1 .long)
+    omega (arith, p, a .1 .1 .0 .long)
 
 cast-want : tie.Need-cast-want Inv-loop μ-loop
 cast-want c =
@@ -64,7 +64,7 @@ add-want-2 c =
     let b = c .before .before in
     let a = b .before .before .before .before .before .before .pre .0 in
     let v = c .shared-slice-known4 .given (b .before .before .low-bits .result + b .loop .i) in
-    record { fits = omega (arith, v, b .loop .inv .1 .1, page-small _ (a .0) (a .1) _ _ (a .3)) }
+    record { fits = omega (arith, v, b .loop .inv .1 .1, page-small _ (a .0) (a .1) _ (a .3)) }
 
 add-i : tie.Need-add-i Inv-loop μ-loop
 add-i c = search needs
@@ -72,7 +72,7 @@ add-i c = search needs
 carries-requires : tie.Need-carries-requires Inv-loop μ-loop
 carries-requires c κs =
     let b = c .before .before .before .before in
-    b .before .before .before .before .before .before .pre .0 .3 .marked .long
+    b .before .before .before .before .before .before .pre .1 .1 .1 .long
 
 loop-less : tie.Need-loop-less Inv-loop μ-loop
 loop-less c = search needs
@@ -87,7 +87,7 @@ loop-again c =
     let l = c .before .before .before .before .before .loop-test .taken in
     let u = c .before .carries .ensures (c .if2 .left) in (
       omega (arith, l),
-      passing-on _ (a .0 .0) (a .0 .1) _ _ _ k m _ (g .args .page) _ (a .1 .1) _ _ (b .loop .inv .1) _ (a .0 .3) l (c .before .before .if1 .left) u,
+      passing-on _ (a .0 .0) (a .0 .1) _ _ _ k m _ (g .args .page) _ (a .1 .1 .0) _ _ (b .loop .inv .1) _ (a .0 .3) (a .1 .1 .1) l (c .before .before .if1 .left) u,
     )
 
 returns : tie.Need-returns Inv-loop μ-loop
@@ -98,9 +98,9 @@ returns c =
     let k = b .before .ahead .ensures in
     let m = b .before .before .low-bits .ensures in
     let v = b .loop .inv in
-    let f = first-low _ _ _ _ (a .0 .3) _ (a .1 .0 .0) (a .1 .0 .1) (a .0 .2) in
-    let y = ends-all _ (a .0 .0) (a .0 .1) _ _ _ k m _ (g .args .page) _ (a .1 .1) _ _ (v .1) f (v .0) in
-    let n = ends-here _ (a .0 .0) (a .0 .1) _ _ _ k m _ (g .args .page) _ (a .1 .1) _ _ (v .1) in
+    let f = first-low _ _ _ (a .0 .3) _ (a .1 .0 .0) (a .1 .0 .1) (a .0 .2) in
+    let y = ends-all _ (a .0 .0) (a .0 .1) _ _ _ k m _ (g .args .page) _ (a .1 .1 .0) _ _ (v .1) f (v .0) in
+    let n = ends-here _ (a .0 .0) (a .0 .1) _ _ _ k m _ (g .args .page) _ (a .1 .1 .0) _ _ (v .1) in
     later-of _ _ _ _ _ _ _ k
     (⊎-elim (λ x. ends-as _ _ _ _ _ _ _ _ _ (x .1) (x .2) (y (x .0 .left)))
     (⊎-elim (λ x. ends-as _ _ _ _ _ _ _ _ _ (x .4) (x .5) (n (x .0 .taken))) (λ x. ends-as _ _ _ _ _ _ _ _ _ (x .6) (x .7) (n (x .0 .taken))))

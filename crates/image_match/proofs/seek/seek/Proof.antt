@@ -30,7 +30,7 @@ look-requires c κs =
     let b = c .before .before .before in
     let a = b .before .before .before .before .before .pre in
     let f = a .1 .0 in
-    ((f .1 .long, counts-small _ (a .0 .0) (a .0 .1) _ _ _ (f .0) (f .1), b .loop .inv .2), counts-marked _ _ _ _ (f .0) (f .1))
+    ((f .1 .counts-are .long, counts-small _ (a .0 .0) (a .0 .1) _ _ (f .0) (f .1 .counts-are), b .loop .inv .2), counts-marked _ _ _ _ (f .1))
 
 add-t14 : tie.Need-add-t14 Inv-loop μ-loop
 add-t14 c =
@@ -44,7 +44,7 @@ returns c =
     let b = c .before .before .before .before .before .before .before .before .before in
     let a = b .before .before .before .before .before .pre in
     let r = c .before .before .before .before .before .look .ensures in
-    found-here _ _ _ _ (a .1 .0 .0) _ (b .loop .inv .0) (omega (arith, c .before .before .before .before .before .before .if1 .taken)) _ (a .1 .0 .1) _ r (a .0 .2)
+    found-here _ _ _ (a .1 .0 .0) _ (b .loop .inv .0) (omega (arith, c .before .before .before .before .before .before .if1 .taken)) _ (a .1 .0 .1 .counts-are) _ r (a .0 .2)
     (c .before .before .if2 .taken)
 
 sub-t15 : tie.Need-sub-t15 Inv-loop μ-loop
@@ -61,8 +61,8 @@ pass-requires c κs =
     let a = b .before .before .before .before .before .pre in
     let l : b .loop .at .want ≤ b .before .before .before .before .before .args .page .sum = omega (arith, c .before .before .before .before .before .if1 .taken) in
     let r = c .before .before .before .before .look .ensures in
-    let p = over-missed _ _ _ _ (a .1 .0 .0) _ (b .loop .inv .0) l _ (a .1 .0 .1) _ r (c .before .if2 .left) in
-    ((a .0 .0, a .0 .1, a .0 .2, a .1 .0 .0), ((b .loop .inv .0, l, p), b .loop .inv .1))
+    let p = over-missed _ _ _ (a .1 .0 .0) _ (b .loop .inv .0) l _ (a .1 .0 .1 .counts-are) _ r (c .before .if2 .left) in
+    ((a .0 .0, a .0 .1, a .0 .2, a .1 .0 .0), ((b .loop .inv .0, l, p), (b .loop .inv .1, a .1 .0 .1 .marked)))
 
 sub-turn : tie.Need-sub-turn Inv-loop μ-loop
 sub-turn c = omega (arith, c .before .before .pass .ensures .on)
