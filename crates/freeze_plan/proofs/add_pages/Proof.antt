@@ -5,9 +5,9 @@ use lib.Pow.{pow-pos}
 use Rattle.pages.proofs.Prefix.{reading-none}
 use Rattle.pages.proofs.SoundPage.{sum-small}
 use Rattle.store.proofs.SoundFacts.{facts}
-use Rattle.image_steps.specs.Code.Planning.{Awaits}
 use Rattle.image_steps.specs.declared.plan.Plan.{Plan}
-use Rattle.freeze_plan.proofs.PageEnds.{To, ahead, all-next, behind, end-in, last-page, power-low, reading-fits, to, total-fits}
+use Rattle.freeze_plan.specs.Code.Steps.{Ending}
+use Rattle.freeze_plan.proofs.PageEnds.{ahead, all-next, behind, end-in, last-page, power-low, reading-fits, total-fits}
 use borrow.Author.Needs.{needs}
 use mathlib.Core.Path.{_≡_}
 use Prim.Native.Nat.{_+_, _-_, _*_, _^_, _≤_, _<_}
@@ -58,40 +58,43 @@ module _ (c : tie.In-loop Inv-loop μ-loop) where
   few : p < 1024
   few = omega (arith, inside, facts (call .args .s .now) (call .pre .0) .pages-high)
 
+entry-of-requires : tie.Need-entry-of-requires Inv-loop μ-loop
+entry-of-requires c κs = (call c .pre .0, inside c)
+
+add-all : tie.Need-add-all Inv-loop μ-loop
+add-all c =
+    let n = c .before .before in
+    omega (arith, n .before .loop .inv .1, reading-fits (call n .args .s .now) (call n .pre .0) (64 * p n), sum-small (c .before .entry-of .ensures))
+
 add-smaller : tie.Need-add-smaller Inv-loop μ-loop
-add-smaller c = omega (arith, few c)
+add-smaller c = omega (arith, few (c .before .before))
 
 mul-smaller : tie.Need-mul-smaller Inv-loop μ-loop
-mul-smaller c = omega (arith, few c)
+mul-smaller c = omega (arith, few (c .before .before))
 
 div-smaller : tie.Need-div-smaller Inv-loop μ-loop
-div-smaller c = power-low (call c .args .e) _ (c .before .before .power .ensures) (call c .pre .2 .e-high) .0
+div-smaller c =
+    let n = c .before .before in
+    power-low (call n .args .e) _ (n .before .before .power .ensures) (call n .pre .2 .e-high) .0
 
 smaller-requires : tie.Need-smaller-requires Inv-loop μ-loop
 smaller-requires c κs = search needs
 
 add-within-requires : tie.Need-add-within-requires Inv-loop μ-loop
 add-within-requires c κs =
-    let n = c .before in
+    let n = c .before .before .before in
     let a = call n in
-    let e = end-in (a .args .e) (n .before .before .power .result) (p n) (c .smaller .result) (next n .pages) (n .before .before .power .ensures) (c .smaller .ensures) in
-    record {
-      is-sound = a .pre .0;
-      inside = inside n;
-      all-is = n .before .loop .inv .1;
-      drafted = n .before .loop .inv .2;
-      ahead = n .before .loop .inv .3;
-      end-one = e .0;
-      end-in = e .1;
-    }
-
-entry-of-requires : tie.Need-entry-of-requires Inv-loop μ-loop
-entry-of-requires c κs = (call (c .before .before) .pre .0, inside (c .before .before))
-
-add-all : tie.Need-add-all Inv-loop μ-loop
-add-all c =
-    let n = c .before .before .before .before in
-    omega (arith, n .before .loop .inv .1, reading-fits (call n .args .s .now) (call n .pre .0) (64 * p n), sum-small (c .before .entry-of .ensures))
+    let e = end-in (a .args .e) (n .before .before .power .result) (p n) (c .smaller .result) (next n .pages) (n .before .before .power .ensures) (c .smaller .ensures) in (
+      record {
+        is-sound = a .pre .0;
+        inside = inside n;
+        drafted = n .before .loop .inv .2;
+        ahead = n .before .loop .inv .3;
+        end-one = e .0;
+        end-in = e .1;
+      },
+      all-next (n .before .loop .all) (c .before .before .entry-of .ensures) (n .before .loop .inv .1),
+    )
 
 add-p : tie.Need-add-p Inv-loop μ-loop
 add-p c = omega (arith, few (c .before .before .before .before))
@@ -103,62 +106,40 @@ loop-again : tie.Need-loop-again Inv-loop μ-loop
 loop-again c =
     let n = c .before .before .before .before in
     let a = call n in
-    let d = c .before .before .add-within in (
+    let d = c .add-within in (
       omega (arith, n .loop-test .taken),
-      all-next (n .before .loop .all) (c .before .entry-of .ensures) (n .before .loop .inv .1),
+      all-next (n .before .loop .all) (c .before .before .before .entry-of .ensures) (n .before .loop .inv .1),
       d .ensures .0,
       λ (l : d .result .done < d .result .pages).
-          ahead (a .args .e) (n .before .before .power .result) (p n) (c .before .before .before .smaller .result) (next n .pages) (d .result .done) (n .before .before .power .ensures)
-          (c .before .before .before .smaller .ensures) (d .ensures .1) (omega (arith, l, d .ensures .0 .pages-are, n .before .loop .inv .2 .pages-are)),
+          ahead (a .args .e) (n .before .before .power .result) (p n) (c .before .smaller .result) (next n .pages) (d .result .done) (n .before .before .power .ensures)
+          (c .before .smaller .ensures) (d .ensures .1) (omega (arith, l, d .ensures .0 .pages-are, n .before .loop .inv .2 .pages-are)),
     )
 
--- the last page, which ends behind the store's
-module _ (c : tie.After-struct-known3 Inv-loop μ-loop) where
-  abbrev start : tie.Start Inv-loop μ-loop
-  start = c .before .before .before .before .before .before .before
+-- the last page, if it ends behind the store's
+abbrev at-end : (c : tie.After-loop Inv-loop μ-loop) → Ending (c .before .loop .all) (c .before .loop .next .pages) (c .before .loop .next)
+at-end c =
+    let a = c .before .before .before .before in
+    let r = c .before .loop .next in
+    record {
+      e = a .args .e;
+      xs = listIn (a .args .s .now);
+      drafted = c .before .loop .inv .2;
+      total-fits = total-fits (a .args .s .now) (a .pre .0);
+      end-one = omega arith;
+      next = λ (l : r .done < r .pages).
+          let h = c .before .loop .inv .3 l in (
+            last-page (a .args .s .now) (a .pre .0) (a .args .e) (c .before .loop .p) (a .args .pages) (r .done) (r .pages) (a .pre .1) (c .loop-test .left) (c .before .loop .inv .2 .pages-are) h,
+            behind (a .args .s .now) (a .pre .0) (c .before .loop .p) (a .args .pages) (2 ^ a .args .e * (r .done + 1)) (c .before .loop .all) (a .pre .1) (c .loop-test .left) (c .before .loop .inv .1) h,
+          );
+    }
 
-  abbrev plan : Plan
-  plan = c .before .before .before .before .loop .next
-
-  behind-all : 64 * c .before .before .before .before .loop .p < 2 ^ start .args .e * (plan .done + 1)
-  behind-all = c .before .before .before .before .loop .inv .3 (c .before .if1 .taken)
-
-  next-to : To (start .args .e) (listIn (start .args .s .now)) plan (c .before .before .before .before .loop .all)
-  next-to =
-      to (c .before .before .before .before .loop .all) (c .before .before .before .before .loop .inv .2) (total-fits (start .args .s .now) (start .pre .0))
-      (behind (start .args .s .now) (start .pre .0) (c .before .before .before .before .loop .p) (start .args .pages) (2 ^ start .args .e * (plan .done + 1)) (c .before .before .before .before .loop .all)
-      (start .pre .1) (c .before .before .before .loop-test .left) (c .before .before .before .before .loop .inv .1) behind-all)
-
-  abbrev awaits : Awaits plan (c .before .before .before .before .loop .all - plan .total)
-  awaits = record {
-    e = start .args .e;
-    xs = listIn (start .args .s .now);
-    drafted = c .before .before .before .before .loop .inv .2;
-    more = c .before .if1 .taken;
-    sum-is = next-to .sum-is;
-  }
-
-sub-add-page : tie.Need-sub-add-page Inv-loop μ-loop
-sub-add-page c = next-to c .le
-
-add-page-requires : tie.Need-add-page-requires Inv-loop μ-loop
-add-page-requires c κs = awaits c
+add-ending-requires : tie.Need-add-ending-requires Inv-loop μ-loop
+add-ending-requires c κs = at-end c
 
 returns : tie.Need-returns Inv-loop μ-loop
 returns c =
-    let n = c .before in
-    let d = c .add-page .ensures .1 (awaits n) in (
-      d,
-      omega (
-        arith,
-        c .add-page .ensures .0,
-        last-page (start n .args .s .now) (start n .pre .0) (start n .args .e) (n .before .before .before .before .loop .p) (start n .args .pages) (plan n .done)
-            (c .add-page .result .pages) (start n .pre .1) (n .before .before .before .loop-test .left) (d .pages-are) (behind-all n),
-      ),
-    )
-
-returns-2 : tie.Need-returns-2 Inv-loop μ-loop
-returns-2 c = (c .before .before .before .loop .inv .2, c .if1 .left)
+    let d = c .add-ending .ensures (at-end (c .before)) in
+    (d .0, omega (arith, d .1, d .0 .pages-are, c .before .before .loop .inv .2 .pages-are))
 
 pub add-pages-spec : {M : Type 1} → statement M
 add-pages-spec =
@@ -168,17 +149,15 @@ add-pages-spec =
     μ-loop
     power-requires
     loop-holds
+    entry-of-requires
+    add-all
     add-smaller
     mul-smaller
     div-smaller
     smaller-requires
     add-within-requires
-    entry-of-requires
-    add-all
     add-p
     loop-less
     loop-again
-    sub-add-page
-    add-page-requires
-    returns
-    returns-2)
+    add-ending-requires
+    returns)
