@@ -1,4 +1,5 @@
--- Laws of the counts: half by half, out of a word's own bits, both halves out of one word, four and eight at a time, into zeros.
+-- Laws of the counts: half by half, out of a word's own bits, both halves out of one word, four and eight at a time, into zeros, and both
+-- halves out of one word into zeros.
 pub mod Decoding
 pub mod InWord
 pub mod WordHalves

@@ -5,10 +5,9 @@ use mathlib.Core.List.{List}
 use mathlib.Core.Logic.{⊎-elim}
 use Prim.Native.Nat.{suc, _+_, _-_, _*_, _%_, _^_, _≤_}
 use native.Mathlib.Omega.{arith}
-use lib.ListN.{length, replicate}
-use Rattle.lists.specs.Lists.{part, splice}
+use lib.ListN.{length}
+use Rattle.lists.specs.Lists.{splice}
 use Rattle.bits.specs.Bits.{field}
-use Rattle.reserve.specs.Reserve.{reserve}
 use Rattle.reserve.proofs.Exact.{digits-le}
 use Rattle.tree.specs.Read.{counts}
 use Rattle.tree.specs.Exact.{exact}
