@@ -1,3 +1,4 @@
 -- Laws of the crate.
 pub mod PageEnds
 pub mod PageParts
+pub mod PartSums

@@ -1,2 +1,3 @@
 -- What the functions of src/ hand one another.
 pub mod Steps
+pub mod Parts

@@ -1,16 +1,18 @@
-// The plan of the image of a sound store's list. Where the image's pages are smaller than the store's, each page of the store is decoded
-// once, and its counts are added up. A page of another image ends with a page of the store, or behind the last, and nothing is decoded: its
-// sum is what the reading at its end is above that at its start, and the latter is the total of the pages that the plan has.
+// The plan of the image of a sound store's list. No count is decoded for it. Where the image's pages are smaller than the store's, their
+// sums stand in the code of each page of the store. A page of another image ends with a page of the store, or behind the last: its sum is
+// what the reading at its end is above that at its start, and the latter is the total of the pages that the plan has.
+mod parts;
+
 use image_steps::plan::Plan;
 use image_steps::plan::Planned;
 use image_steps::plan::Started;
 use image_steps::plan::add_page;
 use image_steps::plan::finish;
 use image_steps::plan::start;
-use pages::counts::page_counts;
 use pages::entry::entry_of;
+use pages::gather::gather_at;
+use parts::part_sums;
 use store::header::Header;
-use tree::sums::sum_of;
 ghost use mathlib.Core.Bool.{true};
 ghost use mathlib.Core.Path.{_≡_};
 ghost use Prim.Native.Nat.{_+_, _*_, _^_, _≤_, _<_};
@@ -25,12 +27,15 @@ fn add_parts(s: &[u8], e: u32, p: usize, end: usize, plan: Plan) -> Plan
     requires { ⌜ Within (now s) e p end plan × (2 ^ e < 64) ⌝ }
     ensures { λ r. ⌜ Drafted e (listIn (now (s .entry))) r × (end ≤ r .done) ⌝ }
 {
-    let m = reserve::power(e) as usize;
-    let counts = page_counts(s, p);
+    let many = reserve::power(6 - e) as usize;
+    let own = entry_of(s, p);
+    let code = gather_at(s, own.base, p, own.cells);
+    let mut sums = [0u64; 16];
+    part_sums(&code, 0, 6, e, own.sum, 0, &mut sums);
     let mut next = plan;
     while next.done < end {
-        let from = m * next.done - Header::HOURS * p;
-        next = add_page(next, sum_of(&counts, from, m));
+        let i = next.done - many * p;
+        next = add_page(next, sums[i]);
     }
     next
 }

@@ -10,10 +10,10 @@ use lib.Pow.{pow-add, pow-mono, pow-pos}
 use Rattle.lists.specs.Lists.{window}
 use Rattle.image.specs.Image.{page, pages}
 use Rattle.image.proofs.PageLaws.{pages-few, pages-tight}
-use Rattle.image_steps.proofs.PageByPage.{window-in}
 use Rattle.store.specs.Reading.{listIn, pagesOf}
 use Rattle.store.specs.Sound.{sound}
 use Rattle.store.proofs.SoundFacts.{facts}
+use Rattle.freeze_put.proofs.Listing.{window-in}
 
 -- 2^e = m counts a page, w pages a block
 pub record Sizes (m w : ℕ) : Type 0 where

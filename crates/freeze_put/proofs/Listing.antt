@@ -11,7 +11,7 @@ use lib.Seq.{ext-getD, getD-append-add, sets, take-all}
 use Rattle.lists.specs.Lists.{concat, fill, part, splice, tabulate, window}
 use Rattle.lists.proofs.Pages.{concat-get}
 use Rattle.lists.proofs.Parts.{length-splice, sets-next, sets-splice, splice-nil, splice-then}
-use Rattle.lists.proofs.Tables.{concat-each, concat-suc, getD-tabulate, length-tabulate}
+use Rattle.lists.proofs.Tables.{concat-each, concat-suc, getD-tabulate, length-tabulate, tabulate-ext}
 use Rattle.lists.proofs.Zeros.{splice-zeros, zeros-at}
 use Rattle.store.specs.Plain.{page}
 use Rattle.bits.specs.Bits.{bits}
@@ -96,3 +96,10 @@ page-decoded {s} {P} {p} {t} {k} {code} o g =
       code-exact code ys _ t n (sum-same o) (g .code-is),
       ap (λ (z : ℕ). counts 6 z (bits code) 0) (sum-same o) ∙ counts-tree 6 ys (bits code) 0 n (tree-at code ys _ (g .code-is)),
     )
+
+-- a window of a window
+pub window-in : (xs : List ℕ) (a n f k : ℕ) → f + k ≤ n → window (window xs a n) f k ≡ window xs (a + f) k
+unfolding window
+window-in xs a n f k h =
+    tabulate-ext k (λ j. getD (tabulate n (λ i. getD xs (a + i) 0)) (f + j) 0) (λ j. getD xs (a + f + j) 0)
+    (λ j l. getD-tabulate n (λ i. getD xs (a + i) 0) (f + j) 0 (omega arith) ∙ ap (λ (i : ℕ). getD xs i 0) {x = a + (f + j)} {y = a + f + j} (omega arith))

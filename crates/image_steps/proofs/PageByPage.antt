@@ -3,10 +3,9 @@ use mathlib.Core.Path.{_≡_, ap, _∙_}
 use mathlib.Core.List.{List}
 use Prim.Native.Nat.{ℕ, _+_, _-_, _*_, _^_, _≤_, _<_}
 use native.Mathlib.Omega.{arith}
-use lib.ListN.{length, getD}
+use lib.ListN.{length}
 use lib.Pow.{pow-mono}
-use Rattle.lists.specs.Lists.{sum, tabulate, window}
-use Rattle.lists.proofs.Tables.{getD-tabulate, tabulate-ext}
+use Rattle.lists.specs.Lists.{sum, window}
 use Rattle.image.specs.Image.{page, pages}
 use Rattle.image.proofs.PageLaws.{pages-tight}
 use Rattle.image_steps.specs.Code.Planning.{Awaits, Drafted, PageSum}
@@ -19,13 +18,6 @@ use Rattle.image_steps.specs.declared.put.Place.{Place}
 pub page-from : (e : ℕ) (xs : List ℕ) (p m : ℕ) → e ≤ 8 → length xs ≤ 65536 → p < pages e (length xs) → m ≡ 2 ^ e
     → (m * p < 65536) × (m ≤ 256)
 page-from e xs p m h n l em = rw em (omega (arith, pages-tight e (length xs) p l), pow-mono {i = e} {j = 8} h)
-
--- a page out of some of the list: a window of a window
-pub window-in : (xs : List ℕ) (a n f k : ℕ) → f + k ≤ n → window (window xs a n) f k ≡ window xs (a + f) k
-unfolding window
-window-in xs a n f k h =
-    tabulate-ext k (λ j. getD (tabulate n (λ i. getD xs (a + i) 0)) (f + j) 0) (λ j. getD xs (a + f + j) 0)
-    (λ j l. getD-tabulate n (λ i. getD xs (a + i) 0) (f + j) 0 (omega arith) ∙ ap (λ (i : ℕ). getD xs i 0) {x = a + (f + j)} {y = a + f + j} (omega arith))
 
 -- ---- a plan
 -- the sum of a page of counts of 32 bits
