@@ -13,8 +13,9 @@ use Rattle.tree.specs.Exact.{exact}
 use Rattle.tree.specs.Code.Node.{Lies, Rooted}
 use Rattle.tree.specs.declared.node.Split.{Split}
 use Rattle.tree.proofs.Rooting.{left-lies, right-lies}
-use Rattle.tree_decode.proofs.Decoding.{Unfolded, unfolded, both-halves}
-use Rattle.tree_decode.proofs.InWord.{Held, loaded, word-exact, word-counts, four-fits, few-digits}
+use Rattle.tree_word.proofs.Decoding.{Unfolded, unfolded, both-halves}
+use Rattle.tree.proofs.OneWord.{four-fits}
+use Rattle.tree_word.proofs.InWord.{Held, loaded, word-exact, word-counts, few-digits}
 
 -- the words v and w are each loaded where a half starts
 pub record InHalves (b : List ℕ) (a s : ℕ) (r : Split) : Type 0 where

@@ -1,9 +1,2 @@
--- Laws of the counts: half by half, out of a word's own bits, both halves out of one word, four and eight at a time, into zeros, and both
--- halves out of one word into zeros.
-pub mod Decoding
-pub mod InWord
-pub mod WordHalves
-pub mod FourCounts
+-- Laws of eight counts whose fours come out of a word each.
 pub mod EightCounts
-pub mod IntoZeros
-pub mod WordZeros

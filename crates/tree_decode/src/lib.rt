@@ -1,15 +1,14 @@
 // The counts of a tree that is some list's code. A recursion in which h falls, one level a call, and which calls no empty half. It ends
 // where one load has all the bits of 16 counts or more; else at eight counts, whose bits come out of one load or three, at four, out of
 // one, or at one count where these do not fit a word. It reads over `&&[u8]`, a thin pointer.
-mod from_word;
-
 use bits_field::front;
-use from_word::eight_wide;
-use from_word::fits;
-use from_word::four;
-use from_word::in_word;
+use tree::node::eight_in_word;
 use tree::node::one_word;
 use tree::node::root_by_shifts;
+use tree_word::eight_wide;
+use tree_word::four;
+use tree_word::whole::fits;
+use tree_word::whole::in_word;
 ghost use mathlib.Core.Bool.{true};
 ghost use mathlib.Core.Path.{_≡_};
 ghost use Prim.Native.Nat.{_+_, _≤_, _<_, _^_};
@@ -39,7 +38,7 @@ fn lowest(b: &[u8], at: usize, s: u64, out: &mut [u32], from: usize)
     requires { ⌜ Lies (now b) at 3 s × (exact 3 s (bits (now b)) at ≡ true) × (s < 524288) × (from + 8 ≤ length (now out)) ⌝ }
     ensures { λ _. ⌜ now (out .exit) ≡ splice (now (out .entry)) from (counts 3 s (bits (now (b .entry))) at) ⌝ }
 {
-    if s < 439 {
+    if eight_in_word(3, s) {
         eight_wide(front::load(b, at), s, out, from);
         return;
     }

@@ -12,10 +12,11 @@ use Rattle.reserve.specs.Reserve.{digits}
 use Rattle.tree.specs.Read.{counts}
 use Rattle.tree.proofs.Rooting.{top, halved, left-lies, right-lies}
 use Rattle.tree.proofs.Shape.{length-counts}
-use Rattle.tree_decode.specs.Code.FromWord.{Whole}
-use Rattle.tree_decode.proofs.Decoding.{Unfolded, unfolded, one-count, both-halves, OfHeight, of-height, height-written}
-use Rattle.tree_decode.proofs.InWord.{Held, loaded, word-exact, word-counts, four-fits}
-use Rattle.tree_decode.proofs.IntoZeros.{none-written, left-zeros, right-zeros}
+use Rattle.tree_word.specs.Code.Whole.{Whole}
+use Rattle.tree_word.proofs.Decoding.{Unfolded, unfolded, one-count, both-halves, OfHeight, of-height, height-written}
+use Rattle.tree.proofs.OneWord.{four-fits}
+use Rattle.tree_word.proofs.InWord.{Held, loaded, word-exact, word-counts}
+use Rattle.tree_word.proofs.IntoZeros.{none-written, left-zeros, right-zeros}
 use borrow.Author.Needs.{needs}
 use Prim.Native.Nat.{ℕ, _<_}
 use borrow.Fn.Kinds.{In}
@@ -28,9 +29,9 @@ use Rattle.reserve.proofs.power.Reads as power-reads
 use Rattle.tree.proofs.node.one_word.Reads as one-word-reads
 use Rattle.tree.proofs.node.root_by_shifts.Reads as root-by-shifts-reads
 use Rattle.tree_decode.proofs.lowest.Reads as lowest-reads
-use Rattle.tree_decode.proofs.from_word.fits.Reads as fits-reads
-use Rattle.tree_decode.proofs.from_word.four.Reads as four-reads
-use Rattle.tree_decode.proofs.from_word.in_word.Reads as in-word-reads
+use Rattle.tree_word.proofs.whole.fits.Reads as fits-reads
+use Rattle.tree_word.proofs.four.Reads as four-reads
+use Rattle.tree_word.proofs.whole.in_word.Reads as in-word-reads
 use Rattle.tree_decode.proofs.+decode_node.{statement}
 use Rattle.tree_decode.proofs.+decode_node.Tie.{close}
 

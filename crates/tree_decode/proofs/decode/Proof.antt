@@ -4,7 +4,7 @@ use Prim.Native.Nat.{_^_}
 use native.Mathlib.Omega.{arith}
 use borrow.Author.Needs.{needs}
 use Rattle.bits.specs.Bits.{bits}
-use Rattle.tree_decode.proofs.IntoZeros.{zeros-written, cleared, cleared-then}
+use Rattle.tree_word.proofs.IntoZeros.{zeros-written, cleared, cleared-then}
 use Rattle.tree_decode.proofs.decode.Statement.{statement}
 use Rattle.tree_decode.proofs.decode.Tie as tie
 

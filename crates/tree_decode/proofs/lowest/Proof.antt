@@ -1,10 +1,12 @@
 -- `tree_decode::lowest` meets its contract. Assumes nothing.
 use mathlib.Core.Path.{ap, _∙_}
+use Prim.Native.Nat.{_<_}
 use native.Mathlib.Omega.{arith}
 use borrow.Author.Needs.{needs}
 use Rattle.lists.specs.Lists.{splice}
 use Rattle.bits.specs.Bits.{bits}
-use Rattle.tree_decode.proofs.InWord.{Held, loaded, word-exact, word-counts, eight-fits, few-digits}
+use Rattle.tree.proofs.OneWord.{eight-fits}
+use Rattle.tree_word.proofs.InWord.{Held, loaded, word-exact, word-counts, few-digits}
 use Rattle.tree_decode.proofs.EightCounts.{InHalves, root-le, first-lies, second-lies, first-exact, second-exact, fours-written}
 use Rattle.tree_decode.proofs.lowest.Statement.{statement}
 use Rattle.tree_decode.proofs.lowest.Tie as tie
@@ -12,18 +14,24 @@ use Rattle.tree_decode.proofs.lowest.Tie as tie
 -- where all the bits were loaded
 module _ (c : tie.After-load) where
   abbrev whole : tie.Start
-  whole = c .before .before .before .before
+  whole = c .before .before .before .before .before
+
+  few : whole .args .s < 439
+  few = c .before .before .eight-in-word .ensures (c .before .if1 .taken) .1
 
   held : Held (bits (whole .args .b .now)) (whole .args .at) 3 (whole .args .s) (c .load .result)
-  held = loaded _ (whole .pre .0) (eight-fits (whole .args .s) (omega arith)) (c .load .ensures)
+  held = loaded _ (whole .pre .0) (eight-fits (whole .args .s) few) (c .load .ensures)
 
 -- where the root was read
 module _ (c : tie.After-root-by-shifts) where
   abbrev call : tie.Start
-  call = c .before .before .before .before
+  call = c .before .before .before .before .before
 
   read : InHalves (call .args .b .now) (call .args .at) (call .args .s) (c .root-by-shifts .result)
   read = record { lies = call .pre .0; code = call .pre .1; few = call .pre .2; root = c .root-by-shifts .ensures }
+
+eight-in-word-requires : tie.Need-eight-in-word-requires
+eight-in-word-requires c κs = search needs
 
 load-requires : tie.Need-load-requires
 load-requires c κs = search needs
@@ -31,7 +39,7 @@ load-requires c κs = search needs
 eight-wide-requires : tie.Need-eight-wide-requires
 eight-wide-requires c κs =
     let d = c .before in
-    (word-exact (held d) (whole d .pre .1), omega arith, omega arith)
+    (word-exact (held d) (whole d .pre .1), few d, omega arith)
 
 same-length : tie.Need-same-length
 same-length c = search needs
@@ -42,7 +50,7 @@ returns c =
     c .before .before .eight-wide .ensures ∙ ap (splice (whole d .args .out .now) (whole d .args .from)) (word-counts (held d) (whole d .pre .1))
 
 root-by-shifts-requires : tie.Need-root-by-shifts-requires
-root-by-shifts-requires c κs = c .before .before .before .pre .0
+root-by-shifts-requires c κs = c .before .before .before .before .pre .0
 
 load-requires-2 : tie.Need-load-requires-2
 load-requires-2 c κs = omega (arith, first-lies (read c), second-lies (read c))
@@ -83,6 +91,7 @@ pub lowest-spec : {M : Type 1} → statement M
 lowest-spec =
     tie.close
     (tie.spec
+    eight-in-word-requires
     load-requires
     eight-wide-requires
     same-length

@@ -6,7 +6,7 @@ use native.Mathlib.Omega.{arith}
 use lib.ListN.{length, replicate, length-set}
 use Rattle.lists.specs.Lists.{splice}
 use Rattle.lists.proofs.Parts.{splice-nil}
-use Rattle.tree_decode.proofs.IntoZeros.{zero-more}
+use Rattle.tree_word.proofs.IntoZeros.{zero-more}
 use borrow.Author.Needs.{needs}
 use Rattle.tree_decode.proofs.zeros.Statement.{statement}
 use Rattle.tree_decode.proofs.zeros.Tie as tie

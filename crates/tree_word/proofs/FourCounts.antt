@@ -1,0 +1,85 @@
+-- Four counts out of one word. Assumes nothing.
+use mathlib.Core.Path.{_≡_, refl, sym, ap, _∙_, subst}
+use mathlib.Core.Bool.{true}
+use mathlib.Core.List.{List, [], _∷_}
+use Prim.Native.Nat.{ℕ, suc, _+_, _-_, _/_, _%_, _^_, _≤_, _<_}
+use native.Mathlib.Nat.{lt-of-lt-of-le}
+use native.Mathlib.Omega.{arith}
+use lib.Dec.{leb}
+use lib.ListN.{length, set}
+use lib.Pow.{pow-mono}
+use borrow.Author.Tests.{leb-true}
+use Rattle.lists.specs.Lists.{splice}
+use Rattle.lists.proofs.Parts.{sets-splice}
+use Rattle.bits.specs.Bits.{field}
+use Rattle.reserve.specs.Reserve.{digits}
+use Rattle.reserve.proofs.Exact.{digits-is}
+use Rattle.tree.specs.Read.{leftOf, leftAt, rightAt, counts}
+use Rattle.tree.specs.Exact.{exact}
+use Rattle.tree.proofs.OneWord.{fewer-digits}
+use Rattle.tree.proofs.TwoCounts.{reserve-pair}
+use Rattle.tree_word.proofs.Decoding.{BothExact, both-exact}
+use Rattle.tree_word.proofs.InWord.{left-at}
+
+-- the left sum l, and the pairs' left counts x and y
+counts-four : (s l x y : ℕ) (b : List ℕ) (a : ℕ) → leftOf s b a ≡ l → leftOf l b (leftAt s a) ≡ x → leftOf (s - l) b (rightAt 1 s l a) ≡ y
+    → counts 2 s b a ≡ x ∷ (l - x) ∷ y ∷ (s - l - y) ∷ []
+unfolding counts
+counts-four s l x y b a el ex ey = rw (el, ex, ey)
+
+put-four : (l : List ℕ) (i c d e f : ℕ) → i + 4 ≤ length l
+    → set (set (set (set l i c) (i + 1) d) (i + 2) e) (i + 3) f ≡ splice l i (c ∷ d ∷ e ∷ f ∷ [])
+put-four l i c d e f h = rw (one, two, three) (sets-splice (c ∷ d ∷ e ∷ f ∷ []) l i h)
+  where
+    one : i + 1 ≡ suc i
+    one = omega arith
+
+    two : i + 2 ≡ suc (suc i)
+    two = omega arith
+
+    three : i + 3 ≡ suc (suc (suc i))
+    three = omega arith
+
+-- as the code works them out: t, f and g are the digits of s, l and s - l
+pub record Read (s w t l : ℕ) : Type 0 where
+  pub code : exact 2 s (field 64 w) 0 ≡ true
+  pub few : digits s ≤ 19
+  pub top : t ≡ digits s
+  pub left : l ≡ w / 2 ^ (64 - (0 + t)) % 2 ^ t
+
+module _ {s w t l : ℕ} (q : Read s w t l) where
+  left-is : leftOf s (field 64 w) 0 ≡ l
+  left-is = left-at s w 0 0 t l refl (q .top) (omega (arith, q .top, q .few)) (q .left)
+
+  both : BothExact 1 s (field 64 w) 0 l
+  both = subst (BothExact 1 s (field 64 w) 0) left-is (both-exact 1 s (field 64 w) 0 (q .code))
+
+  pub left-le : l ≤ s
+  left-le = leb-true l s (both .le)
+
+  -- the digits of a sum within s
+  pub narrow : (x f : ℕ) → x ≤ s → f ≡ digits x → (t ≤ 19) × (f ≤ 19)
+  narrow x f k ef = (omega (arith, q .top, q .few), omega (arith, fewer-digits (q .few) x k))
+
+  pub small : s < 4294967296
+  small = lt-of-lt-of-le (digits-is s .0) (pow-mono {i = digits s} {j = 32} (omega (arith, q .few)))
+
+  module _ (f g x y : ℕ) (ef : f ≡ digits l) (eg : g ≡ digits (s - l)) (ex : x ≡ w / 2 ^ (64 - (t + f)) % 2 ^ f)
+      (ey : y ≡ w / 2 ^ (64 - (t + f + g)) % 2 ^ g) where
+    first-is : leftOf l (field 64 w) (leftAt s 0) ≡ x
+    first-is = left-at l w (leftAt s 0) t f x (omega (arith, q .top)) ef (omega (arith, narrow l f left-le ef)) ex
+
+    third-is : leftOf (s - l) (field 64 w) (rightAt 1 s l 0) ≡ y
+    third-is =
+        left-at (s - l) w (rightAt 1 s l 0) (t + f) g y (omega (arith, q .top, ef, reserve-pair l)) eg
+        (omega (arith, narrow l f left-le ef, narrow (s - l) g (omega arith) eg)) ey
+
+    pub first-le : x ≤ l
+    first-le = leb-true x l (ap (λ (z : ℕ). leb z l) (sym first-is) ∙ both-exact 0 l (field 64 w) (leftAt s 0) (both .left) .le)
+
+    pub third-le : y ≤ s - l
+    third-le = leb-true y (s - l) (ap (λ (z : ℕ). leb z (s - l)) (sym third-is) ∙ both-exact 0 (s - l) (field 64 w) (rightAt 1 s l 0) (both .right) .le)
+
+    pub four-written : (o : List ℕ) (i : ℕ) → i + 4 ≤ length o
+        → set (set (set (set o i x) (i + 1) (l - x)) (i + 2) y) (i + 3) (s - l - y) ≡ splice o i (counts 2 s (field 64 w) 0)
+    four-written o i h = put-four o i x (l - x) y (s - l - y) h ∙ ap (splice o i) (sym (counts-four s l x y (field 64 w) 0 left-is first-is third-is))
