@@ -16,11 +16,11 @@ use Rattle.image.specs.Image.{root}
 use Rattle.image.specs.Read.{eOf, listOf}
 use Rattle.image.specs.declared.head.Head.{Head}
 use Rattle.image.proofs.Accepted.{accepted-only, length-list}
-use Rattle.image.proofs.PageLaws.{hour-split}
+use Rattle.image.proofs.PageLaws.{hour-low, hour-split}
 use Rattle.image_cursor.specs.Code.Cursor.{Ahead, Ready}
 use Rattle.image_cursor.proofs.CursorLaws.{count-of, page-small as pages-small}
 use Rattle.runs.specs.Runs.{runSum}
-use Rattle.runs.proofs.PrefixSums.{reading-held, run-reading}
+use Rattle.runs.proofs.PrefixSums.{reading-grows, reading-held, run-reading}
 use Rattle.image_match.specs.Code.Marks.{Marked}
 use Rattle.image_match.specs.Code.Page.{CountsOf, FrontPage, Held, PageOf}
 use Rattle.image_match.specs.declared.page.Page.{Page}
@@ -42,6 +42,17 @@ module _ (s : List ℕ) (a : accepted s ≡ true) {h : Head} (o : HeadOf s h) wh
   pub counts-small : (page : Page) (counts : List ℕ) → PageOf (listOf s) page → CountsOf (listOf s) page counts
       → reading counts (page .hours) ≤ 4294967295
   counts-small page counts g f = omega (arith, page-small page g, g .sum-is, f .readings (page .hours) (omega arith))
+
+  -- the root of an hour's page
+  root-reading : (first r : ℕ) → r ≡ root (eOf s) (listOf s) (first / 2 ^ h .e) → r ≡ reading (listOf s) (2 ^ h .e * suc (first / 2 ^ h .e))
+  unfolding root
+  root-reading first r e = e ∙ ap (λ (y : ℕ). root y (listOf s) (first / 2 ^ h .e)) (sym (o .e-is))
+
+  pub root-above : (first r b : ℕ) → r ≡ root (eOf s) (listOf s) (first / 2 ^ h .e) → b ≡ reading (listOf s) first → b ≤ r
+  root-above first r b e f =
+      let p : ℕ = first / 2 ^ h .e in
+      let g : first ≤ 2 ^ h .e * suc p = omega (arith, hour-split (h .e) first, hour-low (h .e) first, mul-suc (2 ^ h .e) p) in
+      omega (arith, root-reading first r e, reading-grows (listOf s) first (2 ^ h .e * suc p) g)
 
   -- ---- the page from an hour on, where pages meet
   module _ (first n : ℕ) (l : first < h .hours) (z : first % 2 ^ h .e ≡ 0) (d : Ahead h first n) where
@@ -70,13 +81,7 @@ module _ (s : List ℕ) (a : accepted s ≡ true) {h : Head} (o : HeadOf s h) wh
     -- its root, and the coins before it
     module _ (r b : ℕ) (e : r ≡ root (eOf s) (listOf s) p) (f : b ≡ reading (listOf s) first) where
       above : r ≡ b + runSum (listOf s) first n
-      unfolding root
-      above =
-          let g : r ≡ root (h .e) (listOf s) p = e ∙ ap (λ (y : ℕ). root y (listOf s) (first / 2 ^ h .e)) (sym (o .e-is)) in
-          omega (arith, g, ends, run-reading (listOf s) first n)
-
-      pub root-above : b ≤ r
-      root-above = omega (arith, above)
+      above = omega (arith, root-reading first r e, ends, run-reading (listOf s) first n)
 
       pub front-page-is : (stamp : ℕ) → FrontPage s h (record { first = first; hours = n; sum = r - b; stamp = stamp })
       front-page-is stamp = record {

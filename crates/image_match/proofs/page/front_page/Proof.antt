@@ -29,7 +29,7 @@ sub-sum : tie.Need-sub-sum
 sub-sum c =
     let g = c .before .before .before .before .pre in
     let a = g .0 in
-    root-above _ (a .0) (a .1) _ _ (a .2) (a .3) (c .before .ahead .ensures) _ _ (c .page-root .ensures) (g .1)
+    root-above _ (a .0) (a .1) _ _ _ (c .page-root .ensures) (g .1)
 
 add-stamp : tie.Need-add-stamp
 add-stamp c = search needs
