@@ -1,8 +1,8 @@
 -- The page at the front, in the numbers that the code has. Assumes nothing.
 use mathlib.Core.Bool.{true}
 use mathlib.Core.List.{List}
-use mathlib.Core.Path.{_≡_, ap, sym, _∙_}
-use Prim.Native.Nat.{ℕ, suc, _+_, _*_, _/_, _%_, _^_, _≤_, _<_}
+use mathlib.Core.Path.{_≡_, refl, ap, sym, _∙_}
+use Prim.Native.Nat.{ℕ, suc, _+_, _-_, _*_, _/_, _%_, _^_, _≤_, _<_}
 use native.Mathlib.Nat.{add-mod-right, mul-suc, zero-mod}
 use native.Mathlib.Decide.{decLe}
 use native.Mathlib.Omega.{arith}
@@ -12,15 +12,15 @@ use Rattle.lists.specs.Lists.{reading, sum}
 use Rattle.lists.proofs.Sums.{sum-take-le}
 use Rattle.image.specs.Check.{accepted}
 use Rattle.image.specs.Code.Head.{HeadOf}
-use Rattle.image.specs.Image.{page as pageAt, root}
+use Rattle.image.specs.Image.{root}
 use Rattle.image.specs.Read.{eOf, listOf}
 use Rattle.image.specs.declared.head.Head.{Head}
 use Rattle.image.proofs.Accepted.{accepted-only, length-list}
-use Rattle.image.proofs.PageLaws.{hour-split, page-sum}
+use Rattle.image.proofs.PageLaws.{hour-low, hour-split}
 use Rattle.image_cursor.specs.Code.Cursor.{Ahead, Ready}
 use Rattle.image_cursor.proofs.CursorLaws.{count-of, page-small as pages-small}
 use Rattle.runs.specs.Runs.{runSum}
-use Rattle.runs.proofs.PrefixSums.{reading-held, run-reading}
+use Rattle.runs.proofs.PrefixSums.{reading-grows, reading-held, run-reading}
 use Rattle.image_match.specs.Code.Marks.{Marked}
 use Rattle.image_match.specs.Code.Page.{CountsOf, FrontPage, Held, PageOf}
 use Rattle.image_match.specs.declared.page.Page.{Page}
@@ -30,20 +30,29 @@ module _ (s : List ℕ) (a : accepted s ≡ true) {h : Head} (o : HeadOf s h) wh
   pub hours : length (listOf s) ≡ h .hours
   hours = omega (arith, length-list s, o .hours-is)
 
+  -- no hours have more coins than all
+  pub coins-small : (k : ℕ) → reading (listOf s) k ≤ 4294967295
+  coins-small k = omega (arith, sum-take-le k (listOf s), accepted-only s a .limits .total)
+
   -- the sum of a page is that of some hours
   pub page-small : (page : Page) → PageOf (listOf s) page → page .sum ≤ 4294967295
   page-small page g =
-      omega (
-        arith,
-        run-reading (listOf s) (page .first) (page .hours),
-        g .sum-is,
-        sum-take-le (page .first + page .hours) (listOf s),
-        accepted-only s a .limits .total,
-      )
+      omega (arith, run-reading (listOf s) (page .first) (page .hours), g .sum-is, coins-small (page .first + page .hours))
 
   pub counts-small : (page : Page) (counts : List ℕ) → PageOf (listOf s) page → CountsOf (listOf s) page counts
       → reading counts (page .hours) ≤ 4294967295
   counts-small page counts g f = omega (arith, page-small page g, g .sum-is, f .readings (page .hours) (omega arith))
+
+  -- the root of an hour's page
+  root-reading : (first r : ℕ) → r ≡ root (eOf s) (listOf s) (first / 2 ^ h .e) → r ≡ reading (listOf s) (2 ^ h .e * suc (first / 2 ^ h .e))
+  unfolding root
+  root-reading first r e = e ∙ ap (λ (y : ℕ). root y (listOf s) (first / 2 ^ h .e)) (sym (o .e-is))
+
+  pub root-above : (first r b : ℕ) → r ≡ root (eOf s) (listOf s) (first / 2 ^ h .e) → b ≡ reading (listOf s) first → b ≤ r
+  root-above first r b e f =
+      let p : ℕ = first / 2 ^ h .e in
+      let g : first ≤ 2 ^ h .e * suc p = omega (arith, hour-split (h .e) first, hour-low (h .e) first, mul-suc (2 ^ h .e) p) in
+      omega (arith, root-reading first r e, reading-grows (listOf s) first (2 ^ h .e * suc p) g)
 
   -- ---- the page from an hour on, where pages meet
   module _ (first n : ℕ) (l : first < h .hours) (z : first % 2 ^ h .e ≡ 0) (d : Ahead h first n) where
@@ -69,20 +78,18 @@ module _ (s : List ℕ) (a : accepted s ≡ true) {h : Head} (o : HeadOf s h) wh
             let f : 2 ^ h .e * suc p ≡ first + n = omega (arith, next, z, d .whole (omega arith)) in
             ap (reading (listOf s)) f
 
-    pub front-page-is : (t stamp : ℕ) → t ≡ sum (pageAt (eOf s) (listOf s) p)
-        → FrontPage s h (record { first = first; hours = n; sum = t; stamp = stamp })
-    unfolding root
-    front-page-is t stamp e = record {
-      logged = l;
-      meets = z;
-      whole = d;
-      page-is = record {
-        inside = omega (arith, d .inside, hours);
-        sum-is =
-            let f : t ≡ sum (pageAt (h .e) (listOf s) p) = e ∙ ap (λ (y : ℕ). sum (pageAt y (listOf s) p)) (sym (o .e-is)) in
-            omega (arith, page-sum (h .e) (listOf s) p, ends, run-reading (listOf s) first n, ap (reading (listOf s)) starts);
-      };
-    }
+    -- its root, and the coins before it
+    module _ (r b : ℕ) (e : r ≡ root (eOf s) (listOf s) p) (f : b ≡ reading (listOf s) first) where
+      above : r ≡ b + runSum (listOf s) first n
+      above = omega (arith, root-reading first r e, ends, run-reading (listOf s) first n)
+
+      pub front-page-is : (stamp : ℕ) → FrontPage s h (record { first = first; hours = n; sum = r - b; stamp = stamp })
+      front-page-is stamp = record {
+        logged = l;
+        meets = z;
+        whole = d;
+        page-is = record { inside = omega (arith, d .inside, hours); sum-is = omega (arith, above) };
+      }
 
   -- its counts read, and their sums marked
   module _ (page : Page) (counts : List ℕ) (g : FrontPage s h page) (r : Ready s (page .first) counts) where
@@ -106,6 +113,17 @@ module _ (s : List ℕ) (a : accepted s ≡ true) {h : Head} (o : HeadOf s h) wh
       counts-are = held-counts;
       marked = marked-of counts (drop (page .first) (listOf s)) (page .hours) (page .stamp) marks held-readings m;
     }
+
+-- ---- the coins before a page
+pub coins-first : (xs : List ℕ) → 0 ≡ reading xs 0
+unfolding sum
+coins-first xs = refl
+
+pub coins-next : (xs : List ℕ) (page : Page) (first b : ℕ) → page .first ≡ first → PageOf xs page → b ≡ reading xs first
+    → b + page .sum ≡ reading xs (first + page .hours)
+coins-next xs page first b q g e =
+    let f = ap (λ (z : ℕ). reading xs (z + page .hours)) q in
+    omega (arith, f, e, ap (reading xs) q, run-reading xs (page .first) (page .hours), g .sum-is)
 
 -- ---- where pages meet, or the list ends
 pub record Border (h : Head) (first : ℕ) : Type 0 where

@@ -1,13 +1,14 @@
-// The page at the front, where runs may end: its sum, by its root; and its counts read, and their sums marked.
+// The page at the front, where runs may end: its sum by its root, and its counts read and their sums marked.
 use crate::marks::mark;
 use image::head::Head;
 use image_cursor::cursor::ahead;
 use image_cursor::cursor::read_page;
-use image_page::page_sum;
+use image_page::page_root;
 ghost use mathlib.Core.Bool.{true};
 ghost use mathlib.Core.Path.{_≡_};
 ghost use Prim.Native.Nat.{_%_, _^_, _<_};
 ghost use lib.ListN.{length};
+ghost use Rattle.lists.specs.Lists.{reading};
 ghost use Rattle.image.specs.Check.{accepted};
 ghost use Rattle.image.specs.Code.Head.{HeadOf};
 ghost use Rattle.image.specs.Read.{listOf};
@@ -21,15 +22,16 @@ pub struct Page {
     pub stamp: u8,
 }
 
-// The page whose first hour this is. None of its counts is read. Stamps come again after 255 pages: one of old does no harm, and none has to be
-// taken away.
-pub(crate) fn front_page(s: &[u8], h: Head, first: u64) -> Page
+// The page whose first hour this is, with so many coins in the hours before it: its sum is what its root is above them, and none of its counts
+// is read. Stamps come again after 255 pages: one of old does no harm, and none has to be taken away.
+pub(crate) fn front_page(s: &[u8], h: Head, first: u64, before: u64) -> Page
     requires { ⌜ (accepted (now s) ≡ true) × HeadOf (now s) h × (first < h .hours) × (first % 2 ^ h .e ≡ 0) ⌝ }
+    requires { ⌜ before ≡ reading (listOf (now s)) first ⌝ }
     ensures { λ r. ⌜ (r .first ≡ first) × FrontPage (now (s .entry)) h r ⌝ }
 {
     let p = first >> h.e;
     let hours = ahead(h, first);
-    let sum = page_sum(s, h, p as usize);
+    let sum = page_root(s, h, p as usize) - before;
     let stamp = (p % 255 + 1) as u8;
     Page {
         first,

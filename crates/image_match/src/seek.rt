@@ -129,9 +129,11 @@ pub(crate) fn find(s: &[u8], h: Head, q: u64) -> Bag
     let mut marks = [0u8; 2048];
     read_page(s, h, 0, &mut back);
     let mut at = Aim { lo: 0, want: q };
+    // where the page at the front starts, and the coins before it
     let mut first = 0;
+    let mut before = 0;
     while first < h.hours {
-        let page = front_page(s, h, first);
+        let page = front_page(s, h, first, before);
         match visit(s, h, q, page, at, &mut front, &mut marks, &mut back) {
             Sought::Found(lo, hours) => {
                 return Bag::Run(lo, hours);
@@ -144,6 +146,7 @@ pub(crate) fn find(s: &[u8], h: Head, q: u64) -> Bag
             }
         }
         first = first + (page.hours as u64);
+        before = before + page.sum;
     }
     Bag::None
 }

@@ -17,7 +17,7 @@ use Rattle.tree.proofs.Exacts.{tree-exact}
 use Rattle.tree.proofs.Shape.{counts-tree}
 use Rattle.image.specs.Check.{accepted}
 use Rattle.image.specs.Code.Head.{HeadOf}
-use Rattle.image.specs.Image.{Limits, bytesFor, code, codeStart, image, page, pages, size, start, tableAt}
+use Rattle.image.specs.Image.{Limits, bytesFor, code, codeStart, image, page, pages, root, size, start, tableAt}
 use Rattle.image.specs.Read.{beforeOf, codeAt, eOf, listOf, nOf, pagesOf, rootOf, sOf, startOf, sumOf, treeAt, widthOf}
 use Rattle.image.specs.declared.head.Head.{Head}
 use Rattle.image.proofs.Accepted.{accepted-only, length-list}
@@ -58,7 +58,10 @@ module _ (s : List ℕ) (a : accepted s ≡ true) where
     inside : p < pages e (length xs)
     inside = omega (arith, pages-same)
 
-    pub sums : sumOf s p ≡ sum (page e xs p)
+    pub roots : rootOf s p ≡ root e xs p
+    roots = ap (λ (z : List ℕ). rootOf z p) same ∙ root-is e xs limits p inside
+
+    sums : sumOf s p ≡ sum (page e xs p)
     sums = ap (λ (z : List ℕ). sumOf z p) same ∙ sum-is e xs limits p inside
 
     tree-there : part (bits s) (treeAt s p) (reserve e (sum (page e xs p))) ≡ tree e (page e xs p)
@@ -68,7 +71,6 @@ module _ (s : List ℕ) (a : accepted s ≡ true) where
     unfolding size bytesFor
     accepted-page =
         let starts : startOf s p ≡ start e xs p = ap (λ (z : List ℕ). startOf z p) same ∙ start-is e xs limits p inside in
-        let roots = ap (λ (z : List ℕ). rootOf z p) same ∙ root-is e xs limits p inside in
         let befores = ap (λ (z : List ℕ). beforeOf z p) same ∙ before-is e xs limits p inside in
         let width : widthOf s ≡ digits (sum xs) = ap widthOf same ∙ width-is e xs limits in
         let at : codeAt s ≡ codeStart (pages e (length xs)) = ap codeAt same ∙ code-is e xs limits in
@@ -80,7 +82,7 @@ module _ (s : List ℕ) (a : accepted s ≡ true) where
           e-high = limits .e-high;
           entry-in = omega (arith, inside);
           narrow = omega (arith, width-most (sum xs) (limits .total));
-          rises = omega (arith, page-sum e xs p);
+          rises = omega (arith, roots, page-sum e xs p);
           sum-small = omega (arith, sums, page-le e xs p, limits .total);
           code-low = omega arith;
           end-low = omega (arith, start-within e xs p inside, code-most e xs limits);
@@ -107,21 +109,21 @@ unfolding beforeOf
 before-next s zero l = absurd (omega arith)
 before-next s (suc p) l = ap (rootOf s) {x = suc p - 1} {y = p} (omega arith)
 
--- its sum is what its root is above the one before it
-pub sum-same : (s : List ℕ) (p r x : ℕ) → r ≡ rootOf s p → x ≡ beforeOf s p → r - x ≡ sumOf s p
-unfolding sumOf
-sum-same s p r x d q = ap₂ _-_ d q
-
--- what was read of it and of the header: its sum t, its start bit b, and a root's width w
-pub record Numbers (s : List ℕ) (h : Head) (p t b w : ℕ) : Type 0 where
+-- what was read of it and of the header: its root r, the root x before it, its start bit b, and a root's width w
+pub record Numbers (s : List ℕ) (h : Head) (p r x b w : ℕ) : Type 0 where
   pub page : Page s p
   pub head : HeadOf s h
-  pub sum-is : t ≡ sumOf s p
+  pub root-is : r ≡ rootOf s p
+  pub before-is : x ≡ beforeOf s p
   pub start-is : b ≡ startOf s p
   pub width-is : w ≡ widthOf s
 
 -- its tree: what decoding asks, and what it gives
-module _ {s : List ℕ} {h : Head} {p t b w : ℕ} (n : Numbers s h p t b w) where
+module _ {s : List ℕ} {h : Head} {p r x b w : ℕ} (n : Numbers s h p r x b w) where
+  sum-same : r - x ≡ sumOf s p
+  unfolding sumOf
+  sum-same = ap₂ _-_ (n .root-is) (n .before-is)
+
   tree-same : h .code + b + w ≡ treeAt s p
   unfolding treeAt
   tree-same = omega (arith, n .head .code-is, n .start-is, n .width-is)
@@ -129,28 +131,28 @@ module _ {s : List ℕ} {h : Head} {p t b w : ℕ} (n : Numbers s h p t b w) whe
   pub tree-small : h .code + b + w ≤ 4295491711
   tree-small = omega (arith, n .page .code-low, n .page .end-low, n .head .code-is, n .start-is, n .width-is)
 
-  pub tree-lies : Lies s (h .code + b + w) (h .e) t
+  pub tree-lies : Lies s (h .code + b + w) (h .e) (r - x)
   tree-lies =
       let g = n .page in
-      let own : reserve (h .e) t ≡ reserve (eOf s) (sumOf s p) = ap₂ reserve (n .head .e-is) (n .sum-is) in
+      let own : reserve (h .e) (r - x) ≡ reserve (eOf s) (sumOf s p) = ap₂ reserve (n .head .e-is) sum-same in
       record {
         height = omega (arith, g .e-high, n .head .e-is);
-        total = omega (arith, n .sum-is, g .sum-small);
+        total = omega (arith, sum-same, g .sum-small);
         long = omega (arith, g .entry-in);
         inside = omega (arith, g .end-in, n .head .code-is, n .start-is, n .width-is);
         small = omega (arith, g .end-low, g .code-low, n .head .code-is, n .start-is, n .width-is);
       }
 
-  pub tree-coded : exact (h .e) t (bits s) (h .code + b + w) ≡ true
-  tree-coded = ap₂ (λ (y z : ℕ). exact y z (bits s) (h .code + b + w)) (n .head .e-is) (n .sum-is) ∙ ap (exact (eOf s) (sumOf s p) (bits s)) tree-same ∙ n .page .coded
+  pub tree-coded : exact (h .e) (r - x) (bits s) (h .code + b + w) ≡ true
+  tree-coded = ap₂ (λ (y z : ℕ). exact y z (bits s) (h .code + b + w)) (n .head .e-is) sum-same ∙ ap (exact (eOf s) (sumOf s p) (bits s)) tree-same ∙ n .page .coded
 
-  pub sum-fits : t < 4294967296
-  sum-fits = omega (arith, n .sum-is, n .page .sum-small)
+  pub sum-fits : r - x < 4294967296
+  sum-fits = omega (arith, sum-same, n .page .sum-small)
 
   pub room : (k : ℕ) → 256 ≤ k → 0 + 2 ^ h .e ≤ k
   room k l = omega (arith, pow-mono {i = h .e} {j = 8} (omega (arith, n .page .e-high, n .head .e-is)))
 
-  pub decoded : (o o₁ : List ℕ) → o₁ ≡ splice o 0 (counts (h .e) t (bits s) (h .code + b + w)) → o₁ ≡ splice o 0 (page (eOf s) (listOf s) p)
+  pub decoded : (o o₁ : List ℕ) → o₁ ≡ splice o 0 (counts (h .e) (r - x) (bits s) (h .code + b + w)) → o₁ ≡ splice o 0 (page (eOf s) (listOf s) p)
   decoded o o₁ q =
-      q ∙ ap (splice o 0) (ap₂ (λ (y z : ℕ). counts y z (bits s) (h .code + b + w)) (n .head .e-is) (n .sum-is)
+      q ∙ ap (splice o 0) (ap₂ (λ (y z : ℕ). counts y z (bits s) (h .code + b + w)) (n .head .e-is) sum-same
       ∙ ap (counts (eOf s) (sumOf s p) (bits s)) tree-same ∙ n .page .counts-are)

@@ -1,4 +1,4 @@
-// The counts of a page of an image that the full check has accepted, and their sum. Nothing is tested here: a caller checks once, reads the
+// The counts of a page of an image that the full check has accepted, and its root. Nothing is tested here: a caller checks once, reads the
 // header once, and then goes page by page over one lent array.
 use bits::numbers::get4;
 use image::head::Head;
@@ -8,11 +8,11 @@ ghost use mathlib.Core.Bool.{true};
 ghost use mathlib.Core.Path.{_≡_};
 ghost use Prim.Native.Nat.{_≤_, _<_};
 ghost use lib.ListN.{length};
-ghost use Rattle.lists.specs.Lists.{splice, sum};
+ghost use Rattle.lists.specs.Lists.{splice};
 ghost use Rattle.image.specs.Check.{accepted};
 ghost use Rattle.image.specs.Code.Head.{HeadOf};
-ghost use Rattle.image.specs.Image.{page};
-ghost use Rattle.image.specs.Read.{beforeOf, eOf, listOf, pagesOf, rootOf, startOf, sumOf, widthOf};
+ghost use Rattle.image.specs.Image.{page, root};
+ghost use Rattle.image.specs.Read.{beforeOf, eOf, listOf, pagesOf, rootOf, startOf, widthOf};
 
 // Where page p starts in the code, from the table.
 fn start_of(s: &[u8], h: Head, p: usize) -> usize
@@ -41,22 +41,12 @@ fn root_before(s: &[u8], h: Head, w: u32, p: usize) -> u64
     root_of(s, h, w, p - 1)
 }
 
-// The sum of page p's counts: what its root, of w bits, is above the one before it.
-fn sum_of(s: &[u8], h: Head, w: u32, p: usize) -> u64
-    requires { ⌜ (accepted (now s) ≡ true) × HeadOf (now s) h × (p < pagesOf (now s)) × (w ≡ widthOf (now s)) ⌝ }
-    ensures { λ r. ⌜ r ≡ sumOf (now (s .entry)) p ⌝ }
-{
-    let root = root_of(s, h, w, p);
-    let before = root_before(s, h, w, p);
-    root - before
-}
-
-// The sum of the counts of page p of the image s, whose header is h. None of them is decoded.
-pub fn page_sum(s: &[u8], h: Head, p: usize) -> u64
+// The root of page p of the image s, whose header is h: the sum of all counts to the page's end, none of which is decoded.
+pub fn page_root(s: &[u8], h: Head, p: usize) -> u64
     requires { ⌜ (accepted (now s) ≡ true) × HeadOf (now s) h × (p < pagesOf (now s)) ⌝ }
-    ensures { λ r. ⌜ r ≡ sum (page (eOf (now (s .entry))) (listOf (now (s .entry))) p) ⌝ }
+    ensures { λ r. ⌜ r ≡ root (eOf (now (s .entry))) (listOf (now (s .entry))) p ⌝ }
 {
-    sum_of(s, h, reserve::digits_of(h.total), p)
+    root_of(s, h, reserve::digits_of(h.total), p)
 }
 
 // Puts the 2^e counts of page p of the image s, whose header is h, at the front of counts, zeros from hour N on among them. What stands
@@ -66,7 +56,8 @@ pub fn page_counts(s: &[u8], h: Head, p: usize, counts: &mut [u32])
     ensures { λ _. ⌜ now (counts .exit) ≡ splice (now (counts .entry)) 0 (page (eOf (now (s .entry))) (listOf (now (s .entry))) p) ⌝ }
 {
     let w = reserve::digits_of(h.total);
-    let sum = sum_of(s, h, w, p);
+    let root = root_of(s, h, w, p);
+    let before = root_before(s, h, w, p);
     let tree = h.code + start_of(s, h, p) + (w as usize);
-    decode(s, tree, h.e, sum, counts, 0);
+    decode(s, tree, h.e, root - before, counts, 0);
 }

@@ -21,13 +21,15 @@ module _ (c : tie.After-digits-of) where
 -- the page's numbers
 module _ (c : tie.After-start-of) where
   abbrev top : tie.After-digits-of
-  top = c .before .before
+  top = c .before .before .before
 
-  numbers : Numbers (call top .args .s .now) (call top .args .h) (call top .args .p) (c .before .sum-of .result) (c .start-of .result) (top .digits-of .result)
+  numbers : Numbers (call top .args .s .now) (call top .args .h) (call top .args .p) (c .before .before .root-of .result)
+      (c .before .root-before .result) (c .start-of .result) (top .digits-of .result)
   numbers = record {
     page = page (call top);
     head = call top .pre .1;
-    sum-is = c .before .sum-of .ensures;
+    root-is = c .before .before .root-of .ensures;
+    before-is = c .before .root-before .ensures;
     start-is = c .start-of .ensures;
     width-is = width-is top;
   }
@@ -35,10 +37,15 @@ module _ (c : tie.After-start-of) where
 digits-of-requires : tie.Need-digits-of-requires
 digits-of-requires c κs = search needs
 
-sum-of-requires : tie.Need-sum-of-requires
-sum-of-requires c κs =
+root-of-requires : tie.Need-root-of-requires
+root-of-requires c κs =
     let a = call c in
     (a .pre .0, a .pre .1, a .pre .2, width-is c)
+
+root-before-requires : tie.Need-root-before-requires
+root-before-requires c κs =
+    let a = call (c .before) in
+    (a .pre .0, a .pre .1, a .pre .2, width-is (c .before))
 
 start-of-requires : tie.Need-start-of-requires
 start-of-requires c κs = search needs
@@ -51,6 +58,11 @@ cast-tree c = search needs
 
 add-tree-2 : tie.Need-add-tree-2
 add-tree-2 c = omega (arith, tree-small (numbers (c .before)))
+
+sub-decode : tie.Need-sub-decode
+sub-decode c =
+    let n = numbers (c .before) in
+    omega (arith, n .page .rises, n .root-is, n .before-is)
 
 decode-requires : tie.Need-decode-requires
 decode-requires c κs =
@@ -71,11 +83,13 @@ page-counts-spec =
     tie.close
     (tie.spec
     digits-of-requires
-    sum-of-requires
+    root-of-requires
+    root-before-requires
     start-of-requires
     add-tree
     cast-tree
     add-tree-2
+    sub-decode
     decode-requires
     same-length
     returns)

@@ -4,20 +4,22 @@ use Prim.Native.Nat.{ℕ, _+_, _-_}
 use native.Mathlib.Omega.{arith}
 use lib.ListN.{length}
 use borrow.Author.Needs.{needs}
+use Rattle.lists.specs.Lists.{reading}
 use Rattle.image.specs.Read.{listOf}
 use Rattle.image_cursor.specs.Code.Cursor.{Ready}
 use Rattle.image_match.specs.Code.Seek.{Brings, Seeks}
-use Rattle.image_match.proofs.PageLaws.{Border, border-first, border-next, hours}
+use Rattle.image_match.proofs.PageLaws.{Border, border-first, border-next, coins-first, coins-next, coins-small, hours}
 use Rattle.image_match.proofs.SeekLaws.{seeks-as, seeks-beyond, seeks-first, seeks-none}
 use Rattle.image_match.proofs.seek.find.Statement.{statement}
 use Rattle.image_match.proofs.seek.find.Tie as tie
 
 abbrev Inv-loop : tie.InvT-loop
-Inv-loop s h q front₀ back₀ marks₀ at₀ first₀ front back marks at first =
+Inv-loop s h q front₀ back₀ marks₀ at₀ first₀ before₀ front back marks at first before =
     Border h first × Seeks (listOf s) q first at × Ready s (at .lo) back × (length front ≡ 256) × (length marks ≡ 2048)
+    × (before ≡ reading (listOf s) first)
 
 abbrev μ-loop : tie.MeasureT-loop
-μ-loop s h q front₀ back₀ marks₀ at₀ first₀ front back marks at first = h .hours - first
+μ-loop s h q front₀ back₀ marks₀ at₀ first₀ before₀ front back marks at first before = h .hours - first
 
 slice-aggregate-read-page : tie.Need-slice-aggregate-read-page Inv-loop μ-loop
 slice-aggregate-read-page c = search needs
@@ -28,14 +30,14 @@ read-page-requires c κs = search needs
 loop-holds : tie.Need-loop-holds Inv-loop μ-loop
 loop-holds c =
     let a = c .before .before .before .before in
-    (border-first _, seeks-first _ _ (a .pre .2), c .before .read-page .ensures, refl, refl)
+    (border-first _, seeks-first _ _ (a .pre .2), c .before .read-page .ensures, refl, refl, coins-first (listOf (a .args .s .now)))
 
 front-page-requires : tie.Need-front-page-requires Inv-loop μ-loop
 front-page-requires c κs =
     let b = c .before .before in
     let a = b .before .before .before .before .before .pre in
     let l = c .if1 .taken in
-    (a .0, a .1, l, b .loop .inv .0 .meets l)
+    ((a .0, a .1, l, b .loop .inv .0 .meets l), b .loop .inv .5)
 
 slice-aggregate-visit : tie.Need-slice-aggregate-visit Inv-loop μ-loop
 slice-aggregate-visit c = search needs
@@ -65,8 +67,8 @@ returns c =
 enum-known-next : tie.Need-enum-known-next Inv-loop μ-loop
 enum-known-next c = search needs
 
-sub-t24 : tie.Need-sub-t24 Inv-loop μ-loop
-sub-t24 c =
+sub-t25 : tie.Need-sub-t25 Inv-loop μ-loop
+sub-t25 c =
     let a = c .before .before .before .before .before .before .before .before .before .before .before .before .before .before .before .before .before .before .before .before .args in
     let f = c .before .before .before .before .before .before .before .before .before .before .before .before .front-page .result in
     let x = subst (Brings (a .s .now) (a .q) f _) (c .before .before .before .next .given .1) (c .before .before .before .before .before .before .before .before .visit .ensures) in
@@ -78,24 +80,34 @@ add-first c =
     let f = c .before .before .before .before .before .before .before .before .before .before .before .before .front-page .ensures in
     record { fits = omega (arith, f .0, f .1 .whole .inside, a .1 .hours-small) }
 
+add-before : tie.Need-add-before Inv-loop μ-loop
+add-before c =
+    let b = c .before .before .before .before .before .before .before .before .before .before .before .before .before .before .before .before in
+    let a = b .before .before .before .before .before .pre in
+    let f = c .before .before .before .before .before .before .before .before .before .before .before .before .before .front-page in
+    let e = coins-next _ _ _ _ (f .ensures .0) (f .ensures .1 .page-is) (b .loop .inv .5) in
+    record { fits = omega (arith, e, coins-small _ (a .0) (a .1) (b .loop .first + f .result .hours)) }
+
 loop-less : tie.Need-loop-less Inv-loop μ-loop
 loop-less c =
-    let f = c .before .before .before .before .before .before .before .before .before .before .before .before .front-page .ensures in
+    let f = c .before .before .before .before .before .before .before .before .before .before .before .before .before .front-page .ensures in
     omega (arith, f .0, f .1 .whole .some (f .1 .logged), f .1 .whole .inside)
 
 loop-again : tie.Need-loop-again Inv-loop μ-loop
 loop-again c =
-    let b = c .before .before .before .before .before .before .before .before .before .before .before .before .before .before .before in
+    let b = c .before .before .before .before .before .before .before .before .before .before .before .before .before .before .before .before in
     let a = b .before .before .before .before .before .args in
-    let f = c .before .before .before .before .before .before .before .before .before .before .before .before .front-page in
+    let f = c .before .before .before .before .before .before .before .before .before .before .before .before .before .front-page in
     let g = f .ensures in
     let e = ap (λ (z : ℕ). z + f .result .hours) (sym (g .0)) in
-    let x = subst (Brings (a .s .now) (a .q) (f .result) _) (c .before .before .before .next .given .1) (c .before .before .before .before .before .before .before .before .visit .ensures) in (
+    let v = c .before .before .before .before .before .before .before .before .before .visit in
+    let x = subst (Brings (a .s .now) (a .q) (f .result) _) (c .before .before .before .before .next .given .1) (v .ensures) in (
       border-next _ _ _ _ (g .0) (g .1),
       seeks-as _ _ _ _ _ e (seeks-beyond _ _ _ (g .1 .page-is) _ (x .0) (x .1)),
       x .2,
-      omega (arith, b .loop .inv .3),
-      omega (arith, b .loop .inv .4),
+      omega (arith, b .loop .inv .3, v .kept),
+      omega (arith, b .loop .inv .4, v .kept),
+      coins-next _ _ _ _ (g .0) (g .1 .page-is) (b .loop .inv .5),
     )
 
 returns-2 : tie.Need-returns-2 Inv-loop μ-loop
@@ -121,8 +133,9 @@ find-spec =
     enum-known-lo
     returns
     enum-known-next
-    sub-t24
+    sub-t25
     add-first
+    add-before
     loop-less
     loop-again
     returns-2)
