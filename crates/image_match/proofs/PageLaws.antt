@@ -22,7 +22,7 @@ use Rattle.image_cursor.proofs.CursorLaws.{count-of, page-small as pages-small}
 use Rattle.runs.specs.Runs.{runSum}
 use Rattle.runs.proofs.PrefixSums.{reading-grows, reading-held, run-reading}
 use Rattle.image_match.specs.Code.Marks.{Marked}
-use Rattle.image_match.specs.Code.Page.{CountsOf, FrontPage, Held, PageOf}
+use Rattle.image_match.specs.Code.Page.{CountsOf, FrontPage, InHand, PageOf}
 use Rattle.image_match.specs.declared.page.Page.{Page}
 use Rattle.image_match.proofs.MarkLaws.{marked-of}
 
@@ -108,7 +108,7 @@ module _ (s : List ℕ) (a : accepted s ≡ true) {h : Head} (o : HeadOf s h) wh
     pub held-small : reading counts (page .hours) ≤ 4294967295
     held-small = counts-small page counts (g .page-is) held-counts
 
-    pub held-page : (marks : List ℕ) → Marked counts (page .hours) (page .stamp) marks → Held (listOf s) page counts marks
+    pub held-page : (marks : List ℕ) → Marked counts (page .hours) (page .stamp) marks → InHand (listOf s) page counts marks
     held-page marks m = record {
       counts-are = held-counts;
       marked = marked-of counts (drop (page .first) (listOf s)) (page .hours) (page .stamp) marks held-readings m;

@@ -11,7 +11,7 @@ use Rattle.runs.specs.Runs.{FirstMatch, NoMatch, runSum}
 use Rattle.runs.proofs.MatchLaws.{passed-first, passed-found, passed-none, passed-on}
 use Rattle.runs.proofs.PrefixSums.{reading-grows, reading-next, run-reading}
 use Rattle.image_match.specs.Code.Marks.{Marked, Unmarked}
-use Rattle.image_match.specs.Code.Page.{CountsOf, Held, MarksOf, PageOf}
+use Rattle.image_match.specs.Code.Page.{CountsOf, InHand, MarksOf, PageOf}
 use Rattle.image_match.specs.Code.Part.{Looked}
 use Rattle.image_match.specs.Code.Seek.{Seeks}
 use Rattle.image_match.specs.declared.seek.Aim.{Aim}
@@ -46,7 +46,7 @@ module _ (xs : List ℕ) (q first : ℕ) (at : Aim) (w : Seeks xs q first at) wh
   seeks-none e = passed-none xs q (at .lo) (w .passed) (omega (arith, w .wants, w .some, ap (reading xs) e))
 
 -- ---- the search in a page
-pub counts-marked : (xs : List ℕ) (page : Page) (counts marks : List ℕ) → Held xs page counts marks → Marked counts (page .hours) (page .stamp) marks
+pub counts-marked : (xs : List ℕ) (page : Page) (counts marks : List ℕ) → InHand xs page counts marks → Marked counts (page .hours) (page .stamp) marks
 counts-marked xs page counts marks g =
     marked-of (drop (page .first) xs) counts (page .hours) (page .stamp) marks (λ k l. sym (g .counts-are .readings k l)) (g .marked)
 

@@ -12,7 +12,7 @@ ghost use Rattle.lists.specs.Lists.{reading};
 ghost use Rattle.image.specs.Check.{accepted};
 ghost use Rattle.image.specs.Code.Head.{HeadOf};
 ghost use Rattle.image.specs.Read.{listOf};
-ghost use Rattle.image_match.specs.Code.Page.{FrontPage, Held};
+ghost use Rattle.image_match.specs.Code.Page.{FrontPage, InHand};
 
 // Its first hour, how many it has and their sum, and the stamp of its marks.
 pub struct Page {
@@ -45,7 +45,7 @@ pub(crate) fn front_page(s: &[u8], h: Head, first: u64, before: u64) -> Page
 pub(crate) fn mark_page(s: &[u8], h: Head, page: Page, counts: &mut [u32], marks: &mut [u8])
     requires { ⌜ (accepted (now s) ≡ true) × HeadOf (now s) h × FrontPage (now s) h page ⌝ }
     requires { ⌜ (length (now counts) ≡ 256) × (length (now marks) ≡ 2048) ⌝ }
-    ensures { λ _. ⌜ Held (listOf (now (s .entry))) page (now (counts .exit)) (now (marks .exit)) ⌝ }
+    ensures { λ _. ⌜ InHand (listOf (now (s .entry))) page (now (counts .exit)) (now (marks .exit)) ⌝ }
 {
     read_page(s, h, page.first, counts);
     mark(counts, page.hours, page.stamp, marks);

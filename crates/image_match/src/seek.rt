@@ -22,7 +22,7 @@ ghost use Rattle.image.specs.Code.Head.{HeadOf};
 ghost use Rattle.image.specs.Read.{listOf};
 ghost use Rattle.image_cursor.specs.Code.Cursor.{Ready};
 ghost use Rattle.runs.specs.Code.{Passed};
-ghost use Rattle.image_match.specs.Code.Page.{FrontPage, Held, MarksOf, PageOf};
+ghost use Rattle.image_match.specs.Code.Page.{FrontPage, InHand, MarksOf, PageOf};
 ghost use Rattle.image_match.specs.Code.Seek.{Brings, Finds, Later, Seeks};
 
 // The first hour of the runs that are tried, and how many coins more than before the page at the front are wanted where one of them ends.
@@ -77,7 +77,7 @@ fn seek(
     back: &mut [u32],
 ) -> Sought
     requires { ⌜ (accepted (now s) ≡ true) × HeadOf (now s) h × (1 ≤ q) ⌝ }
-    requires { ⌜ PageOf (listOf (now s)) page × Held (listOf (now s)) page (now front) (now marks) ⌝ }
+    requires { ⌜ PageOf (listOf (now s)) page × InHand (listOf (now s)) page (now front) (now marks) ⌝ }
     requires { ⌜ Seeks (listOf (now s)) q (page .first) from × Ready (now s) (from .lo) (now back) ⌝ }
     ensures { λ r. ⌜ Brings (now (s .entry)) q page (now (back .exit)) r ⌝ }
 {

@@ -15,7 +15,7 @@ use Rattle.tree.specs.declared.node.Split.{Split}
 use Rattle.tree.proofs.Rooting.{left-lies, right-lies}
 use Rattle.tree_word.proofs.Decoding.{Unfolded, unfolded, both-halves}
 use Rattle.tree.proofs.OneWord.{four-fits}
-use Rattle.tree_word.proofs.InWord.{Held, loaded, word-exact, word-counts, few-digits}
+use Rattle.tree_word.proofs.WordBits.{HighEnd, loaded, word-exact, word-counts, few-digits}
 
 -- the words v and w are each loaded where a half starts
 pub record InHalves (b : List ℕ) (a s : ℕ) (r : Split) : Type 0 where
@@ -38,14 +38,14 @@ module _ {b : List ℕ} {a s : ℕ} {r : Split} (q : InHalves b a s r) where
   second-lies = right-lies (q .lies) (node .node)
 
   module _ (v : ℕ) (f : Front (bits b) (r .first) v) where
-    first-held : Held (bits b) (r .first) 2 (r .left) v
+    first-held : HighEnd (bits b) (r .first) 2 (r .left) v
     first-held = loaded v first-lies (four-fits (r .left) (few-digits (q .few) (r .left) root-le)) f
 
     pub first-exact : exact 2 (r .left) (field 64 v) 0 ≡ true
     first-exact = word-exact first-held (node .left-exact)
 
     module _ (w : ℕ) (g : Front (bits b) (r .second) w) where
-      second-held : Held (bits b) (r .second) 2 (s - r .left) w
+      second-held : HighEnd (bits b) (r .second) 2 (s - r .left) w
       second-held = loaded w second-lies (four-fits (s - r .left) (few-digits (q .few) (s - r .left) (omega arith))) g
 
       pub second-exact : exact 2 (s - r .left) (field 64 w) 0 ≡ true

@@ -19,7 +19,7 @@ use Rattle.tree.specs.Exact.{exact}
 use Rattle.tree.proofs.OneWord.{fewer-digits}
 use Rattle.tree.proofs.TwoCounts.{reserve-pair}
 use Rattle.tree_word.proofs.Decoding.{BothExact, both-exact}
-use Rattle.tree_word.proofs.InWord.{left-at}
+use Rattle.tree_word.proofs.WordBits.{left-at}
 
 -- the left sum l, and the pairs' left counts x and y
 counts-four : (s l x y : ℕ) (b : List ℕ) (a : ℕ) → leftOf s b a ≡ l → leftOf l b (leftAt s a) ≡ x → leftOf (s - l) b (rightAt 1 s l a) ≡ y

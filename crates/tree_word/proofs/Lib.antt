@@ -1,7 +1,7 @@
 -- Laws of the counts: half by half, out of a word's own bits, both halves out of one word, four at a time, into zeros, and both halves
 -- out of one word into zeros.
 pub mod Decoding
-pub mod InWord
+pub mod WordBits
 pub mod WordHalves
 pub mod FourCounts
 pub mod IntoZeros

@@ -13,7 +13,7 @@ use Rattle.reserve.proofs.Fit.{fit-all, grows}
 use Rattle.tree.specs.Read.{leftOf, leftAt, rightAt, counts}
 use Rattle.tree.specs.Exact.{exact}
 use Rattle.tree_word.proofs.Decoding.{BothExact, both-exact, halves-written}
-use Rattle.tree_word.proofs.InWord.{Held, raised, word-exact, word-counts, left-at}
+use Rattle.tree_word.proofs.WordBits.{HighEnd, raised, word-exact, word-counts, left-at}
 
 -- as the code works them out: the left sum l, by the digits t of s
 pub record Top (h s w t l : ℕ) : Type 0 where
@@ -43,14 +43,14 @@ module _ {h s w t l : ℕ} (q : Top h s w t l) where
   behind x y e k = omega (arith, q .digits-are, q .whole, grows h x s k, fit-all h s s 0 (omega arith))
 
   -- the word's bits behind the left sum, and those behind the left half, whose reserve is x
-  left-held : Held (field 64 w) (leftAt s 0) h l ((w * 2 ^ t) % 2 ^ 64)
+  left-held : HighEnd (field 64 w) (leftAt s 0) h l ((w * 2 ^ t) % 2 ^ 64)
   left-held = raised w (leftAt s 0) h l t (omega (arith, q .digits-are)) (omega (arith, room))
 
   pub left-exact : exact h l (field 64 ((w * 2 ^ t) % 2 ^ 64)) 0 ≡ true
   left-exact = word-exact left-held (both .left)
 
   module _ (x : ℕ) (ex : x ≡ reserve h l) where
-    right-held : Held (field 64 w) (rightAt h s l 0) h (s - l) ((w * 2 ^ (t + x)) % 2 ^ 64)
+    right-held : HighEnd (field 64 w) (rightAt h s l 0) h (s - l) ((w * 2 ^ (t + x)) % 2 ^ 64)
     right-held = raised w (rightAt h s l 0) h (s - l) (t + x) (omega (arith, q .digits-are, ex)) (omega (arith, ex, room))
 
     pub right-exact : exact h (s - l) (field 64 ((w * 2 ^ (t + x)) % 2 ^ 64)) 0 ≡ true

@@ -33,6 +33,6 @@ pub record FrontPage (s : List ℕ) (h : Head) (page : Page) : Type 0 where
   pub page-is : PageOf (listOf s) page
 
 -- the page in an array and a table of marks
-pub record Held (xs : List ℕ) (page : Page) (counts marks : List ℕ) : Type 0 where
+pub record InHand (xs : List ℕ) (page : Page) (counts marks : List ℕ) : Type 0 where
   pub counts-are : CountsOf xs page counts
   pub marked : MarksOf xs page marks

@@ -15,7 +15,7 @@ use Rattle.tree.proofs.Shape.{length-counts}
 use Rattle.tree_word.specs.Code.Whole.{Whole}
 use Rattle.tree_word.proofs.Decoding.{Unfolded, unfolded, one-count, both-halves, OfHeight, of-height, height-written}
 use Rattle.tree.proofs.OneWord.{four-fits}
-use Rattle.tree_word.proofs.InWord.{Held, loaded, word-exact, word-counts}
+use Rattle.tree_word.proofs.WordBits.{HighEnd, loaded, word-exact, word-counts}
 use Rattle.tree_word.proofs.IntoZeros.{none-written, left-zeros, right-zeros}
 use borrow.Author.Needs.{needs}
 use Prim.Native.Nat.{ℕ, _<_}
@@ -76,7 +76,7 @@ module _ (t : ℕ) (c : decode-node-lts.After-load (callees t) (decode-node-at t
   in-one : Whole (small .args .h) (small .args .s)
   in-one = c .before .before .before .fits2 .ensures (c .before .before .if1 .taken)
 
-  all-held : Held (bits (small .args .b .now .now)) (small .args .at) (small .args .h) (small .args .s) (c .load .result)
+  all-held : HighEnd (bits (small .args .b .now .now)) (small .args .at) (small .args .h) (small .args .s) (c .load .result)
   all-held = loaded _ (small .pre .1 .0 .0) (in-one .bits) (c .load .ensures)
 
 -- where eight counts are decoded
@@ -98,7 +98,7 @@ module _ (t : ℕ) (c : decode-node-lts.After-load2 (callees t) (decode-node-at 
   four-at : OfHeight 2 (low .args .b .now .now) (low .args .at) (low .args .s) (low .args .out .now) (low .args .from)
   four-at = let p = low .pre .1 in of-height (fits .0) (record { lies = p .0 .0; code = p .0 .1; room = p .1 .1 })
 
-  held : Held (bits (low .args .b .now .now)) (low .args .at) 2 (low .args .s) (c .load2 .result)
+  held : HighEnd (bits (low .args .b .now .now)) (low .args .at) 2 (low .args .s) (c .load2 .result)
   held = loaded _ (four-at .lies) (four-fits (low .args .s) (fits .1)) (c .load2 .ensures)
 
 -- where the root was read

@@ -6,7 +6,7 @@ use borrow.Author.Needs.{needs}
 use Rattle.lists.specs.Lists.{splice}
 use Rattle.bits.specs.Bits.{bits}
 use Rattle.tree.proofs.OneWord.{eight-fits}
-use Rattle.tree_word.proofs.InWord.{Held, loaded, word-exact, word-counts, few-digits}
+use Rattle.tree_word.proofs.WordBits.{HighEnd, loaded, word-exact, word-counts, few-digits}
 use Rattle.tree_decode.proofs.EightCounts.{InHalves, root-le, first-lies, second-lies, first-exact, second-exact, fours-written}
 use Rattle.tree_decode.proofs.lowest.Statement.{statement}
 use Rattle.tree_decode.proofs.lowest.Tie as tie
@@ -19,7 +19,7 @@ module _ (c : tie.After-load) where
   few : whole .args .s < 439
   few = c .before .before .eight-in-word .ensures (c .before .if1 .taken) .1
 
-  held : Held (bits (whole .args .b .now)) (whole .args .at) 3 (whole .args .s) (c .load .result)
+  held : HighEnd (bits (whole .args .b .now)) (whole .args .at) 3 (whole .args .s) (c .load .result)
   held = loaded _ (whole .pre .0) (eight-fits (whole .args .s) few) (c .load .ensures)
 
 -- where the root was read

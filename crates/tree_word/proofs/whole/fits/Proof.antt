@@ -1,7 +1,7 @@
 -- `tree_word::whole::fits` meets its contract. Assumes nothing.
 use native.Mathlib.Omega.{arith}
 use borrow.Author.Tests.{ltb-true, eqb-true}
-use Rattle.tree_word.proofs.InWord.{sixteen, thirty-two, sixty-four}
+use Rattle.tree_word.proofs.WordBits.{sixteen, thirty-two, sixty-four}
 use Rattle.tree_word.proofs.whole.fits.Statement.{statement}
 use Rattle.tree_word.proofs.whole.fits.Tie as tie
 

@@ -40,12 +40,12 @@ pub few-digits : {s : ℕ} → s < 524288 → (x : ℕ) → x ≤ s → digits x
 few-digits l x k = digits-le x 19 (omega arith)
 
 -- ---- the bits that a tree owns in b from bit a on stand at the high end of w
-pub record Held (b : List ℕ) (a h s w : ℕ) : Type 0 where
+pub record HighEnd (b : List ℕ) (a h s w : ℕ) : Type 0 where
   pub each : Bits b
   pub inside : a + reserve h s ≤ length b
   pub same : part (field 64 w) 0 (reserve h s) ≡ part b a (reserve h s)
 
-module _ {b : List ℕ} {a h s w : ℕ} (o : Held b a h s w) (x : exact h s b a ≡ true) where
+module _ {b : List ℕ} {a h s w : ℕ} (o : HighEnd b a h s w) (x : exact h s b a ≡ true) where
   pub word-exact : exact h s (field 64 w) 0 ≡ true
   word-exact = exact-local h s (field 64 w) b 0 a (o .same) ∙ x
 
@@ -53,7 +53,7 @@ module _ {b : List ℕ} {a h s w : ℕ} (o : Held b a h s w) (x : exact h s b a 
   word-counts = counts-local h s b (field 64 w) a 0 (o .each) (o .inside) (sym (o .same)) x
 
 -- in a word that was loaded
-pub loaded : {b : List ℕ} {a h s : ℕ} (w : ℕ) → Lies b a h s → reserve h s ≤ 57 → Front (bits b) a w → Held (bits b) a h s w
+pub loaded : {b : List ℕ} {a h s : ℕ} (w : ℕ) → Lies b a h s → reserve h s ≤ 57 → Front (bits b) a w → HighEnd (bits b) a h s w
 loaded {b} {a} {h} {s} w y few f =
     let r : ℕ = reserve h s in
     let i : a + r ≤ length (bits b) = omega (arith, y .inside, length-bits b) in
@@ -67,7 +67,7 @@ loaded {b} {a} {h} {s} w y few f =
     }
 
 -- in a word that was shifted up by k
-pub raised : (w a h s k : ℕ) → a ≡ k → k + reserve h s ≤ 64 → Held (field 64 w) a h s ((w * 2 ^ k) % 2 ^ 64)
+pub raised : (w a h s k : ℕ) → a ≡ k → k + reserve h s ≤ 64 → HighEnd (field 64 w) a h s ((w * 2 ^ k) % 2 ^ 64)
 raised w a h s k e l =
     record {
       each = bits-field 64 w;
