@@ -21,10 +21,10 @@ use Rattle.image_cursor.specs.Code.Cursor.{Ahead, Ready}
 use Rattle.image_cursor.proofs.CursorLaws.{count-of, page-small as pages-small}
 use Rattle.runs.specs.Runs.{runSum}
 use Rattle.runs.proofs.PrefixSums.{reading-grows, reading-held, run-reading}
-use Rattle.image_match.specs.Code.Marks.{Marked}
+use Rattle.sum_marks.specs.Code.Marks.{Marked}
 use Rattle.image_match.specs.Code.Page.{CountsOf, FrontPage, InHand, PageOf}
 use Rattle.image_match.specs.declared.page.Page.{Page}
-use Rattle.image_match.proofs.MarkLaws.{marked-of}
+use Rattle.sum_marks.proofs.MarkLaws.{marked-of}
 
 module _ (s : List ℕ) (a : accepted s ≡ true) {h : Head} (o : HeadOf s h) where
   pub hours : length (listOf s) ≡ h .hours

@@ -12,7 +12,7 @@ use Rattle.image.specs.declared.head.Head.{Head}
 use Rattle.image_cursor.specs.Code.Cursor.{Ahead, Ready}
 use Rattle.image_cursor.proofs.CursorLaws.{count-of, place-in}
 use Rattle.runs.specs.Code.{Passed}
-use Rattle.image_match.specs.Code.Marks.{Unmarked}
+use Rattle.sum_marks.specs.Code.Marks.{Unmarked}
 use Rattle.image_match.specs.Code.Page.{MarksOf, PageOf}
 use Rattle.image_match.specs.Code.Seek.{Later, Seeks}
 use Rattle.image_match.specs.declared.seek.Aim.{Aim}

@@ -10,14 +10,14 @@ use Rattle.runs.specs.Code.{Passed}
 use Rattle.runs.specs.Runs.{FirstMatch, NoMatch, runSum}
 use Rattle.runs.proofs.MatchLaws.{passed-first, passed-found, passed-none, passed-on}
 use Rattle.runs.proofs.PrefixSums.{reading-grows, reading-next, run-reading}
-use Rattle.image_match.specs.Code.Marks.{Marked, Unmarked}
+use Rattle.sum_marks.specs.Code.Marks.{Marked, Unmarked}
 use Rattle.image_match.specs.Code.Page.{CountsOf, InHand, MarksOf, PageOf}
-use Rattle.image_match.specs.Code.Part.{Looked}
+use Rattle.sum_marks.specs.Code.Part.{Looked}
 use Rattle.image_match.specs.Code.Seek.{Seeks}
 use Rattle.image_match.specs.declared.seek.Aim.{Aim}
 use Rattle.image_match.specs.declared.page.Page.{Page}
-use Rattle.image_match.specs.declared.part.Part.{Part}
-use Rattle.image_match.proofs.MarkLaws.{marked-of}
+use Rattle.sum_marks.specs.declared.part.Part.{Part}
+use Rattle.sum_marks.proofs.MarkLaws.{marked-of}
 
 -- ---- the search
 pub seeks-first : (xs : List ℕ) (q : ℕ) → 1 ≤ q → Seeks xs q 0 (record { lo = 0; want = q })

@@ -1,7 +1,5 @@
 // The hours of a bag: a run of hours of an image with a given sum.
-mod marks;
 mod page;
-mod part;
 mod seek;
 
 use crate::seek::find;

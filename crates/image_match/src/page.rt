@@ -1,9 +1,9 @@
 // The page at the front, where runs may end: its sum by its root, and its counts read and their sums marked.
-use crate::marks::mark;
 use image::head::Head;
 use image_cursor::cursor::ahead;
 use image_cursor::cursor::read_page;
 use image_page::page_root;
+use sum_marks::marks::mark;
 ghost use mathlib.Core.Bool.{true};
 ghost use mathlib.Core.Path.{_≡_};
 ghost use Prim.Native.Nat.{_%_, _^_, _<_};

@@ -1,18 +1,18 @@
 // The search for hours with sum q along an accepted image, one first hour after another: a run from hour lo on ends where the coins since the
 // log's start are q more than before lo. That is looked up in the marks of the page at the front, which nearly always say that no run from hour
 // lo on ends there: so the jumps nearly always go the same way, as a processor foretells them. Each end has a page in hand.
-use crate::marks::carries;
 use crate::page::Page;
 use crate::page::front_page;
 use crate::page::mark_page;
-use crate::part::Part;
-use crate::part::look;
 use answers::image::Bag;
 use bits_word::low_bits;
 use image::head::Head;
 use image_cursor::cursor::ahead;
 use image_cursor::cursor::read_page;
 use image_cursor::cursor::turn;
+use sum_marks::marks::carries;
+use sum_marks::part::Part;
+use sum_marks::part::look;
 ghost use mathlib.Core.Bool.{true};
 ghost use mathlib.Core.Path.{_≡_};
 ghost use Prim.Native.Nat.{_+_, _≤_};

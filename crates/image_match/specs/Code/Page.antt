@@ -8,7 +8,7 @@ use Rattle.image.specs.Read.{listOf}
 use Rattle.image.specs.declared.head.Head.{Head}
 use Rattle.image_cursor.specs.Code.Cursor.{Ahead}
 use Rattle.runs.specs.Runs.{runSum}
-use Rattle.image_match.specs.Code.Marks.{Marked}
+use Rattle.sum_marks.specs.Code.Marks.{Marked}
 use Rattle.image_match.specs.declared.page.Page.{Page}
 
 -- a page of the list: its hours and their sum

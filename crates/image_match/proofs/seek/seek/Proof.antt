@@ -5,10 +5,10 @@ use native.Mathlib.Omega.{arith}
 use borrow.Author.Needs.{needs}
 use Rattle.image.specs.Read.{listOf}
 use Rattle.image_cursor.specs.Code.Cursor.{Ready}
-use Rattle.image_match.specs.Code.Part.{PartOf}
+use Rattle.sum_marks.specs.Code.Part.{PartOf}
 use Rattle.image_match.specs.Code.Seek.{Seeks}
 use Rattle.image_match.proofs.PageLaws.{counts-small, hours}
-use Rattle.image_match.proofs.PartLaws.{part-first, part-wider}
+use Rattle.sum_marks.proofs.PartLaws.{part-first, part-wider}
 use Rattle.image_match.proofs.SeekLaws.{counts-marked, found-here, over-missed, want-grows}
 use Rattle.image_match.proofs.seek.seek.Statement.{statement}
 use Rattle.image_match.proofs.seek.seek.Tie as tie

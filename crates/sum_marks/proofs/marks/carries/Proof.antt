@@ -1,8 +1,8 @@
--- `image_match::marks::carries` meets its contract. Assumes nothing.
+-- `sum_marks::marks::carries` meets its contract. Assumes nothing.
 use borrow.Author.Needs.{needs}
-use Rattle.image_match.proofs.MarkLaws.{unmarked}
-use Rattle.image_match.proofs.marks.carries.Statement.{statement}
-use Rattle.image_match.proofs.marks.carries.Tie as tie
+use Rattle.sum_marks.proofs.MarkLaws.{unmarked}
+use Rattle.sum_marks.proofs.marks.carries.Statement.{statement}
+use Rattle.sum_marks.proofs.marks.carries.Tie as tie
 
 shared-slice-read-result : tie.Need-shared-slice-read-result
 shared-slice-read-result c = search needs

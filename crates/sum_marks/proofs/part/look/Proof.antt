@@ -1,7 +1,7 @@
--- `image_match::part::look` meets its contract. Assumes nothing.
-use Rattle.image_match.proofs.PartLaws.{looked-unmarked}
-use Rattle.image_match.proofs.part.look.Statement.{statement}
-use Rattle.image_match.proofs.part.look.Tie as tie
+-- `sum_marks::part::look` meets its contract. Assumes nothing.
+use Rattle.sum_marks.proofs.PartLaws.{looked-unmarked}
+use Rattle.sum_marks.proofs.part.look.Statement.{statement}
+use Rattle.sum_marks.proofs.part.look.Tie as tie
 
 carries-requires : tie.Need-carries-requires
 carries-requires c κs = c .before .before .pre .1 .long

@@ -3,7 +3,7 @@ use mathlib.Core.List.{List}
 use mathlib.Core.Path.{_≡_}
 use Prim.Native.Nat.{ℕ, _≤_, _<_}
 use Rattle.lists.specs.Lists.{reading}
-use Rattle.image_match.specs.declared.part.Part.{Part}
+use Rattle.sum_marks.specs.declared.part.Part.{Part}
 
 -- some of n counts and their sum, so few that any fewer have less than is wanted
 pub record PartOf (counts : List ℕ) (n want : ℕ) (r : Part) : Type 0 where

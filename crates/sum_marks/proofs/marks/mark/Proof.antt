@@ -1,11 +1,11 @@
--- `image_match::marks::mark` meets its contract. Assumes nothing.
+-- `sum_marks::marks::mark` meets its contract. Assumes nothing.
 use mathlib.Core.Path.{_≡_, subst}
 use Prim.Native.Nat.{ℕ, _-_, _≤_}
 use native.Mathlib.Omega.{arith}
 use borrow.Author.Needs.{needs}
-use Rattle.image_match.proofs.MarkLaws.{Marking, marking-first, marking-next, sum-fits}
-use Rattle.image_match.proofs.marks.mark.Statement.{statement}
-use Rattle.image_match.proofs.marks.mark.Tie as tie
+use Rattle.sum_marks.proofs.MarkLaws.{Marking, marking-first, marking-next, sum-fits}
+use Rattle.sum_marks.proofs.marks.mark.Statement.{statement}
+use Rattle.sum_marks.proofs.marks.mark.Tie as tie
 
 abbrev Inv-loop : tie.InvT-loop
 Inv-loop counts n stamp marks₀ sum₀ i₀ marks sum i = (i ≤ n) × Marking counts i stamp marks sum

@@ -7,9 +7,9 @@ use native.Mathlib.Omega.{arith}
 use lib.ListN.{length, getD}
 use Rattle.lists.specs.Lists.{reading, sum}
 use Rattle.runs.proofs.PrefixSums.{reading-grows, reading-next}
-use Rattle.image_match.specs.Code.Marks.{Marked, Unmarked}
-use Rattle.image_match.specs.Code.Part.{Looked, PartOf}
-use Rattle.image_match.specs.declared.part.Part.{Part}
+use Rattle.sum_marks.specs.Code.Marks.{Marked, Unmarked}
+use Rattle.sum_marks.specs.Code.Part.{Looked, PartOf}
+use Rattle.sum_marks.specs.declared.part.Part.{Part}
 
 pub part-first : (counts : List ℕ) (n want : ℕ) → PartOf counts n want (record { hours = 0; sum = 0 })
 unfolding sum

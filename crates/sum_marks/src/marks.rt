@@ -5,10 +5,10 @@ ghost use mathlib.Core.Path.{_≡_};
 ghost use Prim.Native.Nat.{_≤_};
 ghost use lib.ListN.{length};
 ghost use Rattle.lists.specs.Lists.{reading};
-ghost use Rattle.image_match.specs.Code.Marks.{Marked, Unmarked};
+ghost use Rattle.sum_marks.specs.Code.Marks.{Marked, Unmarked};
 
 // Marks the sums of n counts.
-pub(crate) fn mark(counts: &[u32], n: usize, stamp: u8, marks: &mut [u8])
+pub fn mark(counts: &[u32], n: usize, stamp: u8, marks: &mut [u8])
     requires { ⌜ (n ≤ length (now counts)) × (reading (now counts) n ≤ 4294967295) × (length (now marks) ≡ 2048) ⌝ }
     ensures { λ _. ⌜ Marked (now (counts .entry)) n stamp (now (marks .exit)) ⌝ }
 {
@@ -22,7 +22,7 @@ pub(crate) fn mark(counts: &[u32], n: usize, stamp: u8, marks: &mut [u8])
 }
 
 // Whether there is a mark at the place of a sum.
-pub(crate) fn carries(marks: &[u8], sum: u64, stamp: u8) -> bool
+pub fn carries(marks: &[u8], sum: u64, stamp: u8) -> bool
     requires { ⌜ length (now marks) ≡ 2048 ⌝ }
     ensures { λ r. ⌜ (r ≡ false → Unmarked (now (marks .entry)) stamp sum) ⌝ }
 {

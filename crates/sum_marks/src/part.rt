@@ -3,8 +3,8 @@ use crate::marks::carries;
 ghost use Prim.Native.Nat.{_≤_};
 ghost use lib.ListN.{length};
 ghost use Rattle.lists.specs.Lists.{reading};
-ghost use Rattle.image_match.specs.Code.Marks.{Marked};
-ghost use Rattle.image_match.specs.Code.Part.{Looked, PartOf};
+ghost use Rattle.sum_marks.specs.Code.Marks.{Marked};
+ghost use Rattle.sum_marks.specs.Code.Part.{Looked, PartOf};
 
 // How many of a page's first counts, and their sum.
 pub struct Part {
@@ -30,7 +30,7 @@ fn reach(counts: &[u32], n: usize, from: Part, want: u64) -> Part
 }
 
 // Looks for the first of n counts with just as many coins as are wanted: only where there is a mark.
-pub(crate) fn look(counts: &[u32], n: usize, marks: &[u8], stamp: u8, from: Part, want: u64) -> Part
+pub fn look(counts: &[u32], n: usize, marks: &[u8], stamp: u8, from: Part, want: u64) -> Part
     requires { ⌜ (n ≤ length (now counts)) × (reading (now counts) n ≤ 4294967295) × PartOf (now counts) n want from ⌝ }
     requires { ⌜ Marked (now counts) n stamp (now marks) ⌝ }
     ensures { λ r. ⌜ Looked (now (counts .entry)) n want r ⌝ }

@@ -1,13 +1,13 @@
--- `image_match::part::reach` meets its contract. Assumes nothing.
+-- `sum_marks::part::reach` meets its contract. Assumes nothing.
 use mathlib.Core.Path.{refl}
 use Prim.Native.Nat.{_-_}
 use native.Mathlib.Omega.{arith}
 use borrow.Author.Needs.{needs}
-use Rattle.image_match.specs.Code.Part.{PartOf}
-use Rattle.image_match.proofs.MarkLaws.{sum-fits}
-use Rattle.image_match.proofs.PartLaws.{looked-reached, part-more}
-use Rattle.image_match.proofs.part.reach.Statement.{statement}
-use Rattle.image_match.proofs.part.reach.Tie as tie
+use Rattle.sum_marks.specs.Code.Part.{PartOf}
+use Rattle.sum_marks.proofs.MarkLaws.{sum-fits}
+use Rattle.sum_marks.proofs.PartLaws.{looked-reached, part-more}
+use Rattle.sum_marks.proofs.part.reach.Statement.{statement}
+use Rattle.sum_marks.proofs.part.reach.Tie as tie
 
 abbrev Inv-loop : tie.InvT-loop
 Inv-loop counts n want sum₀ i₀ sum i = PartOf counts n want (record { hours = i; sum = sum })

@@ -11,7 +11,7 @@ use lib.Seq.{getD-set-other, getD-set-same}
 use borrow.Author.Tests.{eqb-false}
 use Rattle.lists.specs.Lists.{reading, sum}
 use Rattle.runs.proofs.PrefixSums.{reading-grows, reading-next}
-use Rattle.image_match.specs.Code.Marks.{Marked, Unmarked}
+use Rattle.sum_marks.specs.Code.Marks.{Marked, Unmarked}
 
 -- the first n of the counts are marked, and this is their sum
 abbrev pub Marking : List ℕ → ℕ → ℕ → List ℕ → ℕ → Type 0
