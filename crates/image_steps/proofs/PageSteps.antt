@@ -16,8 +16,7 @@ use Rattle.reserve.specs.Reserve.{digits, reserve}
 use Rattle.reserve.proofs.Exact.{digits-is}
 use Rattle.tree.specs.Tree.{tree}
 use Rattle.tree.proofs.Shape.{length-tree}
-use Rattle.image.specs.Image.{Limits, bytesFor, code, image, maxTotal, page, pageCode, pages, root, size, start, tableAt}
-use Rattle.image_steps.specs.Code.Planning.{codeStart}
+use Rattle.image.specs.Image.{Limits, bytesFor, code, codeStart, image, maxTotal, page, pageCode, pages, root, size, start, tableAt}
 use Rattle.image_steps.specs.Code.Writing.{PlaceOf}
 use Rattle.image.proofs.ReadLaws.{length-image}
 use Rattle.image.proofs.PageLaws.{code-most, page-sum, pages-few, root-le, start-next, start-within, width-most}
@@ -43,7 +42,7 @@ pub record Step (e : ℕ) (xs cs : List ℕ) (f i n m w s a x : ℕ) : Type 0 wh
   pub root-fits : x + s < 2 ^ w
   pub end-most : a + w + reserve e s ≤ maxTotal
   pub entry-in : tableAt i + 4 ≤ n
-  pub end-in : codeStart e xs + (a + w + reserve e s) ≤ 8 * n
+  pub end-in : codeStart (pages e (length xs)) + (a + w + reserve e s) ≤ 8 * n
 
 pub step : (e : ℕ) (xs cs : List ℕ) (f i n m t w s a x : ℕ) → Limits e xs → length (image e xs) ≤ n → i < pages e (length xs) → m ≡ 2 ^ e
     → t ≡ sum xs → w ≡ digits t → window cs f (2 ^ e) ≡ page e xs i → s ≡ sum (window cs f m) → a ≡ start e xs i → x ≡ sum (take (2 ^ e * i) xs)
@@ -75,10 +74,10 @@ step e xs cs f i n m t w s a x g room l em et ew ec es ea ex =
     }
 
 -- its start bit, its root and its tree
-pub page-put : {e : ℕ} {xs cs : List ℕ} {f i n m w s a x : ℕ} → Step e xs cs f i n m w s a x → (k : ℕ) (o o₁ o₂ o₃ : List ℕ) → k ≡ codeStart e xs
+pub page-put : {e : ℕ} {xs cs : List ℕ} {f i n m w s a x : ℕ} → Step e xs cs f i n m w s a x → (k : ℕ) (o o₁ o₂ o₃ : List ℕ) → k ≡ codeStart (pages e (length xs))
     → length o ≡ n → o₁ ≡ splice o (tableAt i) (little 4 a) → bits o₂ ≡ splice (bits o₁) (k + a) (field w (x + s))
     → bits o₃ ≡ splice (bits o₂) (k + (a + w)) (tree e (window cs f (2 ^ e)))
-    → bits o₃ ≡ splice (splice (bits o) (8 * tableAt i) (bits (little 4 (start e xs i)))) (codeStart e xs + start e xs i) (pageCode e xs i)
+    → bits o₃ ≡ splice (splice (bits o) (8 * tableAt i) (bits (little 4 (start e xs i)))) (codeStart (pages e (length xs)) + start e xs i) (pageCode e xs i)
 unfolding pageCode
 page-put {e} {xs} {cs} {f} {i} {n} {m} {w} {s} {a} {x} p k o o₁ o₂ o₃ ek lo e₁ e₂ e₃ =
     let F : List ℕ = field w (x + s) in
@@ -90,9 +89,9 @@ page-put {e} {xs} {cs} {f} {i} {n} {m} {w} {s} {a} {x} p k o o₁ o₂ o₃ ek l
     splice-then (bits o₁) (bits o₂) (bits o₃) F T (k + a) (k + (a + w)) e₂ e₃ (omega arith)
     (omega (arith, p .end-in, length-bits o₁)) in
     let y : F ++ T ≡ pageCode e xs i = ap₂ _++_ (ap₂ field (p .width-is) (p .root-is)) (ap (tree e) (p .counts-are)) in
-    let c : k + a ≡ codeStart e xs + start e xs i = omega (arith, p .start-is) in
+    let c : k + a ≡ codeStart (pages e (length xs)) + start e xs i = omega (arith, p .start-is) in
     b ∙ ap₂ (splice (bits o₁)) c y
-    ∙ ap (λ (z : List ℕ). splice z (codeStart e xs + start e xs i) (pageCode e xs i))
+    ∙ ap (λ (z : List ℕ). splice z (codeStart (pages e (length xs)) + start e xs i) (pageCode e xs i))
     (ap bits e₁ ∙ bits-splice o (tableAt i) (little 4 a) ∙ ap (λ (z : ℕ). splice (bits o) (8 * tableAt i) (bits (little 4 z))) (p .start-is))
 
 -- the next page's place

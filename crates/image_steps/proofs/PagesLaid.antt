@@ -11,10 +11,9 @@ use Rattle.lists.proofs.Parts.{length-splice}
 use Rattle.bits.specs.Bits.{bits}
 use Rattle.bits.specs.Numbers.{little}
 use Rattle.bits.proofs.Laws.{length-bits}
-use Rattle.image.specs.Image.{bytesFor, code, header, image, maxTotal, pageCode, pages, size, start, tableAt}
+use Rattle.image.specs.Image.{bytesFor, code, codeStart, header, image, maxTotal, pageCode, pages, size, start, tableAt}
 use Rattle.image.proofs.ReadLaws.{length-image}
 use Rattle.image.proofs.PageLaws.{code-most, pages-few}
-use Rattle.image_steps.specs.Code.Planning.{codeStart}
 use Rattle.image_steps.specs.Code.Writing.{Laid, PlaceOf, Room, laid, tableAndCode}
 use Rattle.image_steps.specs.declared.plan.Layout.{Layout}
 use Rattle.image_steps.specs.declared.put.Place.{Place}
@@ -30,7 +29,7 @@ first-place e xs = record { start-is = refl; before-is = sym (ap (λ (z : ℕ). 
 
 -- the image's bits of code lie in a buffer of that length
 code-in : {xs : List ℕ} {r : Layout} {first : List ℕ} (b : List ℕ) → Room xs r first → length b ≡ length first
-    → codeStart (r .e) xs + length (code (r .e) xs) ≤ length (bits b)
+    → codeStart (pages (r .e) (length xs)) + length (code (r .e) xs) ≤ length (bits b)
 unfolding size bytesFor
 code-in {xs} {r} {first} b g l = omega (arith, g .enough, length-image (r .e) xs, length-bits b)
 
@@ -72,7 +71,7 @@ length-headed first r g = length-splice first 0 (header (r .e) (r .hours) (r .to
 pub one-more : {xs first out : List ℕ} {r : Layout} {at : Place} (out₁ : List ℕ) (next : Place) → Laid xs first out r at → at .page < r .pages
     → length out₁ ≡ length out → next .page ≡ at .page + 1 → PlaceOf (r .e) xs next
     → bits out₁ ≡ splice (splice (bits out) (8 * tableAt (at .page)) (bits (little 4 (start (r .e) xs (at .page)))))
-    (codeStart (r .e) xs + start (r .e) xs (at .page)) (pageCode (r .e) xs (at .page))
+    (codeStart (pages (r .e) (length xs)) + start (r .e) xs (at .page)) (pageCode (r .e) xs (at .page))
     → Laid xs first out₁ r next
 one-more {xs} {first} {out} {r} {at} out₁ next a l k n p q =
     let b : List ℕ = bits (headed first r) in

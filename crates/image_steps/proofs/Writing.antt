@@ -13,8 +13,7 @@ use Rattle.bits.specs.Numbers.{little}
 use Rattle.bits.proofs.Laws.{bits-append, length-bits}
 use Rattle.bits.proofs.Little.{Bytes, bytes-little, length-little}
 use Rattle.bits.proofs.Packing.{bits-fill}
-use Rattle.image.specs.Image.{bytesFor, code, firstPages, header, image, packed, pageCode, pages, size, start, table, tableAt}
-use Rattle.image_steps.specs.Code.Planning.{codeStart}
+use Rattle.image.specs.Image.{bytesFor, code, codeStart, firstPages, header, headerLength, image, packed, pageCode, pages, size, start, table, tableAt}
 use Rattle.image_steps.specs.Code.Writing.{laid, starts, tableAndCode}
 use Rattle.image.proofs.ReadLaws.{bits-code, length-image}
 use Rattle.image.proofs.Packed.{bits-one, bits-packed, tail}
@@ -43,7 +42,7 @@ header-put s s₁ s₂ s₃ e n t l h e₁ e₂ e₃ =
 -- ---- pages
 pub laid-none : (b : List ℕ) (e : ℕ) (xs : List ℕ) → b ≡ laid b e xs 0
 unfolding laid tabulate concat bits
-laid-none b e xs = sym (splice-nil (splice b 128 []) (codeStart e xs) ∙ splice-nil b 128)
+laid-none b e xs = sym (splice-nil (splice b (8 * headerLength) []) (codeStart (pages e (length xs))) ∙ splice-nil b (8 * headerLength))
 
 length-starts : (e : ℕ) (xs : List ℕ) (k : ℕ) → length (bits (starts e xs k)) ≡ 32 * k
 length-starts e xs k =
@@ -51,12 +50,12 @@ length-starts e xs k =
     ∙ omega arith
 
 -- page k put into them: its start bit, then its code
-pub laid-more : (b c : List ℕ) (e : ℕ) (xs : List ℕ) (k : ℕ) → k < pages e (length xs) → codeStart e xs + length (code e xs) ≤ length b
-    → c ≡ splice (splice (laid b e xs k) (8 * tableAt k) (bits (little 4 (start e xs k)))) (codeStart e xs + start e xs k) (pageCode e xs k)
+pub laid-more : (b c : List ℕ) (e : ℕ) (xs : List ℕ) (k : ℕ) → k < pages e (length xs) → codeStart (pages e (length xs)) + length (code e xs) ≤ length b
+    → c ≡ splice (splice (laid b e xs k) (8 * tableAt k) (bits (little 4 (start e xs k)))) (codeStart (pages e (length xs)) + start e xs k) (pageCode e xs k)
     → c ≡ laid b e xs (suc k)
 unfolding laid start code
 laid-more b c e xs k l h ec =
-    let C : ℕ = codeStart e xs in
+    let C : ℕ = codeStart (pages e (length xs)) in
     let T : List ℕ = bits (starts e xs k) in
     let Y : List ℕ = bits (little 4 (start e xs k)) in
     let F : List ℕ = firstPages e xs k in
@@ -64,15 +63,15 @@ laid-more b c e xs k l h ec =
     let lT : length T ≡ 32 * k = length-starts e xs k in
     let lY : length Y ≡ 32 = length-bits (little 4 (start e xs k)) ∙ ap (λ (z : ℕ). 8 * z) (length-little 4 (start e xs k)) in
     let lG : length F + length G ≤ length (code e xs) = concat-le (pages e (length xs)) (pageCode e xs) k l in
-    let t : splice (splice b 128 T) (8 * tableAt k) Y ≡ splice b 128 (bits (starts e xs (suc k))) =
-    ap (λ (z : ℕ). splice (splice b 128 T) z Y) {x = 8 * tableAt k} {y = 128 + length T} (omega arith) ∙ splice-more b 128 T Y (omega arith)
-    ∙ ap (splice b 128) (sym (bits-append (starts e xs k) (little 4 (start e xs k))) ∙ ap bits (sym (concat-suc k (λ p. little 4 (start e xs p))))) in
-    let B : List ℕ = splice b 128 (bits (starts e xs (suc k))) in
-    let lB : length B ≡ length b = length-splice b 128 (bits (starts e xs (suc k))) (omega (arith, length-starts e xs (suc k))) in
-    let l₀ : length (splice b 128 T) ≡ length b = length-splice b 128 T (omega arith) in
+    let t : splice (splice b (8 * headerLength) T) (8 * tableAt k) Y ≡ splice b (8 * headerLength) (bits (starts e xs (suc k))) =
+    ap (λ (z : ℕ). splice (splice b (8 * headerLength) T) z Y) {x = 8 * tableAt k} {y = (8 * headerLength) + length T} (omega arith) ∙ splice-more b (8 * headerLength) T Y (omega arith)
+    ∙ ap (splice b (8 * headerLength)) (sym (bits-append (starts e xs k) (little 4 (start e xs k))) ∙ ap bits (sym (concat-suc k (λ p. little 4 (start e xs p))))) in
+    let B : List ℕ = splice b (8 * headerLength) (bits (starts e xs (suc k))) in
+    let lB : length B ≡ length b = length-splice b (8 * headerLength) (bits (starts e xs (suc k))) (omega (arith, length-starts e xs (suc k))) in
+    let l₀ : length (splice b (8 * headerLength) T) ≡ length b = length-splice b (8 * headerLength) T (omega arith) in
     ec
     ∙ ap (λ (z : List ℕ). splice z (C + length F) G)
-    (sym (splice-apart (splice b 128 T) Y F (8 * tableAt k) (32 * (pages e (length xs) - suc k)) C (omega arith) (omega arith))
+    (sym (splice-apart (splice b (8 * headerLength) T) Y F (8 * tableAt k) (32 * (pages e (length xs) - suc k)) C (omega arith) (omega arith))
     ∙ ap (λ (z : List ℕ). splice z C F) t)
     ∙ splice-more B C F G (omega arith) ∙ ap (splice B C) (sym (concat-suc k (pageCode e xs)))
 
@@ -81,17 +80,17 @@ unfolding table
 length-table-bits e xs = length-starts e xs (pages e (length xs))
 
 -- all pages
-pub laid-all : (b : List ℕ) (e : ℕ) (xs : List ℕ) (k : ℕ) → k ≡ pages e (length xs) → codeStart e xs + length (code e xs) ≤ length b
-    → laid b e xs k ≡ splice b 128 (tableAndCode e xs)
+pub laid-all : (b : List ℕ) (e : ℕ) (xs : List ℕ) (k : ℕ) → k ≡ pages e (length xs) → codeStart (pages e (length xs)) + length (code e xs) ≤ length b
+    → laid b e xs k ≡ splice b (8 * headerLength) (tableAndCode e xs)
 unfolding laid code table
 laid-all b e xs k ek h =
     let T : List ℕ = bits (table e xs) in
     let lT : length T ≡ 32 * pages e (length xs) = length-table-bits e xs in
-    ap (laid b e xs) ek ∙ ap (λ (z : ℕ). splice (splice b 128 T) z (code e xs)) {x = codeStart e xs} {y = 128 + length T} (omega arith)
-    ∙ splice-more b 128 T (code e xs) (omega arith)
+    ap (laid b e xs) ek ∙ ap (λ (z : ℕ). splice (splice b (8 * headerLength) T) z (code e xs)) {x = codeStart (pages e (length xs))} {y = (8 * headerLength) + length T} (omega arith)
+    ∙ splice-more b (8 * headerLength) T (code e xs) (omega arith)
 
 -- ---- the whole image
-length-header-bits : (e n t l : ℕ) → length (bits (header e n t l)) ≡ 128
+length-header-bits : (e n t l : ℕ) → length (bits (header e n t l)) ≡ (8 * headerLength)
 unfolding header little
 length-header-bits e n t l = length-bits (header e n t l)
 
@@ -126,8 +125,8 @@ byte-front s m h k i = rw (splice-front s m) (byte-in m (drop (length m) s) h (�
 -- header, table and code, and zeros behind the code to the end of its last byte
 pub image-put : (e : ℕ) (xs o o₁ o₂ o₃ : List ℕ) (z : ℕ) → e ≤ 8 → length (image e xs) ≤ length o → ((i : ℕ) → getD o i 0 < 256)
     → ((i : ℕ) → getD o₃ i 0 < 256) → o₁ ≡ splice o 0 (header e (length xs) (sum xs) (length (code e xs)))
-    → bits o₂ ≡ splice (bits o₁) 128 (tableAndCode e xs) → z ≡ 8 * bytesFor (length (code e xs)) - length (code e xs)
-    → bits o₃ ≡ splice (bits o₂) (codeStart e xs + length (code e xs)) (replicate z 0) → o₃ ≡ splice o 0 (image e xs)
+    → bits o₂ ≡ splice (bits o₁) (8 * headerLength) (tableAndCode e xs) → z ≡ 8 * bytesFor (length (code e xs)) - length (code e xs)
+    → bits o₃ ≡ splice (bits o₂) (codeStart (pages e (length xs)) + length (code e xs)) (replicate z 0) → o₃ ≡ splice o 0 (image e xs)
 unfolding image tail bytesFor size
 image-put e xs o o₁ o₂ o₃ z l room ho h₃ e₁ e₂ ez e₃ =
     let C : List ℕ = code e xs in
@@ -135,7 +134,7 @@ image-put e xs o o₁ o₂ o₃ z l room ho h₃ e₁ e₂ ez e₃ =
     let Z : List ℕ = replicate z 0 in
     let H : List ℕ = bits (header e (length xs) (sum xs) (length C)) in
     let I : List ℕ = image e xs in
-    let lH : length H ≡ 128 = length-header-bits e (length xs) (sum xs) (length C) in
+    let lH : length H ≡ (8 * headerLength) = length-header-bits e (length xs) (sum xs) (length C) in
     let lT : length T ≡ 32 * pages e (length xs) = length-table-bits e xs in
     let lZ : length Z ≡ z = length-replicate {A = ℕ} z 0 in
     let lTC = length-append T C in
@@ -144,10 +143,10 @@ image-put e xs o o₁ o₂ o₃ z l room ho h₃ e₁ e₂ ez e₃ =
     let lo : length (bits o) ≡ 8 * length o = length-bits o in
     let i₁ : bits o₁ ≡ splice (bits o) 0 H = ap bits e₁ ∙ bits-splice o 0 (header e (length xs) (sum xs) (length C)) in
     let l₁ : length (bits o₁) ≡ length (bits o) = ap length i₁ ∙ length-splice (bits o) 0 H (omega arith) in
-    let i₂ : bits o₃ ≡ splice (bits o₁) 128 ((T ++ C) ++ Z) =
-    splice-then (bits o₁) (bits o₂) (bits o₃) (T ++ C) Z 128 (codeStart e xs + length C) e₂ e₃ (omega arith) (omega arith) in
+    let i₂ : bits o₃ ≡ splice (bits o₁) (8 * headerLength) ((T ++ C) ++ Z) =
+    splice-then (bits o₁) (bits o₂) (bits o₃) (T ++ C) Z (8 * headerLength) (codeStart (pages e (length xs)) + length C) e₂ e₃ (omega arith) (omega arith) in
     let i₃ : bits o₃ ≡ splice (bits o) 0 (H ++ ((T ++ C) ++ Z)) =
-    splice-then (bits o) (bits o₁) (bits o₃) H ((T ++ C) ++ Z) 0 128 i₁ i₂ (omega arith) (omega arith) in
+    splice-then (bits o) (bits o₁) (bits o₃) H ((T ++ C) ++ Z) 0 (8 * headerLength) i₁ i₂ (omega arith) (omega arith) in
     let j : H ++ ((T ++ C) ++ Z) ≡ bits I =
     ap (λ (w : List ℕ). H ++ w) (append-assoc T C Z ∙ ap (λ (k : ℕ). T ++ (C ++ replicate k 0)) ez
     ∙ ap (λ (w : List ℕ). T ++ w) (sym (bits-packed C (bits-code e xs))) ∙ sym (bits-append (table e xs) (packed C)))

@@ -9,12 +9,12 @@ ghost use mathlib.Core.Path.{_≡_};
 ghost use Prim.Native.Nat.{_+_, _≤_, _<_};
 ghost use lib.ListN.{length};
 ghost use Rattle.lists.specs.Lists.{splice};
-ghost use Rattle.image.specs.Image.{header, image};
+ghost use Rattle.image.specs.Image.{header, headerLength, image};
 ghost use Rattle.image_steps.specs.Code.Writing.{Filled, Handed, Laid, Roomy};
 
 // Writes the header.
 fn put_header(out: &mut [u8], r: Layout)
-    requires { ⌜ (16 ≤ length (now out)) × (r .e ≤ 8) ⌝ }
+    requires { ⌜ (headerLength ≤ length (now out)) × (r .e ≤ 8) ⌝ }
     ensures { λ _. ⌜ now (out .exit) ≡ splice (now (out .entry)) 0 (header (r .e) (r .hours) (r .total) (r .bits)) ⌝ }
 {
     out[0] = 1;

@@ -56,15 +56,8 @@ pub fn page_test(
     if h.bits < end {
         return failed();
     }
-    if !nodes(
-        s,
-        table,
-        h.code + (own.end as usize),
-        h.e,
-        sum,
-        size,
-        widest,
-    ) {
+    let at = h.code + (own.end as usize);
+    if !nodes(s, table, at, h.e, sum, size, widest) {
         return failed();
     }
     Tested {

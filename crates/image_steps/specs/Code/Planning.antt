@@ -7,7 +7,7 @@ use lib.ListN.{length}
 use Rattle.lists.specs.Lists.{reading, sum}
 use Rattle.reserve.specs.Reserve.{digits}
 use Rattle.image.specs.Calls.{lengthCall}
-use Rattle.image.specs.Image.{Limits, code, maxHours, page, pages, start, tableAt}
+use Rattle.image.specs.Image.{Limits, code, codeStart, maxHours, page, pages, start}
 use Rattle.answers.specs.Image.{refused}
 use Rattle.image_steps.specs.declared.plan.Layout.{Layout}
 use Rattle.image_steps.specs.declared.plan.Plan.{Plan}
@@ -62,17 +62,13 @@ pub record Whole (r : Plan) : Type 0 where
   pub all : r .pages ≤ r .done
 
 -- ---- a layout
--- where the code starts among the bits of an image, behind the header and the table
-abbrev pub codeStart : ℕ → List ℕ → ℕ
-codeStart e xs = 8 * tableAt (pages e (length xs))
-
 -- the layout of the image of xs
 pub record LayoutOf (e : ℕ) (xs : List ℕ) (r : Layout) : Type 0 where
   pub e-is : r .e ≡ e
   pub hours-are : r .hours ≡ length xs
   pub pages-are : r .pages ≡ pages e (length xs)
   pub total-is : r .total ≡ sum xs
-  pub code-is : r .code ≡ codeStart e xs
+  pub code-is : r .code ≡ codeStart (pages e (length xs))
   pub bits-are : r .bits ≡ length (code e xs)
 
 -- a layout where xs has an image, else the refusal of length

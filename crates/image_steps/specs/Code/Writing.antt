@@ -7,8 +7,8 @@ use lib.ListN.{length, getD}
 use Rattle.lists.specs.Lists.{concat, reading, splice, tabulate, window}
 use Rattle.bits.specs.Bits.{bits}
 use Rattle.bits.specs.Numbers.{little}
-use Rattle.image.specs.Image.{Limits, code, firstPages, header, image, maxHours, page, start, table}
-use Rattle.image_steps.specs.Code.Planning.{LayoutOf, codeStart}
+use Rattle.image.specs.Image.{Limits, code, codeStart, firstPages, header, headerLength, image, maxHours, page, pages, start, table}
+use Rattle.image_steps.specs.Code.Planning.{LayoutOf}
 use Rattle.image_steps.specs.declared.plan.Layout.{Layout}
 use Rattle.image_steps.specs.declared.put.Place.{Place}
 
@@ -18,7 +18,7 @@ starts e xs k = concat (tabulate k (λ p. little 4 (start e xs p)))
 
 -- the bits b after the first k pages were put: start bits behind the header, code behind the whole table
 unfoldable pub laid : List ℕ → ℕ → List ℕ → ℕ → List ℕ
-laid b e xs k = splice (splice b 128 (bits (starts e xs k))) (codeStart e xs) (firstPages e xs k)
+laid b e xs k = splice (splice b (8 * headerLength) (bits (starts e xs k))) (codeStart (pages e (length xs))) (firstPages e xs k)
 
 -- the bits of an image behind its header, but for the zeros that fill its last byte
 abbrev pub tableAndCode : ℕ → List ℕ → List ℕ

@@ -92,8 +92,8 @@ failed-requires-4 c κs = search needs
 returns-4 : tie.Need-returns-4
 returns-4 c = tree-over (standing (c .before .before .before .before)) (c .failed4 .ensures) (c .before .if4 .taken)
 
-add-nodes : tie.Need-add-nodes
-add-nodes c =
+add-at : tie.Need-add-at
+add-at c =
     let g = standing (measured c) .own-root in
     let a = entry (first (measured c)) .args in
     let f = bounds (a .s .now) (a .h) (g .opened) in
@@ -139,7 +139,7 @@ page-test-spec =
     add-end
     failed-requires-4
     returns-4
-    add-nodes
+    add-at
     nodes-requires
     failed-requires-5
     returns-5

@@ -4,7 +4,7 @@ use mathlib.Core.Path.{_≡_, refl}
 use native.Mathlib.Omega.{arith}
 use borrow.Author.Needs.{needs}
 use lib.ListN.{length}
-use Rattle.image_steps.specs.Code.Planning.{codeStart}
+use Rattle.image.specs.Image.{codeStart, pages}
 use Rattle.image_steps.specs.Code.Writing.{Handed}
 use Rattle.image_steps.proofs.PageSteps.{Step, next-place, page-put, size-low, step}
 use Rattle.image_steps.proofs.PagesLaid.{one-more}
@@ -36,7 +36,7 @@ module _ (c : tie.After-sum-of) where
       (call .args .at .start) (call .args .at .before)
   own-numbers = numbers (call .pre)
 
-  layout : call .args .r .code ≡ codeStart (call .args .r .e) (call .pre .xs)
+  layout : call .args .r .code ≡ codeStart (pages (call .args .r .e) (length (call .pre .xs)))
   layout = call .pre .so-far .room .layout .code-is
 
 -- where the page's numbers stand, seen from each write
