@@ -51,20 +51,22 @@
  * WebAssembly, whose figures docs/BOARDS.md has: those here are of x86-64.  The
  * bytes of a store or an image mean the same on every machine.
  * Memory: the buffers, which the macros below measure (the largest store has
- * 63,760 bytes); 30 KiB of code; memcpy and memset of the C library.
+ * 63,760 bytes); 35 KiB of code; memcpy and memset of the C library.
  * Stack: HOURLOG_STACK, for insert and strike HOURLOG_MOVE_STACK, for freeze
  * HOURLOG_FREEZE_STACK.  A board that has not so much sends its store's bytes as
  * they are, and the laptop freezes them.
  * Time: a store call reads the whole store to check it, so its time grows with
- * the store: by about 4,000 instructions for a page that has coins in it.  A
- * change of an hour costs some 11,000 more.  That is 25,000 for a change in a
- * store of 4 pages of which 3 have coins, and by that rule some 4 million, a
- * third of a millisecond on a desktop, in one of 1,024.  An insert or a strike
- * costs as much again for each page from its hour on.  An image is written
- * and checked in time that grows with its hours; its count and reading take the
- * same few hundred instructions whatever its length, reach about twice as many.
- * The busiest stretch, and a bag's match, take two to three times as long as
- * check; four times and more where pages have four hours (e = 2).
+ * the store: by some 3,000 instructions for a page with tens of coins in each
+ * hour, 4,500 with hundred thousands.  A change of an hour costs 3,000 to 12,000
+ * more, by the coins of its page.  That is 15,000 to 26,000 for a change in a
+ * store of 4 pages of which 3 have coins, and by that rule 3 to 5 million, a
+ * quarter of a millisecond or more on a desktop, in one of 1,024.  An insert or
+ * a strike costs as much again for each page from its hour on.  An image is
+ * written and checked in time that grows with its hours; its count and reading
+ * take the same few hundred instructions whatever its length, reach about twice
+ * as many.  The busiest stretch, and a bag's match, take two to three times as
+ * long as check where pages have 64 hours (e = 6), and up to five times where
+ * they have four (e = 2).
  * Threads and interrupts: any number of calls may run at once, unless one of
  * them changes a buffer that another is lent.
  * Power: a call is not atomic.  Cut off within fresh, append, set, insert or
