@@ -12,6 +12,7 @@ ghost use Rattle.lists.specs.Lists.{reading};
 ghost use Rattle.image.specs.Check.{accepted};
 ghost use Rattle.image.specs.Code.Head.{HeadOf};
 ghost use Rattle.image.specs.Read.{listOf};
+ghost use Rattle.sum_marks.specs.Code.Marks.{marksLength};
 ghost use Rattle.image_match.specs.Code.Page.{FrontPageOf, InHand};
 
 // The page at the front: its first hour, how many it has and their sum, and the stamp of its marks.
@@ -32,6 +33,7 @@ pub(crate) fn front_page(s: &[u8], h: Head, first: u64, before: u64) -> FrontPag
     let p = first >> h.e;
     let hours = ahead(h, first);
     let sum = page_root(s, h, p as usize) - before;
+    // a table starts as zeros: no page's stamp is 0, so that a place with no mark yet has none of them
     let stamp = (p % 255 + 1) as u8;
     FrontPage {
         first,
@@ -44,7 +46,7 @@ pub(crate) fn front_page(s: &[u8], h: Head, first: u64, before: u64) -> FrontPag
 // Reads the page's counts, and marks their sums.
 pub(crate) fn mark_page(s: &[u8], h: Head, page: FrontPage, counts: &mut [u32], marks: &mut [u8])
     requires { ⌜ (accepted (now s) ≡ true) × HeadOf (now s) h × FrontPageOf (now s) h page ⌝ }
-    requires { ⌜ (length (now counts) ≡ 256) × (length (now marks) ≡ 2048) ⌝ }
+    requires { ⌜ (length (now counts) ≡ 256) × (length (now marks) ≡ marksLength) ⌝ }
     ensures { λ _. ⌜ InHand (listOf (now (s .entry))) page (now (counts .exit)) (now (marks .exit)) ⌝ }
 {
     read_page(s, h, page.first, counts);

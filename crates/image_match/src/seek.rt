@@ -10,6 +10,7 @@ use image::head::Head;
 use image_cursor::cursor::ahead;
 use image_cursor::cursor::read_page;
 use image_cursor::cursor::turn;
+use sum_marks::marks::MARKS_LENGTH;
 use sum_marks::marks::carries;
 use sum_marks::prefix::Prefix;
 use sum_marks::prefix::attempt;
@@ -22,6 +23,7 @@ ghost use Rattle.image.specs.Code.Head.{HeadOf};
 ghost use Rattle.image.specs.Read.{listOf};
 ghost use Rattle.image_cursor.specs.Code.Cursor.{Ready};
 ghost use Rattle.runs.specs.Code.{NoneBefore};
+ghost use Rattle.sum_marks.specs.Code.Marks.{marksLength};
 ghost use Rattle.image_match.specs.Code.Page.{FrontPageOf, InHand, MarksOf, RunOf};
 ghost use Rattle.image_match.specs.Code.Seek.{Brings, Finds, Later, Seeks};
 
@@ -108,7 +110,7 @@ fn visit(
     back: &mut [u32],
 ) -> PageSearch
     requires { ⌜ (accepted (now s) ≡ true) × HeadOf (now s) h × (1 ≤ q) × FrontPageOf (now s) h page ⌝ }
-    requires { ⌜ (length (now front) ≡ 256) × (length (now marks) ≡ 2048) ⌝ }
+    requires { ⌜ (length (now front) ≡ 256) × (length (now marks) ≡ marksLength) ⌝ }
     requires { ⌜ Seeks (listOf (now s)) q (page .first) at × Ready (now s) (at .lo) (now back) ⌝ }
     ensures { λ r. ⌜ Brings (now (s .entry)) q page (now (back .exit)) r ⌝ }
 {
@@ -126,7 +128,7 @@ pub(crate) fn find(s: &[u8], h: Head, q: u64) -> Bag
 {
     let mut front = [0u32; 256];
     let mut back = [0u32; 256];
-    let mut marks = [0u8; 2048];
+    let mut marks = [0u8; MARKS_LENGTH as usize];
     read_page(s, h, 0, &mut back);
     let mut at = Aim { lo: 0, want: q };
     // where the page at the front starts, and the coins before it

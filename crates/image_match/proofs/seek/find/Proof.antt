@@ -7,6 +7,7 @@ use borrow.Author.Needs.{needs}
 use Rattle.lists.specs.Lists.{reading}
 use Rattle.image.specs.Read.{listOf}
 use Rattle.image_cursor.specs.Code.Cursor.{Ready}
+use Rattle.sum_marks.specs.Code.Marks.{marksLength}
 use Rattle.image_match.specs.Code.Seek.{Brings, Seeks}
 use Rattle.image_match.proofs.PageLaws.{Border, border-first, border-next, coins-first, coins-next, coins-small, hours}
 use Rattle.image_match.proofs.SeekLaws.{seeks-as, seeks-beyond, seeks-first, seeks-none}
@@ -15,7 +16,7 @@ use Rattle.image_match.proofs.seek.find.Tie as tie
 
 abbrev Inv-loop : tie.InvT-loop
 Inv-loop s h q front₀ back₀ marks₀ at₀ first₀ before₀ front back marks at first before =
-    Border h first × Seeks (listOf s) q first at × Ready s (at .lo) back × (length front ≡ 256) × (length marks ≡ 2048)
+    Border h first × Seeks (listOf s) q first at × Ready s (at .lo) back × (length front ≡ 256) × (length marks ≡ marksLength)
     × (before ≡ reading (listOf s) first)
 
 abbrev μ-loop : tie.MeasureT-loop
