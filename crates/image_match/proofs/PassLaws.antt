@@ -32,15 +32,15 @@ passing-first xs q page at w l p =
     (rw e w, l, rw e p)
 
 -- i of the n hours from lo on are passed over, one at least
-pub record Ends (xs : List ℕ) (q first lo n i want : ℕ) : Type 0 where
+pub record PassEnds (xs : List ℕ) (q first lo n i want : ℕ) : Type 0 where
   pub seeks : Seeks xs q first (record { lo = lo + i; want = want })
   pub some : 1 ≤ i
   pub inside : i ≤ n
 
-pub ends-as : (xs : List ℕ) (q first lo n i j v w : ℕ) → w ≡ v → j ≡ i → Ends xs q first lo n i v → Ends xs q first lo n j w
+pub ends-as : (xs : List ℕ) (q first lo n i j v w : ℕ) → w ≡ v → j ≡ i → PassEnds xs q first lo n i v → PassEnds xs q first lo n j w
 ends-as xs q first lo n i j v w e f x = rw (e, f) x
 
-pub later-of : (xs : List ℕ) (q first n i want : ℕ) (at : Aim) {h : Head} → Ahead h (at .lo) n → Ends xs q first (at .lo) n i want
+pub later-of : (xs : List ℕ) (q first n i want : ℕ) (at : Aim) {h : Head} → Ahead h (at .lo) n → PassEnds xs q first (at .lo) n i want
     → Later xs h q first at (record { lo = at .lo + i; want = want })
 later-of xs q first n i want at d x = record {
   seeks = x .seeks;
@@ -55,11 +55,11 @@ module _ (s : List ℕ) (a : accepted s ≡ true) {h : Head} (o : HeadOf s h) (l
 
   module _ (q : ℕ) (page : FrontPage) (back : List ℕ) (r : Ready s lo back) (want i : ℕ) (w : Passing (listOf s) q page lo i want) where
     -- they are all n
-    pub ends-all : lo < length (listOf s) → i ≤ n → n ≤ i → Ends (listOf s) q (page .first) lo n i want
+    pub ends-all : lo < length (listOf s) → i ≤ n → n ≤ i → PassEnds (listOf s) q (page .first) lo n i want
     ends-all l f g = record { seeks = w .0; some = omega (arith, d .some (omega (arith, hours s a o))); inside = f }
 
     -- the next hour
-    pub ends-here : i < n → Ends (listOf s) q (page .first) lo n (i + 1) (want + getD back (p + i) 0)
+    pub ends-here : i < n → PassEnds (listOf s) q (page .first) lo n (i + 1) (want + getD back (p + i) 0)
     ends-here l =
         let f : getD back (p + i) 0 ≡ getD (listOf s) (lo + i) 0 =
         count-of s o lo i (p + i) back (ap (λ (z : ℕ). z + i) e) (omega (arith, d .inside)) (omega (arith, d .room)) r in
