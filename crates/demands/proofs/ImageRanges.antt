@@ -5,11 +5,10 @@ use Prim.Native.Nat.{ℕ, zero, suc, _+_, _-_, _^_, _≤_, _<_}
 use native.Mathlib.Omega.{arith}
 use native.Mathlib.Decide.{decLe}
 use lib.ListN.{length, take, drop}
-use Rattle.lists.specs.Lists.{first, part, sum}
+use Rattle.lists.specs.Lists.{part, sum}
 use Rattle.bits.specs.Bits.{bits}
 use Rattle.reserve.specs.Reserve.{digits, reserve}
 use Rattle.tree.specs.Ranges.{Side, child, end, left, node, right}
-use Rattle.tree.specs.Read.{counts}
 use Rattle.tree.proofs.RangeLaws.{apart, holds-code, inside, parts-of}
 use Rattle.tree.proofs.Shape.{length-tree}
 use Rattle.store.specs.Plain.{page as plainPage}

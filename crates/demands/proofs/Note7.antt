@@ -13,14 +13,13 @@ use Rattle.answers.specs.Image.{fails}
 use Rattle.answers.specs.declared.image.Bag.{Bag}
 use Rattle.answers.specs.declared.image.Bag.the-variants.{Run, None, Refused}
 use Rattle.image_cursor.proofs.AccessLaws.{five-or-six}
-use Rattle.runs.specs.Runs.{FirstMatch, Matches, NoMatch}
+use Rattle.runs.specs.Runs.{FirstMatch, NoMatch}
 use Rattle.image_match.specs.Match.{MatchCall, no-coins, none, not-accepted, the-run}
 use Rattle.image_match.proofs.AnswerLaws.{one-answer}
 use Rattle.hourlog_c.specs.Export.{Answers}
 use Rattle.hourlog_c.specs.Public.{ImageMatch}
 use Rattle.words.specs.End.{noRun, ofBag, refusal}
 use Rattle.words.specs.ReadBack.{Reads, matchedFirst, matchedHours}
-use Rattle.words.specs.Words.{wordOf}
 use Rattle.demands.proofs.Sentences1.{match-word, minus-in, none-word}
 
 -- the run of an answer, and that there is none

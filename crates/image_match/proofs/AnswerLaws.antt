@@ -20,7 +20,7 @@ use Rattle.image.proofs.Accepted.{accepted-only}
 use Rattle.image.proofs.ReadLaws.{s-is}
 use Rattle.image_cursor.proofs.AccessLaws.{accepted-or, five-or-six, not-both, one-refusal}
 use Rattle.runs.specs.Runs.{NoMatch}
-use Rattle.runs.proofs.MatchLaws.{Found, match-or-none, one-match, passed-first, passed-none, some-match}
+use Rattle.runs.proofs.MatchLaws.{FirstOrNone, match-or-none, no-match-from, none-before-first, one-match, some-match}
 use Rattle.image_match.specs.Code.Seek.{Finds}
 use Rattle.image_match.specs.Match.{MatchCall, no-coins, none, not-accepted, the-run}
 
@@ -29,7 +29,7 @@ pub none-larger : (s : List ℕ) (q : ℕ) → accepted s ≡ true → (h : Head
 none-larger s q a h o l =
     let i = accepted-only s a in
     let e : h .total ≡ sum (listOf s) = o .total-is ∙ ap sOf (i .bytes) ∙ s-is (eOf s) (listOf s) (i .limits) in
-    passed-none (listOf s) q 0 (passed-first (listOf s) q) (omega (arith, sum-take-le (length (listOf s)) (listOf s)))
+    no-match-from (listOf s) q 0 (none-before-first (listOf s) q) (omega (arith, sum-take-le (length (listOf s)) (listOf s)))
 
 -- what the search finds is the call's answer
 pub found-answer : (s : List ℕ) (q : ℕ) → accepted s ≡ true → 1 ≤ q → (r : Bag) → Finds (listOf s) q r → MatchCall s q r
@@ -40,7 +40,7 @@ found-answer s q a l (Refused k) m = absurd m
 pub some-answer : (s : List ℕ) (q : ℕ) → (a : Bag) × MatchCall s q a
 some-answer s q = go (accepted-or s) (decLe q 0)
   where
-    pick-one : accepted s ≡ true → 1 ≤ q → Found (listOf s) q → (a : Bag) × MatchCall s q a
+    pick-one : accepted s ≡ true → 1 ≤ q → FirstOrNone (listOf s) q → (a : Bag) × MatchCall s q a
     pick-one a l (inl m) = (Run (m .0) (m .1), the-run a l (m .0) (m .1) (m .2))
     pick-one a l (inr m) = (None, none a l m)
 

@@ -22,8 +22,8 @@ use Rattle.image_cursor.proofs.CursorLaws.{count-of, page-small as pages-small}
 use Rattle.runs.specs.Runs.{runSum}
 use Rattle.runs.proofs.PrefixSums.{reading-grows, reading-held, run-reading}
 use Rattle.sum_marks.specs.Code.Marks.{Marked}
-use Rattle.image_match.specs.Code.Page.{CountsOf, FrontPage, InHand, PageOf}
-use Rattle.image_match.specs.declared.page.Page.{Page}
+use Rattle.image_match.specs.Code.Page.{CountsOf, FrontPageOf, InHand, RunOf}
+use Rattle.image_match.specs.declared.page.FrontPage.{FrontPage}
 use Rattle.sum_marks.proofs.MarkLaws.{marked-of}
 
 module _ (s : List ℕ) (a : accepted s ≡ true) {h : Head} (o : HeadOf s h) where
@@ -35,11 +35,11 @@ module _ (s : List ℕ) (a : accepted s ≡ true) {h : Head} (o : HeadOf s h) wh
   coins-small k = omega (arith, sum-take-le k (listOf s), accepted-only s a .limits .total)
 
   -- the sum of a page is that of some hours
-  pub page-small : (page : Page) → PageOf (listOf s) page → page .sum ≤ 4294967295
+  pub page-small : (page : FrontPage) → RunOf (listOf s) page → page .sum ≤ 4294967295
   page-small page g =
       omega (arith, run-reading (listOf s) (page .first) (page .hours), g .sum-is, coins-small (page .first + page .hours))
 
-  pub counts-small : (page : Page) (counts : List ℕ) → PageOf (listOf s) page → CountsOf (listOf s) page counts
+  pub counts-small : (page : FrontPage) (counts : List ℕ) → RunOf (listOf s) page → CountsOf (listOf s) page counts
       → reading counts (page .hours) ≤ 4294967295
   counts-small page counts g f = omega (arith, page-small page g, g .sum-is, f .readings (page .hours) (omega arith))
 
@@ -83,16 +83,16 @@ module _ (s : List ℕ) (a : accepted s ≡ true) {h : Head} (o : HeadOf s h) wh
       above : r ≡ b + runSum (listOf s) first n
       above = omega (arith, root-reading first r e, ends, run-reading (listOf s) first n)
 
-      pub front-page-is : (stamp : ℕ) → FrontPage s h (record { first = first; hours = n; sum = r - b; stamp = stamp })
+      pub front-page-is : (stamp : ℕ) → FrontPageOf s h (record { first = first; hours = n; sum = r - b; stamp = stamp })
       front-page-is stamp = record {
         logged = l;
         meets = z;
         whole = d;
-        page-is = record { inside = omega (arith, d .inside, hours); sum-is = omega (arith, above) };
+        run-is = record { inside = omega (arith, d .inside, hours); sum-is = omega (arith, above) };
       }
 
   -- its counts read, and their sums marked
-  module _ (page : Page) (counts : List ℕ) (g : FrontPage s h page) (r : Ready s (page .first) counts) where
+  module _ (page : FrontPage) (counts : List ℕ) (g : FrontPageOf s h page) (r : Ready s (page .first) counts) where
     pub held-long : page .hours ≤ length counts
     held-long = omega (arith, g .whole .room, pages-small s o a, r .long)
 
@@ -100,13 +100,13 @@ module _ (s : List ℕ) (a : accepted s ≡ true) {h : Head} (o : HeadOf s h) wh
     held k m = count-of s o (page .first) k k counts (omega arith) (omega arith) (omega (arith, g .whole .room)) r
 
     held-readings : (k : ℕ) → k ≤ page .hours → reading counts k ≡ runSum (listOf s) (page .first) k
-    held-readings = reading-held (listOf s) counts (page .first) (page .hours) held-long (g .page-is .inside) held
+    held-readings = reading-held (listOf s) counts (page .first) (page .hours) held-long (g .run-is .inside) held
 
     held-counts : CountsOf (listOf s) page counts
     held-counts = record { long = held-long; readings = held-readings }
 
     pub held-small : reading counts (page .hours) ≤ 4294967295
-    held-small = counts-small page counts (g .page-is) held-counts
+    held-small = counts-small page counts (g .run-is) held-counts
 
     pub held-page : (marks : List ℕ) → Marked counts (page .hours) (page .stamp) marks → InHand (listOf s) page counts marks
     held-page marks m = record {
@@ -119,7 +119,7 @@ pub coins-first : (xs : List ℕ) → 0 ≡ reading xs 0
 unfolding sum
 coins-first xs = refl
 
-pub coins-next : (xs : List ℕ) (page : Page) (first b : ℕ) → page .first ≡ first → PageOf xs page → b ≡ reading xs first
+pub coins-next : (xs : List ℕ) (page : FrontPage) (first b : ℕ) → page .first ≡ first → RunOf xs page → b ≡ reading xs first
     → b + page .sum ≡ reading xs (first + page .hours)
 coins-next xs page first b q g e =
     let f = ap (λ (z : ℕ). reading xs (z + page .hours)) q in
@@ -133,7 +133,7 @@ pub record Border (h : Head) (first : ℕ) : Type 0 where
 pub border-first : (h : Head) → Border h 0
 border-first h = record { inside = omega arith; meets = λ l. zero-mod (2 ^ h .e) }
 
-pub border-next : (s : List ℕ) (h : Head) (first : ℕ) (page : Page) → page .first ≡ first → FrontPage s h page → Border h (first + page .hours)
+pub border-next : (s : List ℕ) (h : Head) (first : ℕ) (page : FrontPage) → page .first ≡ first → FrontPageOf s h page → Border h (first + page .hours)
 border-next s h first page q g = record {
   inside = omega (arith, g .whole .inside);
   meets = λ (m : first + page .hours < h .hours).

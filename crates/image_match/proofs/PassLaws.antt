@@ -11,36 +11,36 @@ use Rattle.image.specs.Read.{listOf}
 use Rattle.image.specs.declared.head.Head.{Head}
 use Rattle.image_cursor.specs.Code.Cursor.{Ahead, Ready}
 use Rattle.image_cursor.proofs.CursorLaws.{count-of, place-in}
-use Rattle.runs.specs.Code.{Passed}
+use Rattle.runs.specs.Code.{NoneBefore}
 use Rattle.sum_marks.specs.Code.Marks.{Unmarked}
-use Rattle.image_match.specs.Code.Page.{MarksOf, PageOf}
+use Rattle.image_match.specs.Code.Page.{MarksOf, RunOf}
 use Rattle.image_match.specs.Code.Seek.{Later, Seeks}
 use Rattle.image_match.specs.declared.seek.Aim.{Aim}
-use Rattle.image_match.specs.declared.page.Page.{Page}
+use Rattle.image_match.specs.declared.page.FrontPage.{FrontPage}
 use Rattle.image_match.proofs.PageLaws.{hours}
 use Rattle.image_match.proofs.SeekLaws.{over-unmarked, seeks-on}
 
 -- i hours from lo on are passed over, and the next is as well
-abbrev pub Passing : List ℕ → ℕ → Page → ℕ → ℕ → ℕ → Type 0
+abbrev pub Passing : List ℕ → ℕ → FrontPage → ℕ → ℕ → ℕ → Type 0
 Passing xs q page lo i want =
-    Seeks xs q (page .first) (record { lo = lo + i; want = want }) × (want ≤ page .sum) × Passed xs q (lo + i + 1)
+    Seeks xs q (page .first) (record { lo = lo + i; want = want }) × (want ≤ page .sum) × NoneBefore xs q (lo + i + 1)
 
-pub passing-first : (xs : List ℕ) (q : ℕ) (page : Page) (at : Aim) → Seeks xs q (page .first) at → at .want ≤ page .sum → Passed xs q (at .lo + 1)
-    → Passing xs q page (at .lo) 0 (at .want)
+pub passing-first : (xs : List ℕ) (q : ℕ) (page : FrontPage) (at : Aim) → Seeks xs q (page .first) at → at .want ≤ page .sum
+    → NoneBefore xs q (at .lo + 1) → Passing xs q page (at .lo) 0 (at .want)
 passing-first xs q page at w l p =
     let e : at .lo + 0 ≡ at .lo = omega arith in
     (rw e w, l, rw e p)
 
 -- i of the n hours from lo on are passed over, one at least
-pub record Ends (xs : List ℕ) (q first lo n i want : ℕ) : Type 0 where
+pub record PassEnds (xs : List ℕ) (q first lo n i want : ℕ) : Type 0 where
   pub seeks : Seeks xs q first (record { lo = lo + i; want = want })
   pub some : 1 ≤ i
   pub inside : i ≤ n
 
-pub ends-as : (xs : List ℕ) (q first lo n i j v w : ℕ) → w ≡ v → j ≡ i → Ends xs q first lo n i v → Ends xs q first lo n j w
+pub ends-as : (xs : List ℕ) (q first lo n i j v w : ℕ) → w ≡ v → j ≡ i → PassEnds xs q first lo n i v → PassEnds xs q first lo n j w
 ends-as xs q first lo n i j v w e f x = rw (e, f) x
 
-pub later-of : (xs : List ℕ) (q first n i want : ℕ) (at : Aim) {h : Head} → Ahead h (at .lo) n → Ends xs q first (at .lo) n i want
+pub later-of : (xs : List ℕ) (q first n i want : ℕ) (at : Aim) {h : Head} → Ahead h (at .lo) n → PassEnds xs q first (at .lo) n i want
     → Later xs h q first at (record { lo = at .lo + i; want = want })
 later-of xs q first n i want at d x = record {
   seeks = x .seeks;
@@ -53,13 +53,13 @@ module _ (s : List ℕ) (a : accepted s ≡ true) {h : Head} (o : HeadOf s h) (l
   pub place-here : (i : ℕ) → i < n → p + i < 256
   place-here i l = omega (arith, place-in s o a lo i (omega (arith, d .room)))
 
-  module _ (q : ℕ) (page : Page) (back : List ℕ) (r : Ready s lo back) (want i : ℕ) (w : Passing (listOf s) q page lo i want) where
+  module _ (q : ℕ) (page : FrontPage) (back : List ℕ) (r : Ready s lo back) (want i : ℕ) (w : Passing (listOf s) q page lo i want) where
     -- they are all n
-    pub ends-all : lo < length (listOf s) → i ≤ n → n ≤ i → Ends (listOf s) q (page .first) lo n i want
+    pub ends-all : lo < length (listOf s) → i ≤ n → n ≤ i → PassEnds (listOf s) q (page .first) lo n i want
     ends-all l f g = record { seeks = w .0; some = omega (arith, d .some (omega (arith, hours s a o))); inside = f }
 
     -- the next hour
-    pub ends-here : i < n → Ends (listOf s) q (page .first) lo n (i + 1) (want + getD back (p + i) 0)
+    pub ends-here : i < n → PassEnds (listOf s) q (page .first) lo n (i + 1) (want + getD back (p + i) 0)
     ends-here l =
         let f : getD back (p + i) 0 ≡ getD (listOf s) (lo + i) 0 =
         count-of s o lo i (p + i) back (ap (λ (z : ℕ). z + i) e) (omega (arith, d .inside)) (omega (arith, d .room)) r in
@@ -71,7 +71,7 @@ module _ (s : List ℕ) (a : accepted s ≡ true) {h : Head} (o : HeadOf s h) (l
           inside = omega arith;
         }
 
-    pub passing-on : (marks : List ℕ) → PageOf (listOf s) page → MarksOf (listOf s) page marks → i < n → want + getD back (p + i) 0 ≤ page .sum
+    pub passing-on : (marks : List ℕ) → RunOf (listOf s) page → MarksOf (listOf s) page marks → i < n → want + getD back (p + i) 0 ≤ page .sum
         → Unmarked marks (page .stamp) (want + getD back (p + i) 0) → Passing (listOf s) q page lo (i + 1) (want + getD back (p + i) 0)
     passing-on marks g v l m u =
         let x = ends-here l .seeks in

@@ -6,35 +6,35 @@ use native.Mathlib.Decide.{decLe}
 use native.Mathlib.Omega.{arith}
 use lib.ListN.{length, getD, drop}
 use Rattle.lists.specs.Lists.{reading}
-use Rattle.runs.specs.Code.{Passed}
+use Rattle.runs.specs.Code.{NoneBefore}
 use Rattle.runs.specs.Runs.{FirstMatch, NoMatch, runSum}
-use Rattle.runs.proofs.MatchLaws.{passed-first, passed-found, passed-none, passed-on}
+use Rattle.runs.proofs.MatchLaws.{match-from, no-match-from, none-before-first, none-before-next}
 use Rattle.runs.proofs.PrefixSums.{reading-grows, reading-next, run-reading}
 use Rattle.sum_marks.specs.Code.Marks.{Marked, Unmarked}
-use Rattle.image_match.specs.Code.Page.{CountsOf, InHand, MarksOf, PageOf}
-use Rattle.sum_marks.specs.Code.Part.{Looked}
+use Rattle.image_match.specs.Code.Page.{CountsOf, InHand, MarksOf, RunOf}
+use Rattle.sum_marks.specs.Code.Prefix.{Tried}
 use Rattle.image_match.specs.Code.Seek.{Seeks}
 use Rattle.image_match.specs.declared.seek.Aim.{Aim}
-use Rattle.image_match.specs.declared.page.Page.{Page}
-use Rattle.sum_marks.specs.declared.part.Part.{Part}
+use Rattle.image_match.specs.declared.page.FrontPage.{FrontPage}
+use Rattle.sum_marks.specs.declared.prefix.Prefix.{Prefix}
 use Rattle.sum_marks.proofs.MarkLaws.{marked-of}
 
 -- ---- the search
 pub seeks-first : (xs : List ℕ) (q : ℕ) → 1 ≤ q → Seeks xs q 0 (record { lo = 0; want = q })
-seeks-first xs q l = record { inside = omega arith; wants = refl; some = l; passed = passed-first xs q }
+seeks-first xs q l = record { inside = omega arith; wants = refl; some = l; none-before = none-before-first xs q }
 
 pub seeks-as : (xs : List ℕ) (q first f : ℕ) (at : Aim) → f ≡ first → Seeks xs q first at → Seeks xs q f at
 seeks-as xs q first f at e w = rw e w
 
 module _ (xs : List ℕ) (q first : ℕ) (at : Aim) (w : Seeks xs q first at) where
   -- no run from lo on has the sum: the next hour
-  pub seeks-on : (lo want v : ℕ) → Passed xs q (at .lo + 1) → at .lo < length xs → v ≡ getD xs (at .lo) 0 → lo ≡ at .lo + 1 → want ≡ at .want + v
+  pub seeks-on : (lo want v : ℕ) → NoneBefore xs q (at .lo + 1) → at .lo < length xs → v ≡ getD xs (at .lo) 0 → lo ≡ at .lo + 1 → want ≡ at .want + v
       → Seeks xs q first (record { lo = lo; want = want })
   seeks-on lo want v p l e f g = record {
     inside = omega arith;
     wants = omega (arith, w .wants, reading-next xs (at .lo) l, ap (reading xs) f);
     some = omega (arith, w .some);
-    passed = subst (Passed xs q) (sym f) p;
+    none-before = subst (NoneBefore xs q) (sym f) p;
   }
 
   -- a later first hour wants no less
@@ -43,14 +43,15 @@ module _ (xs : List ℕ) (q first : ℕ) (at : Aim) (w : Seeks xs q first at) wh
 
   -- no hour is left at which a run could end
   pub seeks-none : first ≡ length xs → NoMatch xs q
-  seeks-none e = passed-none xs q (at .lo) (w .passed) (omega (arith, w .wants, w .some, ap (reading xs) e))
+  seeks-none e = no-match-from xs q (at .lo) (w .none-before) (omega (arith, w .wants, w .some, ap (reading xs) e))
 
 -- ---- the search in a page
-pub counts-marked : (xs : List ℕ) (page : Page) (counts marks : List ℕ) → InHand xs page counts marks → Marked counts (page .hours) (page .stamp) marks
+pub counts-marked : (xs : List ℕ) (page : FrontPage) (counts marks : List ℕ) → InHand xs page counts marks
+    → Marked counts (page .hours) (page .stamp) marks
 counts-marked xs page counts marks g =
     marked-of (drop (page .first) xs) counts (page .hours) (page .stamp) marks (λ k l. sym (g .counts-are .readings k l)) (g .marked)
 
-module _ (xs : List ℕ) (q : ℕ) (page : Page) (g : PageOf xs page) (at : Aim) (w : Seeks xs q (page .first) at) where
+module _ (xs : List ℕ) (q : ℕ) (page : FrontPage) (g : RunOf xs page) (at : Aim) (w : Seeks xs q (page .first) at) where
   behind : reading xs (page .first + page .hours) ≡ reading xs (page .first) + page .sum
   behind = omega (arith, run-reading xs (page .first) (page .hours), g .sum-is)
 
@@ -60,7 +61,7 @@ module _ (xs : List ℕ) (q : ℕ) (page : Page) (g : PageOf xs page) (at : Aim)
     inside = w .inside;
     wants = omega (arith, w .wants, behind);
     some = omega arith;
-    passed = w .passed;
+    none-before = w .none-before;
   }
 
   module _ (l : at .want ≤ page .sum) where
@@ -73,8 +74,8 @@ module _ (xs : List ℕ) (q : ℕ) (page : Page) (g : PageOf xs page) (at : Aim)
         go (no d) = omega arith
 
     -- no hours of the page have as much as is wanted: no run from lo on has the sum
-    over : ((k : ℕ) → 1 ≤ k → k ≤ page .hours → runSum xs (page .first) k ≡ at .want → ⊥) → Passed xs q (at .lo + 1)
-    over f = passed-on xs q (at .lo) (w .passed) (λ m a e. go m e (decLe m (page .first)) (decLe (page .first + page .hours) m))
+    over : ((k : ℕ) → 1 ≤ k → k ≤ page .hours → runSum xs (page .first) k ≡ at .want → ⊥) → NoneBefore xs q (at .lo + 1)
+    over f = none-before-next xs q (at .lo) (w .none-before) (λ m a e. go m e (decLe m (page .first)) (decLe (page .first + page .hours) m))
       where
         within : (m : ℕ) → reading xs m ≡ reading xs (at .lo) + q → page .first < m → (k : ℕ) → page .first + k ≡ m → k ≤ page .hours → ⊥
         within m e a k b c =
@@ -94,25 +95,31 @@ module _ (xs : List ℕ) (q : ℕ) (page : Page) (g : PageOf xs page) (at : Aim)
         go m e (no d) (no c) = within m e (omega arith) (m - page .first) (omega arith) (omega arith)
 
     -- there is no mark of it
-    pub over-unmarked : (marks : List ℕ) → MarksOf xs page marks → Unmarked marks (page .stamp) (at .want) → Passed xs q (at .lo + 1)
+    pub over-unmarked : (marks : List ℕ) → MarksOf xs page marks → Unmarked marks (page .stamp) (at .want) → NoneBefore xs q (at .lo + 1)
     over-unmarked marks m u = over (λ k a b e. u (drop (page .first) xs) (page .hours) m k a b e)
 
-    module _ (counts : List ℕ) (f : CountsOf xs page counts) (r : Part) (p : Looked counts (page .hours) (at .want) r) where
+    module _ (counts : List ℕ) (f : CountsOf xs page counts) (r : Prefix) (p : Tried counts (page .hours) (at .want) r) where
       -- it was looked for, and not found
-      pub over-missed : (r .sum ≡ at .want → ⊥) → Passed xs q (at .lo + 1)
+      pub over-missed : (r .sum ≡ at .want → ⊥) → NoneBefore xs q (at .lo + 1)
       over-missed n = over (λ k a b e. p .missed n k a b (f .readings k b ∙ e))
 
       -- it is there
       pub found-here : 1 ≤ q → r .sum ≡ at .want → FirstMatch xs q (at .lo) (page .first + r .hours - at .lo)
       found-here m e =
-          passed-found xs q (at .lo) (w .passed) (page .first + r .hours) m (omega (arith, g .inside, p .part .inside))
-          (omega (arith, run-reading xs (page .first) (r .hours), f .readings (r .hours) (p .part .inside), p .part .sum-is, w .wants))
+          match-from xs q (at .lo) (w .none-before) (page .first + r .hours) m (omega (arith, g .inside, p .prefix .inside))
+          (omega (arith, run-reading xs (page .first) (r .hours), f .readings (r .hours) (p .prefix .inside), p .prefix .sum-is, w .wants))
           (λ k a i. go k a i (decLe (page .first) k))
         where
           within : (k d : ℕ) → page .first + d ≡ k → d < r .hours → reading xs k ≡ reading xs (at .lo) + q → ⊥
           within k d a b i =
-              omega
-              (arith, p .part .short d b, f .readings d (omega (arith, p .part .inside)), run-reading xs (page .first) d, ap (reading xs) a, w .wants)
+              omega (
+                arith,
+                p .prefix .short d b,
+                f .readings d (omega (arith, p .prefix .inside)),
+                run-reading xs (page .first) d,
+                ap (reading xs) a,
+                w .wants,
+              )
 
           go : (k : ℕ) → k < page .first + r .hours → reading xs k ≡ reading xs (at .lo) + q → Dec (page .first ≤ k) → ⊥
           go k a i (yes d) = within k (k - page .first) (omega arith) (omega arith) i

@@ -12,10 +12,11 @@ ghost use Rattle.lists.specs.Lists.{reading};
 ghost use Rattle.image.specs.Check.{accepted};
 ghost use Rattle.image.specs.Code.Head.{HeadOf};
 ghost use Rattle.image.specs.Read.{listOf};
-ghost use Rattle.image_match.specs.Code.Page.{FrontPage, InHand};
+ghost use Rattle.sum_marks.specs.Code.Marks.{marksLength};
+ghost use Rattle.image_match.specs.Code.Page.{FrontPageOf, InHand};
 
-// Its first hour, how many it has and their sum, and the stamp of its marks.
-pub struct Page {
+// The page at the front: its first hour, how many it has and their sum, and the stamp of its marks.
+pub struct FrontPage {
     pub first: u64,
     pub hours: usize,
     pub sum: u64,
@@ -24,16 +25,17 @@ pub struct Page {
 
 // The page whose first hour this is, with so many coins in the hours before it: its sum is what its root is above them, and none of its counts
 // is read. Stamps come again after 255 pages: one of old does no harm, and none has to be taken away.
-pub(crate) fn front_page(s: &[u8], h: Head, first: u64, before: u64) -> Page
+pub(crate) fn front_page(s: &[u8], h: Head, first: u64, before: u64) -> FrontPage
     requires { ⌜ (accepted (now s) ≡ true) × HeadOf (now s) h × (first < h .hours) × (first % 2 ^ h .e ≡ 0) ⌝ }
     requires { ⌜ before ≡ reading (listOf (now s)) first ⌝ }
-    ensures { λ r. ⌜ (r .first ≡ first) × FrontPage (now (s .entry)) h r ⌝ }
+    ensures { λ r. ⌜ (r .first ≡ first) × FrontPageOf (now (s .entry)) h r ⌝ }
 {
     let p = first >> h.e;
     let hours = ahead(h, first);
     let sum = page_root(s, h, p as usize) - before;
+    // a table starts as zeros: no page's stamp is 0, so that a place with no mark yet has none of them
     let stamp = (p % 255 + 1) as u8;
-    Page {
+    FrontPage {
         first,
         hours,
         sum,
@@ -42,9 +44,9 @@ pub(crate) fn front_page(s: &[u8], h: Head, first: u64, before: u64) -> Page
 }
 
 // Reads the page's counts, and marks their sums.
-pub(crate) fn mark_page(s: &[u8], h: Head, page: Page, counts: &mut [u32], marks: &mut [u8])
-    requires { ⌜ (accepted (now s) ≡ true) × HeadOf (now s) h × FrontPage (now s) h page ⌝ }
-    requires { ⌜ (length (now counts) ≡ 256) × (length (now marks) ≡ 2048) ⌝ }
+pub(crate) fn mark_page(s: &[u8], h: Head, page: FrontPage, counts: &mut [u32], marks: &mut [u8])
+    requires { ⌜ (accepted (now s) ≡ true) × HeadOf (now s) h × FrontPageOf (now s) h page ⌝ }
+    requires { ⌜ (length (now counts) ≡ 256) × (length (now marks) ≡ marksLength) ⌝ }
     ensures { λ _. ⌜ InHand (listOf (now (s .entry))) page (now (counts .exit)) (now (marks .exit)) ⌝ }
 {
     read_page(s, h, page.first, counts);

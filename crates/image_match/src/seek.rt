@@ -1,7 +1,7 @@
 // The search for hours with sum q along an accepted image, one first hour after another: a run from hour lo on ends where the coins since the
 // log's start are q more than before lo. That is looked up in the marks of the page at the front, which nearly always say that no run from hour
 // lo on ends there: so the jumps nearly always go the same way, as a processor foretells them. Each end has a page in hand.
-use crate::page::Page;
+use crate::page::FrontPage;
 use crate::page::front_page;
 use crate::page::mark_page;
 use answers::image::Bag;
@@ -10,9 +10,10 @@ use image::head::Head;
 use image_cursor::cursor::ahead;
 use image_cursor::cursor::read_page;
 use image_cursor::cursor::turn;
+use sum_marks::marks::MARKS_LENGTH;
 use sum_marks::marks::carries;
-use sum_marks::part::Part;
-use sum_marks::part::look;
+use sum_marks::prefix::Prefix;
+use sum_marks::prefix::attempt;
 ghost use mathlib.Core.Bool.{true};
 ghost use mathlib.Core.Path.{_≡_};
 ghost use Prim.Native.Nat.{_+_, _≤_};
@@ -21,8 +22,9 @@ ghost use Rattle.image.specs.Check.{accepted};
 ghost use Rattle.image.specs.Code.Head.{HeadOf};
 ghost use Rattle.image.specs.Read.{listOf};
 ghost use Rattle.image_cursor.specs.Code.Cursor.{Ready};
-ghost use Rattle.runs.specs.Code.{Passed};
-ghost use Rattle.image_match.specs.Code.Page.{FrontPage, InHand, MarksOf, PageOf};
+ghost use Rattle.runs.specs.Code.{NoneBefore};
+ghost use Rattle.sum_marks.specs.Code.Marks.{marksLength};
+ghost use Rattle.image_match.specs.Code.Page.{FrontPageOf, InHand, MarksOf, RunOf};
 ghost use Rattle.image_match.specs.Code.Seek.{Brings, Finds, Later, Seeks};
 
 // The first hour of the runs that are tried, and how many coins more than before the page at the front are wanted where one of them ends.
@@ -32,16 +34,16 @@ pub struct Aim {
 }
 
 // What the search in a page comes to: the run's first hour and its hours, or that more is wanted than the page has.
-pub enum Sought {
-    Found(u64, u64),
+pub enum PageSearch {
+    Matched(u64, u64),
     Beyond(Aim),
 }
 
 // Passes over hour lo, and over the next ones of its page, which back has, until the coins that one wants may be met in the page at the front,
 // or are more than this has.
-fn pass(s: &[u8], h: Head, q: u64, page: Page, at: Aim, marks: &[u8], back: &[u32]) -> Aim
-    requires { ⌜ (accepted (now s) ≡ true) × HeadOf (now s) h × (1 ≤ q) × PageOf (listOf (now s)) page ⌝ }
-    requires { ⌜ Seeks (listOf (now s)) q (page .first) at × (at .want ≤ page .sum) × Passed (listOf (now s)) q (at .lo + 1) ⌝ }
+fn pass(s: &[u8], h: Head, q: u64, page: FrontPage, at: Aim, marks: &[u8], back: &[u32]) -> Aim
+    requires { ⌜ (accepted (now s) ≡ true) × HeadOf (now s) h × (1 ≤ q) × RunOf (listOf (now s)) page ⌝ }
+    requires { ⌜ Seeks (listOf (now s)) q (page .first) at × (at .want ≤ page .sum) × NoneBefore (listOf (now s)) q (at .lo + 1) ⌝ }
     requires { ⌜ Ready (now s) (at .lo) (now back) × MarksOf (listOf (now s)) page (now marks) ⌝ }
     ensures { λ r. ⌜ Later (listOf (now (s .entry))) h q (page .first) at r ⌝ }
 {
@@ -70,29 +72,29 @@ fn seek(
     s: &[u8],
     h: Head,
     q: u64,
-    page: Page,
+    page: FrontPage,
     from: Aim,
     front: &[u32],
     marks: &[u8],
     back: &mut [u32],
-) -> Sought
+) -> PageSearch
     requires { ⌜ (accepted (now s) ≡ true) × HeadOf (now s) h × (1 ≤ q) ⌝ }
-    requires { ⌜ PageOf (listOf (now s)) page × InHand (listOf (now s)) page (now front) (now marks) ⌝ }
+    requires { ⌜ RunOf (listOf (now s)) page × InHand (listOf (now s)) page (now front) (now marks) ⌝ }
     requires { ⌜ Seeks (listOf (now s)) q (page .first) from × Ready (now s) (from .lo) (now back) ⌝ }
     ensures { λ r. ⌜ Brings (now (s .entry)) q page (now (back .exit)) r ⌝ }
 {
     let mut at = from;
-    let mut there = Part { hours: 0, sum: 0 };
+    let mut there = Prefix { hours: 0, sum: 0 };
     while at.want <= page.sum {
-        there = look(front, page.hours, marks, page.stamp, there, at.want);
+        there = attempt(front, page.hours, marks, page.stamp, there, at.want);
         if there.sum == at.want {
-            return Sought::Found(at.lo, page.first + (there.hours as u64) - at.lo);
+            return PageSearch::Matched(at.lo, page.first + (there.hours as u64) - at.lo);
         }
         let next = pass(s, h, q, page, at, marks, back);
         turn(s, h, at.lo, next.lo - at.lo, back);
         at = next;
     }
-    Sought::Beyond(at)
+    PageSearch::Beyond(at)
 }
 
 // The search in the page at the front, which is not read yet. Where it has fewer coins than are wanted, no run from hour lo or a later one on
@@ -101,19 +103,19 @@ fn visit(
     s: &[u8],
     h: Head,
     q: u64,
-    page: Page,
+    page: FrontPage,
     at: Aim,
     front: &mut [u32],
     marks: &mut [u8],
     back: &mut [u32],
-) -> Sought
-    requires { ⌜ (accepted (now s) ≡ true) × HeadOf (now s) h × (1 ≤ q) × FrontPage (now s) h page ⌝ }
-    requires { ⌜ (length (now front) ≡ 256) × (length (now marks) ≡ 2048) ⌝ }
+) -> PageSearch
+    requires { ⌜ (accepted (now s) ≡ true) × HeadOf (now s) h × (1 ≤ q) × FrontPageOf (now s) h page ⌝ }
+    requires { ⌜ (length (now front) ≡ 256) × (length (now marks) ≡ marksLength) ⌝ }
     requires { ⌜ Seeks (listOf (now s)) q (page .first) at × Ready (now s) (at .lo) (now back) ⌝ }
     ensures { λ r. ⌜ Brings (now (s .entry)) q page (now (back .exit)) r ⌝ }
 {
     if page.sum < at.want {
-        return Sought::Beyond(at);
+        return PageSearch::Beyond(at);
     }
     mark_page(s, h, page, front, marks);
     seek(s, h, q, page, at, front, marks, back)
@@ -126,7 +128,7 @@ pub(crate) fn find(s: &[u8], h: Head, q: u64) -> Bag
 {
     let mut front = [0u32; 256];
     let mut back = [0u32; 256];
-    let mut marks = [0u8; 2048];
+    let mut marks = [0u8; MARKS_LENGTH as usize];
     read_page(s, h, 0, &mut back);
     let mut at = Aim { lo: 0, want: q };
     // where the page at the front starts, and the coins before it
@@ -135,10 +137,10 @@ pub(crate) fn find(s: &[u8], h: Head, q: u64) -> Bag
     while first < h.hours {
         let page = front_page(s, h, first, before);
         match visit(s, h, q, page, at, &mut front, &mut marks, &mut back) {
-            Sought::Found(lo, hours) => {
+            PageSearch::Matched(lo, hours) => {
                 return Bag::Run(lo, hours);
             }
-            Sought::Beyond(next) => {
+            PageSearch::Beyond(next) => {
                 at = Aim {
                     lo: next.lo,
                     want: next.want - page.sum,

@@ -9,7 +9,7 @@ use native.Mathlib.Omega.{arith}
 use lib.ListN.{length}
 use Rattle.lists.specs.Lists.{reading}
 use Rattle.runs.specs.Runs.{FirstMatch, Matches, NoMatch}
-use Rattle.runs.specs.Code.{Passed}
+use Rattle.runs.specs.Code.{NoneBefore}
 use Rattle.runs.proofs.PrefixSums.{reading-grows, run-reading}
 
 -- the reading behind a run with sum q
@@ -20,13 +20,13 @@ reading-behind xs q j n m = omega (arith, run-reading xs j n, m .sum-is)
 abbrev pub Unread : List ℕ → ℕ → ℕ → Type 0
 Unread xs t n = (k : ℕ) → k < n → reading xs k ≡ t → ⊥
 
-pub passed-first : (xs : List ℕ) (q : ℕ) → Passed xs q 0
-passed-first xs q j n l m = omega arith
+pub none-before-first : (xs : List ℕ) (q : ℕ) → NoneBefore xs q 0
+none-before-first xs q j n l m = omega arith
 
-module _ (xs : List ℕ) (q lo : ℕ) (p : Passed xs q lo) where
+module _ (xs : List ℕ) (q lo : ℕ) (p : NoneBefore xs q lo) where
   -- no reading is q above that at lo: no run from lo on has the sum
-  pub passed-on : Unread xs (reading xs lo + q) (length xs + 1) → Passed xs q (lo + 1)
-  passed-on u j n l m = go (decLe lo j)
+  pub none-before-next : Unread xs (reading xs lo + q) (length xs + 1) → NoneBefore xs q (lo + 1)
+  none-before-next u j n l m = go (decLe lo j)
     where
       go : Dec (lo ≤ j) → ⊥
       go (yes d) =
@@ -35,9 +35,9 @@ module _ (xs : List ℕ) (q lo : ℕ) (p : Passed xs q lo) where
       go (no d) = p j n (omega arith) m
 
   -- the first reading that is: the run from lo on ends there
-  pub passed-found : (hi : ℕ) → 1 ≤ q → hi ≤ length xs → reading xs hi ≡ reading xs lo + q → Unread xs (reading xs lo + q) hi
+  pub match-from : (hi : ℕ) → 1 ≤ q → hi ≤ length xs → reading xs hi ≡ reading xs lo + q → Unread xs (reading xs lo + q) hi
       → FirstMatch xs q lo (hi - lo)
-  passed-found hi l i e u =
+  match-from hi l i e u =
       let o : lo + (hi - lo) ≡ hi = omega (arith, above (decLe hi lo)) in
       record {
         matches = record {
@@ -62,8 +62,8 @@ module _ (xs : List ℕ) (q lo : ℕ) (p : Passed xs q lo) where
       least n m (no d) = absurd (u (lo + n) (omega arith) (reading-behind xs q lo n m))
 
   -- all readings are below that: there is no such run
-  pub passed-none : reading xs (length xs) < reading xs lo + q → NoMatch xs q
-  passed-none l j n m = go (decLe lo j)
+  pub no-match-from : reading xs (length xs) < reading xs lo + q → NoMatch xs q
+  no-match-from l j n m = go (decLe lo j)
     where
       go : Dec (lo ≤ j) → ⊥
       go (yes d) =
@@ -71,8 +71,8 @@ module _ (xs : List ℕ) (q lo : ℕ) (p : Passed xs q lo) where
       go (no d) = p j n (omega arith) m
 
 -- ---- there is one, or none
-abbrev pub Found : List ℕ → ℕ → Type 0
-Found xs q = ((first : ℕ) × (hours : ℕ) × FirstMatch xs q first hours) ⊎ NoMatch xs q
+abbrev pub FirstOrNone : List ℕ → ℕ → Type 0
+FirstOrNone xs q = ((first : ℕ) × (hours : ℕ) × FirstMatch xs q first hours) ⊎ NoMatch xs q
 
 -- the first of n hours at which the reading is t
 abbrev FirstRead : List ℕ → ℕ → ℕ → Type 0
@@ -94,20 +94,20 @@ first-read xs t (suc n) = go (first-read xs t n) (ℕ-discrete (reading xs n) t)
     go (inr u) (no f) = inr (λ k l e. last u f k l e (decLe n k))
 
 -- from hour lo on, or else from the next
-from-lo : (xs : List ℕ) (q lo : ℕ) → 1 ≤ q → Passed xs q lo → (Passed xs q (lo + 1) → Found xs q) → Found xs q
+from-lo : (xs : List ℕ) (q lo : ℕ) → 1 ≤ q → NoneBefore xs q lo → (NoneBefore xs q (lo + 1) → FirstOrNone xs q) → FirstOrNone xs q
 from-lo xs q lo l p on = go (first-read xs (reading xs lo + q) (length xs + 1))
   where
-    go : FirstRead xs (reading xs lo + q) (length xs + 1) ⊎ Unread xs (reading xs lo + q) (length xs + 1) → Found xs q
-    go (inl r) = inl (lo, r .0 - lo, passed-found xs q lo p (r .0) l (omega (arith, r .1)) (r .2) (r .3))
-    go (inr u) = on (passed-on xs q lo p u)
+    go : FirstRead xs (reading xs lo + q) (length xs + 1) ⊎ Unread xs (reading xs lo + q) (length xs + 1) → FirstOrNone xs q
+    go (inl r) = inl (lo, r .0 - lo, match-from xs q lo p (r .0) l (omega (arith, r .1)) (r .2) (r .3))
+    go (inr u) = on (none-before-next xs q lo p u)
 
 -- no more first hours than the list has
-found-from : (xs : List ℕ) (q : ℕ) → 1 ≤ q → (n lo : ℕ) → length xs ≤ lo + n → Passed xs q lo → Found xs q
-found-from xs q l zero lo h p = inr (passed-none xs q lo p (omega (arith, reading-grows xs (length xs) lo (omega arith))))
-found-from xs q l (suc n) lo h p = from-lo xs q lo l p (λ (r : Passed xs q (lo + 1)). found-from xs q l n (lo + 1) (omega arith) r)
+found-from : (xs : List ℕ) (q : ℕ) → 1 ≤ q → (n lo : ℕ) → length xs ≤ lo + n → NoneBefore xs q lo → FirstOrNone xs q
+found-from xs q l zero lo h p = inr (no-match-from xs q lo p (omega (arith, reading-grows xs (length xs) lo (omega arith))))
+found-from xs q l (suc n) lo h p = from-lo xs q lo l p (λ (r : NoneBefore xs q (lo + 1)). found-from xs q l n (lo + 1) (omega arith) r)
 
-pub some-match : (xs : List ℕ) (q : ℕ) → 1 ≤ q → Found xs q
-some-match xs q l = found-from xs q l (length xs) 0 (omega arith) (passed-first xs q)
+pub some-match : (xs : List ℕ) (q : ℕ) → 1 ≤ q → FirstOrNone xs q
+some-match xs q l = found-from xs q l (length xs) 0 (omega arith) (none-before-first xs q)
 
 -- ---- there is one alone
 pub one-match : (xs : List ℕ) (q f g m n : ℕ) → FirstMatch xs q f m → FirstMatch xs q g n → (f ≡ g) × (m ≡ n)

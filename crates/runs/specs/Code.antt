@@ -12,5 +12,5 @@ pub record Best (xs : List ℕ) (k j first total : ℕ) : Type 0 where
   pub earliest : (i : ℕ) → i < first → runSum xs i k < total
 
 -- no run that starts before hour lo has the sum q
-abbrev pub Passed : List ℕ → ℕ → ℕ → Type 0
-Passed xs q lo = (j n : ℕ) → j < lo → Matches xs q j n → ⊥
+abbrev pub NoneBefore : List ℕ → ℕ → ℕ → Type 0
+NoneBefore xs q lo = (j n : ℕ) → j < lo → Matches xs q j n → ⊥

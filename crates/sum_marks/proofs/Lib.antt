@@ -1,3 +1,3 @@
 -- Laws of marks, and of the first counts with a sum.
 pub mod MarkLaws
-pub mod PartLaws
+pub mod PrefixLaws

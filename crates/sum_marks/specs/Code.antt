@@ -1,3 +1,3 @@
 -- What one function hands the next, by the file that has it.
 pub mod Marks
-pub mod Part
+pub mod Prefix

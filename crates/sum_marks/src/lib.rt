@@ -1,3 +1,3 @@
 // Marks of the sums of counts, by which the first of them with a given sum are found.
 pub mod marks;
-pub mod part;
+pub mod prefix;

@@ -5,26 +5,29 @@ ghost use mathlib.Core.Path.{_≡_};
 ghost use Prim.Native.Nat.{_≤_};
 ghost use lib.ListN.{length};
 ghost use Rattle.lists.specs.Lists.{reading};
-ghost use Rattle.sum_marks.specs.Code.Marks.{Marked, Unmarked};
+ghost use Rattle.sum_marks.specs.Code.Marks.{Marked, Unmarked, marksLength};
+
+// How many places a table of marks has.
+pub const MARKS_LENGTH: u64 = 2048;
 
 // Marks the sums of n counts.
 pub fn mark(counts: &[u32], n: usize, stamp: u8, marks: &mut [u8])
-    requires { ⌜ (n ≤ length (now counts)) × (reading (now counts) n ≤ 4294967295) × (length (now marks) ≡ 2048) ⌝ }
+    requires { ⌜ (n ≤ length (now counts)) × (reading (now counts) n ≤ 4294967295) × (length (now marks) ≡ marksLength) ⌝ }
     ensures { λ _. ⌜ Marked (now (counts .entry)) n stamp (now (marks .exit)) ⌝ }
 {
     let mut sum = 0;
     let mut i = 0;
     while i < n {
         sum = sum + (counts[i] as u64);
-        marks[(sum % 2048) as usize] = stamp;
+        marks[(sum % MARKS_LENGTH) as usize] = stamp;
         i = i + 1;
     }
 }
 
 // Whether there is a mark at the place of a sum.
 pub fn carries(marks: &[u8], sum: u64, stamp: u8) -> bool
-    requires { ⌜ length (now marks) ≡ 2048 ⌝ }
+    requires { ⌜ length (now marks) ≡ marksLength ⌝ }
     ensures { λ r. ⌜ (r ≡ false → Unmarked (now (marks .entry)) stamp sum) ⌝ }
 {
-    marks[(sum % 2048) as usize] == stamp
+    marks[(sum % MARKS_LENGTH) as usize] == stamp
 }

@@ -7,14 +7,14 @@ use Rattle.lists.specs.Lists.{reading}
 use Rattle.image.specs.Read.{listOf}
 use Rattle.image.specs.declared.head.Head.{Head}
 use Rattle.image_cursor.specs.Code.Cursor.{Ready}
-use Rattle.runs.specs.Code.{Passed}
+use Rattle.runs.specs.Code.{NoneBefore}
 use Rattle.runs.specs.Runs.{FirstMatch, NoMatch}
 use Rattle.answers.specs.declared.image.Bag.{Bag}
 use Rattle.answers.specs.declared.image.Bag.the-variants.{Run, None, Refused}
-use Rattle.image_match.specs.declared.page.Page.{Page}
+use Rattle.image_match.specs.declared.page.FrontPage.{FrontPage}
 use Rattle.image_match.specs.declared.seek.Aim.{Aim}
-use Rattle.image_match.specs.declared.seek.Sought.{Sought}
-use Rattle.image_match.specs.declared.seek.Sought.the-variants.{Beyond, Found}
+use Rattle.image_match.specs.declared.seek.PageSearch.{PageSearch}
+use Rattle.image_match.specs.declared.seek.PageSearch.the-variants.{Beyond, Matched}
 
 -- where the search stands: no run that starts before lo has the sum q, and one from lo on that has it ends where so many coins as are wanted
 -- have come in since hour first
@@ -22,7 +22,7 @@ pub record Seeks (xs : List ℕ) (q first : ℕ) (at : Aim) : Type 0 where
   pub inside : at .lo ≤ length xs
   pub wants : reading xs (at .lo) + q ≡ reading xs first + at .want
   pub some : 1 ≤ at .want
-  pub passed : Passed xs q (at .lo)
+  pub none-before : NoneBefore xs q (at .lo)
 
 -- where it stands some hours later, no further than at the first hour of the next page
 pub record Later (xs : List ℕ) (h : Head) (q first : ℕ) (at r : Aim) : Type 0 where
@@ -31,8 +31,8 @@ pub record Later (xs : List ℕ) (h : Head) (q first : ℕ) (at r : Aim) : Type 
   pub room : at .lo % 2 ^ h .e + (r .lo - at .lo) ≤ 2 ^ h .e
 
 -- what a page brought: the run, or a first hour for which more is wanted than the page has, with the page of this hour in an array
-abbrev pub Brings : List ℕ → ℕ → Page → List ℕ → Sought → Type 0
-Brings s q page back (Found lo hours) = FirstMatch (listOf s) q lo hours
+abbrev pub Brings : List ℕ → ℕ → FrontPage → List ℕ → PageSearch → Type 0
+Brings s q page back (Matched lo hours) = FirstMatch (listOf s) q lo hours
 Brings s q page back (Beyond at) = Seeks (listOf s) q (page .first) at × (page .sum < at .want) × Ready s (at .lo) back
 
 -- what was found: the run, or that there is none

@@ -10,6 +10,7 @@ use crate::store_calls::{same_bytes, same_word};
 const FIRST_SEED: u64 = 8_200_000;
 const LISTS: u64 = 300;
 const ALIKE: u64 = 60;
+const FAR_APART: u64 = 40;
 /// Up to this total every figure is asked.
 const EVERY: u64 = 400;
 
@@ -24,7 +25,8 @@ pub fn play(run: &mut Run) -> Outcome {
         run.note(format!("bags, e = {e}"), result)?;
     }
     run.each_seed(FIRST_SEED, LISTS, random_list)?;
-    run.each_seed(FIRST_SEED + 100_000, ALIKE, alike_in_low_bits)
+    run.each_seed(FIRST_SEED + 100_000, ALIKE, alike_in_low_bits)?;
+    run.each_seed(FIRST_SEED + 150_000, FAR_APART, coins_far_apart)
 }
 
 /// Counts, figure and the word: the first hour, and the hours from 2^32 on.
@@ -134,4 +136,29 @@ fn alike_in_low_bits(run: &mut Run, seed: u64) -> Result<(), String> {
         .chain([total])
         .collect();
     compare(run, &list, e, &bags)
+}
+
+/// Coins in the first few of every 255 pages alone, with sums that are small
+/// modulo 2,048. The library marks a page's sums by that remainder, and its
+/// marks come again after 255 pages: here such a page meets those of the last,
+/// and only the high bits tell their sums apart.
+fn coins_far_apart(run: &mut Run, seed: u64) -> Result<(), String> {
+    let mut random = Random::new(seed);
+    let (e, length) = (2, random.between(2_000, 6_000));
+    let pages = random.between(1, 4);
+    let list: Vec<u64> = (0..length)
+        .map(|hour| match (hour >> e) % 255 < pages {
+            true => small_remainder(&mut random, 5, 3),
+            false => 0,
+        })
+        .collect();
+    let bags: Vec<u64> = (0..40)
+        .map(|_| small_remainder(&mut random, 12, 12))
+        .collect();
+    compare(run, &list, e, &bags)
+}
+
+/// A number up to `high` times 2,048, and up to `low` more.
+fn small_remainder(random: &mut Random, high: u64, low: u64) -> u64 {
+    2_048 * random.between(0, high) + random.between(0, low)
 }

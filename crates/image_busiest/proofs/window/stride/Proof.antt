@@ -1,5 +1,4 @@
 -- `image_busiest::window::stride` meets its contract. Assumes nothing.
-use native.Mathlib.Omega.{arith}
 use borrow.Author.Needs.{needs}
 use Rattle.image_busiest.proofs.WindowLaws.{along-least}
 use Rattle.image_busiest.proofs.window.stride.Statement.{statement}

@@ -7,6 +7,7 @@ use borrow.Author.Needs.{needs}
 use Rattle.lists.specs.Lists.{reading}
 use Rattle.image.specs.Read.{listOf}
 use Rattle.image_cursor.specs.Code.Cursor.{Ready}
+use Rattle.sum_marks.specs.Code.Marks.{marksLength}
 use Rattle.image_match.specs.Code.Seek.{Brings, Seeks}
 use Rattle.image_match.proofs.PageLaws.{Border, border-first, border-next, coins-first, coins-next, coins-small, hours}
 use Rattle.image_match.proofs.SeekLaws.{seeks-as, seeks-beyond, seeks-first, seeks-none}
@@ -15,7 +16,7 @@ use Rattle.image_match.proofs.seek.find.Tie as tie
 
 abbrev Inv-loop : tie.InvT-loop
 Inv-loop s h q front₀ back₀ marks₀ at₀ first₀ before₀ front back marks at first before =
-    Border h first × Seeks (listOf s) q first at × Ready s (at .lo) back × (length front ≡ 256) × (length marks ≡ 2048)
+    Border h first × Seeks (listOf s) q first at × Ready s (at .lo) back × (length front ≡ 256) × (length marks ≡ marksLength)
     × (before ≡ reading (listOf s) first)
 
 abbrev μ-loop : tie.MeasureT-loop
@@ -85,7 +86,7 @@ add-before c =
     let b = c .before .before .before .before .before .before .before .before .before .before .before .before .before .before .before .before in
     let a = b .before .before .before .before .before .pre in
     let f = c .before .before .before .before .before .before .before .before .before .before .before .before .before .front-page in
-    let e = coins-next _ _ _ _ (f .ensures .0) (f .ensures .1 .page-is) (b .loop .inv .5) in
+    let e = coins-next _ _ _ _ (f .ensures .0) (f .ensures .1 .run-is) (b .loop .inv .5) in
     record { fits = omega (arith, e, coins-small _ (a .0) (a .1) (b .loop .first + f .result .hours)) }
 
 loop-less : tie.Need-loop-less Inv-loop μ-loop
@@ -103,11 +104,11 @@ loop-again c =
     let v = c .before .before .before .before .before .before .before .before .before .visit in
     let x = subst (Brings (a .s .now) (a .q) (f .result) _) (c .before .before .before .before .next .given .1) (v .ensures) in (
       border-next _ _ _ _ (g .0) (g .1),
-      seeks-as _ _ _ _ _ e (seeks-beyond _ _ _ (g .1 .page-is) _ (x .0) (x .1)),
+      seeks-as _ _ _ _ _ e (seeks-beyond _ _ _ (g .1 .run-is) _ (x .0) (x .1)),
       x .2,
       omega (arith, b .loop .inv .3, v .kept),
       omega (arith, b .loop .inv .4, v .kept),
-      coins-next _ _ _ _ (g .0) (g .1 .page-is) (b .loop .inv .5),
+      coins-next _ _ _ _ (g .0) (g .1 .run-is) (b .loop .inv .5),
     )
 
 returns-2 : tie.Need-returns-2 Inv-loop μ-loop

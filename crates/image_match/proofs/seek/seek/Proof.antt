@@ -2,20 +2,19 @@
 use mathlib.Core.Path.{_≡_}
 use Prim.Native.Nat.{_+_, _-_, _≤_}
 use native.Mathlib.Omega.{arith}
-use borrow.Author.Needs.{needs}
 use Rattle.image.specs.Read.{listOf}
 use Rattle.image_cursor.specs.Code.Cursor.{Ready}
-use Rattle.sum_marks.specs.Code.Part.{PartOf}
+use Rattle.sum_marks.specs.Code.Prefix.{PrefixOf}
 use Rattle.image_match.specs.Code.Seek.{Seeks}
 use Rattle.image_match.proofs.PageLaws.{counts-small, hours}
-use Rattle.sum_marks.proofs.PartLaws.{part-first, part-wider}
+use Rattle.sum_marks.proofs.PrefixLaws.{prefix-first, prefix-wider}
 use Rattle.image_match.proofs.SeekLaws.{counts-marked, found-here, over-missed, want-grows}
 use Rattle.image_match.proofs.seek.seek.Statement.{statement}
 use Rattle.image_match.proofs.seek.seek.Tie as tie
 
 abbrev Inv-loop : tie.InvT-loop
 Inv-loop s h q page front marks back₀ at₀ there₀ back at there =
-    Seeks (listOf s) q (page .first) at × Ready s (at .lo) back × PartOf front (page .hours) (at .want) there
+    Seeks (listOf s) q (page .first) at × Ready s (at .lo) back × PrefixOf front (page .hours) (at .want) there
 
 abbrev μ-loop : tie.MeasureT-loop
 μ-loop s h q page front marks back₀ at₀ there₀ back at there = h .hours - at .lo
@@ -23,10 +22,10 @@ abbrev μ-loop : tie.MeasureT-loop
 loop-holds : tie.Need-loop-holds Inv-loop μ-loop
 loop-holds c =
     let a = c .before .before .before .before .pre .1 .1 in
-    (a .0, a .1, part-first _ _ _)
+    (a .0, a .1, prefix-first _ _ _)
 
-look-requires : tie.Need-look-requires Inv-loop μ-loop
-look-requires c κs =
+attempt-requires : tie.Need-attempt-requires Inv-loop μ-loop
+attempt-requires c κs =
     let b = c .before .before .before in
     let a = b .before .before .before .before .before .pre in
     let f = a .1 .0 in
@@ -36,14 +35,14 @@ add-t14 : tie.Need-add-t14 Inv-loop μ-loop
 add-t14 c =
     let b = c .before .before .before .before .before .before .before .before in
     let a = b .before .before .before .before .before .pre in
-    let r = c .before .before .before .before .look .ensures .part .inside in
+    let r = c .before .before .before .before .attempt .ensures .prefix .inside in
     record { fits = omega (arith, a .1 .0 .0 .inside, r, hours _ (a .0 .0) (a .0 .1), a .0 .1 .hours-small) }
 
 returns : tie.Need-returns Inv-loop μ-loop
 returns c =
     let b = c .before .before .before .before .before .before .before .before .before in
     let a = b .before .before .before .before .before .pre in
-    let r = c .before .before .before .before .before .look .ensures in
+    let r = c .before .before .before .before .before .attempt .ensures in
     found-here _ _ _ (a .1 .0 .0) _ (b .loop .inv .0) (omega (arith, c .before .before .before .before .before .before .if1 .taken)) _ (a .1 .0 .1 .counts-are) _ r (a .0 .2)
     (c .before .before .if2 .taken)
 
@@ -60,7 +59,7 @@ pass-requires c κs =
     let b = c .before .before .before .before .before .before .before .before in
     let a = b .before .before .before .before .before .pre in
     let l : b .loop .at .want ≤ b .before .before .before .before .before .args .page .sum = omega (arith, c .before .before .before .before .before .if1 .taken) in
-    let r = c .before .before .before .before .look .ensures in
+    let r = c .before .before .before .before .attempt .ensures in
     let p = over-missed _ _ _ (a .1 .0 .0) _ (b .loop .inv .0) l _ (a .1 .0 .1 .counts-are) _ r (c .before .if2 .left) in
     ((a .0 .0, a .0 .1, a .0 .2, a .1 .0 .0), ((b .loop .inv .0, l, p), (b .loop .inv .1, a .1 .0 .1 .marked)))
 
@@ -88,7 +87,7 @@ loop-again c =
     let e : b .loop .at .lo + (d .result .lo - b .loop .at .lo) ≡ d .result .lo = omega (arith, x .on) in (
       x .seeks,
       rw e at (c .before .before .turn .ensures),
-      part-wider _ _ _ _ _ (want-grows _ _ _ _ (b .loop .inv .0) _ (x .seeks) (x .on)) (c .before .before .before .before .before .before .before .before .before .before .before .look .ensures .part),
+      prefix-wider _ _ _ _ _ (want-grows _ _ _ _ (b .loop .inv .0) _ (x .seeks) (x .on)) (c .before .before .before .before .before .before .before .before .before .before .before .attempt .ensures .prefix),
     )
 
 same-length-2 : tie.Need-same-length-2 Inv-loop μ-loop
@@ -108,7 +107,7 @@ seek-spec =
     Inv-loop
     μ-loop
     loop-holds
-    look-requires
+    attempt-requires
     add-t14
     sub-t15
     same-length

@@ -15,7 +15,7 @@ mark-page-requires c κs = search needs
 seek-requires : tie.Need-seek-requires
 seek-requires c κs =
     let a = c .before .before .before .before .before .before .before .before .before .before .before .before .before .before .before .before .before .pre in
-    ((a .0 .0, a .0 .1, a .0 .2), ((a .0 .3 .page-is, c .before .before .before .before .before .before .before .mark-page .ensures), a .1 .1))
+    ((a .0 .0, a .0 .1, a .0 .2), ((a .0 .3 .run-is, c .before .before .before .before .before .before .before .mark-page .ensures), a .1 .1))
 
 same-length : tie.Need-same-length
 same-length c = search needs

@@ -4,18 +4,18 @@ ghost use Prim.Native.Nat.{_≤_};
 ghost use lib.ListN.{length};
 ghost use Rattle.lists.specs.Lists.{reading};
 ghost use Rattle.sum_marks.specs.Code.Marks.{Marked};
-ghost use Rattle.sum_marks.specs.Code.Part.{Looked, PartOf};
+ghost use Rattle.sum_marks.specs.Code.Prefix.{PrefixOf, Tried};
 
 // How many of a page's first counts, and their sum.
-pub struct Part {
+pub struct Prefix {
     pub hours: usize,
     pub sum: u64,
 }
 
 // The fewest of n counts with as many coins as are wanted, or all. So far no more were wanted, and it goes on from where that ended.
-fn reach(counts: &[u32], n: usize, from: Part, want: u64) -> Part
-    requires { ⌜ (n ≤ length (now counts)) × (reading (now counts) n ≤ 4294967295) × PartOf (now counts) n want from ⌝ }
-    ensures { λ r. ⌜ Looked (now (counts .entry)) n want r ⌝ }
+fn reach(counts: &[u32], n: usize, from: Prefix, want: u64) -> Prefix
+    requires { ⌜ (n ≤ length (now counts)) × (reading (now counts) n ≤ 4294967295) × PrefixOf (now counts) n want from ⌝ }
+    ensures { λ r. ⌜ Tried (now (counts .entry)) n want r ⌝ }
 {
     let mut sum = from.sum;
     let mut i = from.hours;
@@ -26,14 +26,14 @@ fn reach(counts: &[u32], n: usize, from: Part, want: u64) -> Part
         sum = sum + (counts[i] as u64);
         i = i + 1;
     }
-    Part { hours: i, sum }
+    Prefix { hours: i, sum }
 }
 
 // Looks for the first of n counts with just as many coins as are wanted: only where there is a mark.
-pub fn look(counts: &[u32], n: usize, marks: &[u8], stamp: u8, from: Part, want: u64) -> Part
-    requires { ⌜ (n ≤ length (now counts)) × (reading (now counts) n ≤ 4294967295) × PartOf (now counts) n want from ⌝ }
+pub fn attempt(counts: &[u32], n: usize, marks: &[u8], stamp: u8, from: Prefix, want: u64) -> Prefix
+    requires { ⌜ (n ≤ length (now counts)) × (reading (now counts) n ≤ 4294967295) × PrefixOf (now counts) n want from ⌝ }
     requires { ⌜ Marked (now counts) n stamp (now marks) ⌝ }
-    ensures { λ r. ⌜ Looked (now (counts .entry)) n want r ⌝ }
+    ensures { λ r. ⌜ Tried (now (counts .entry)) n want r ⌝ }
 {
     if carries(marks, want, stamp) {
         return reach(counts, n, from, want);

@@ -1,16 +1,16 @@
--- `sum_marks::part::reach` meets its contract. Assumes nothing.
+-- `sum_marks::prefix::reach` meets its contract. Assumes nothing.
 use mathlib.Core.Path.{refl}
 use Prim.Native.Nat.{_-_}
 use native.Mathlib.Omega.{arith}
 use borrow.Author.Needs.{needs}
-use Rattle.sum_marks.specs.Code.Part.{PartOf}
+use Rattle.sum_marks.specs.Code.Prefix.{PrefixOf}
 use Rattle.sum_marks.proofs.MarkLaws.{sum-fits}
-use Rattle.sum_marks.proofs.PartLaws.{looked-reached, part-more}
-use Rattle.sum_marks.proofs.part.reach.Statement.{statement}
-use Rattle.sum_marks.proofs.part.reach.Tie as tie
+use Rattle.sum_marks.proofs.PrefixLaws.{prefix-more, tried-reached}
+use Rattle.sum_marks.proofs.prefix.reach.Statement.{statement}
+use Rattle.sum_marks.proofs.prefix.reach.Tie as tie
 
 abbrev Inv-loop : tie.InvT-loop
-Inv-loop counts n want sum₀ i₀ sum i = PartOf counts n want (record { hours = i; sum = sum })
+Inv-loop counts n want sum₀ i₀ sum i = PrefixOf counts n want (record { hours = i; sum = sum })
 
 abbrev μ-loop : tie.MeasureT-loop
 μ-loop counts n want sum₀ i₀ sum i = n - i
@@ -40,14 +40,14 @@ loop-less c = search needs
 
 loop-again : tie.Need-loop-again Inv-loop μ-loop
 loop-again c =
-    part-more _ _ _ _ _ _ (c .before .before .before .before .pre .0) (c .before .before .before .loop .inv) (c .before .before .loop-test .taken)
+    prefix-more _ _ _ _ _ _ (c .before .before .before .before .pre .0) (c .before .before .before .loop .inv) (c .before .before .loop-test .taken)
     (c .before .if1 .left) refl
 
 returns : tie.Need-returns Inv-loop μ-loop
-returns c = looked-reached _ _ _ _ (c .before .loop .inv) (λ m. c .loop-test .left)
+returns c = tried-reached _ _ _ _ (c .before .loop .inv) (λ m. c .loop-test .left)
 
 returns-2 : tie.Need-returns-2 Inv-loop μ-loop
-returns-2 c = looked-reached _ _ _ _ (c .before .before .loop .inv) (λ m. absurd (omega (arith, m, c .if1 .taken)))
+returns-2 c = tried-reached _ _ _ _ (c .before .before .loop .inv) (λ m. absurd (omega (arith, m, c .if1 .taken)))
 
 pub reach-spec : {M : Type 1} → statement M
 reach-spec =
