@@ -5,18 +5,17 @@ use mathlib.Core.List.{List}
 use Prim.Native.Nat.{ℕ, _*_, _≤_, _<_}
 use native.Mathlib.Omega.{arith}
 use lib.ListN.{length}
-use lib.Dec.{leb}
 use borrow.Author.Tests.{le-leb, lt-leb}
 use Rattle.answers.specs.Image.{Verdict, fails, given, holds, refused, told}
 use Rattle.answers.specs.declared.image.Answer.the-variants.{Number, Refused}
-use Rattle.lists.specs.Lists.{pick, same, splice, sum}
-use Rattle.lists.proofs.Tests.{left, right}
+use Rattle.lists.specs.Lists.{pick, splice}
+use Rattle.lists.proofs.Tests.{right}
 use Rattle.tree_lowest.specs.Narrow.{within}
 use Rattle.image.specs.Calls.{put, unwritten}
-use Rattle.image.specs.Check.{accepted, check, headed}
-use Rattle.image.specs.Image.{image, maxTotal}
-use Rattle.image.specs.Read.{eOf, listOf}
+use Rattle.image.specs.Check.{accepted, check}
+use Rattle.image.specs.Read.{listOf}
 use Rattle.image.proofs.CallLaws.{put-refused}
+use Rattle.image.proofs.CheckLaws.{check-holds}
 use Rattle.image_steps.specs.Result.{resultOf}
 use Rattle.image_steps.proofs.Writing.{splice-front}
 use Rattle.book.specs.Book.{bookOf, fourDigits}
@@ -28,13 +27,9 @@ pub to-fails : (s out : List ℕ) (k : ℕ) → check s ≡ fails k → resultOf
 unfolding toCall past unwritten told
 to-fails s out k h = rw h
 
-headed-of : (s : List ℕ) → accepted s ≡ true → headed s ≡ true
-unfolding accepted
-headed-of s a = left (headed s) (leb (sum (listOf s)) maxTotal && same s (image (eOf s) (listOf s))) a
-
 pub to-past : (s out : List ℕ) → accepted s ≡ true → putBook (listOf s) out ≡ toCall s out
-unfolding toCall past check pick
-to-past s out a = rw (headed-of s a, a)
+unfolding toCall past
+to-past s out a = rw (check-holds s a)
 
 pub book-15 : (xs out : List ℕ) → fourDigits xs ≡ false → resultOf (Refused 15) out ≡ putBook xs out
 unfolding putBook pick unwritten told

@@ -45,7 +45,7 @@ pub fn to_bcd(s: &[u8], book: &mut [u8]) -> Answer
     if passes(s, h, WIDEST) {
         return write_book(s, h, book);
     }
-    if passes(s, h, Head::MAX_TOTAL) {
+    if passes(s, h, Head::MAX_COUNT) {
         return Answer::Refused(refusal::FOUR_DIGITS);
     }
     Answer::Refused(refusal::BODY)

@@ -15,7 +15,7 @@ use Rattle.image.specs.Check.{accepted, check}
 use Rattle.image.specs.Image.{Limits, image}
 use Rattle.image.specs.Read.{listOf}
 use Rattle.image.proofs.CallLaws.{length-only, write-put}
-use Rattle.image_cursor.proofs.AccessLaws.{check-held}
+use Rattle.image.proofs.CheckLaws.{check-held}
 use Rattle.book.specs.Book.{bookOf, decimal, fourDigits, listOfBook}
 use Rattle.book_in.specs.FromBook.{fromCall}
 use Rattle.book_in.proofs.FromLaws.{from-list}

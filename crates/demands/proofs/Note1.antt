@@ -12,7 +12,7 @@ use Rattle.image.specs.Read.{listOf}
 use Rattle.answers.specs.Image.{fails}
 use Rattle.answers.specs.declared.image.Stretch.{Stretch}
 use Rattle.answers.specs.declared.image.Stretch.the-variants.{Run, Refused}
-use Rattle.image_cursor.proofs.AccessLaws.{five-or-six}
+use Rattle.image.proofs.CheckLaws.{five-or-six}
 use Rattle.runs.specs.Runs.{Busiest}
 use Rattle.image_busiest.specs.Busiest.{BusiestCall, no-such-run, not-accepted, the-run}
 use Rattle.image_busiest.proofs.AnswerLaws.{one-answer}

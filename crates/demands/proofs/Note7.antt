@@ -12,7 +12,7 @@ use Rattle.image.specs.Read.{listOf}
 use Rattle.answers.specs.Image.{fails}
 use Rattle.answers.specs.declared.image.Bag.{Bag}
 use Rattle.answers.specs.declared.image.Bag.the-variants.{Run, None, Refused}
-use Rattle.image_cursor.proofs.AccessLaws.{five-or-six}
+use Rattle.image.proofs.CheckLaws.{five-or-six}
 use Rattle.runs.specs.Runs.{FirstMatch, NoMatch}
 use Rattle.image_match.specs.Match.{MatchCall, no-coins, none, not-accepted, the-run}
 use Rattle.image_match.proofs.AnswerLaws.{one-answer}

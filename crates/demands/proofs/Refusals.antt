@@ -34,7 +34,7 @@ use Rattle.freeze.proofs.Freezing.{only-page-size}
 use Rattle.lists.proofs.Tests.{left, right}
 use Rattle.answers.specs.declared.image.Bag.{Bag}
 use Rattle.answers.specs.declared.image.Stretch.{Stretch}
-use Rattle.image_cursor.proofs.AccessLaws.{five-or-six}
+use Rattle.image.proofs.CheckLaws.{five-or-six}
 use Rattle.image_busiest.specs.Busiest.{BusiestCall, no-such-run, not-accepted, the-run}
 use Rattle.image_match.specs.Match.{MatchCall, no-coins, none, not-accepted as no-image, the-run as the-hours}
 use Rattle.book.specs.Book.{bookOf, decimal, fourDigits, listOfBook}

@@ -9,6 +9,7 @@ use image_steps::plan::Started;
 use image_steps::plan::add_page;
 use image_steps::plan::finish;
 use image_steps::plan::start;
+use pages::entry::Entry;
 use pages::entry::entry_of;
 use pages::gather::gather_at;
 use parts::part_sums;
@@ -22,16 +23,21 @@ ghost use Rattle.store.specs.Sound.{sound};
 ghost use Rattle.image_steps.specs.Code.Planning.{Drafted, Planned as PlannedOf};
 ghost use Rattle.freeze_plan.specs.Code.Steps.{Ending, Within};
 
-// Adds the pages up to page number end of the image, which are smaller than the store's and lie in page p of it.
-fn add_parts(s: &[u8], e: u32, p: usize, end: usize, plan: Plan) -> Plan
-    requires { ⌜ Within (now s) e p end plan × (2 ^ e < 64) ⌝ }
+// The height of the tree of a page of the store: it has 2^6 counts.
+const HEIGHT: u32 = 6;
+
+// So many pages of an image make one of the store at most, for they have 4 counts or more.
+const MAX_PARTS: usize = Header::HOURS / 4;
+
+// Adds the pages up to page number end of the image, which are smaller than the store's and lie in page p of it, whose entry is own.
+fn add_parts(s: &[u8], e: u32, p: usize, own: Entry, end: usize, plan: Plan) -> Plan
+    requires { ⌜ Within (now s) e p own end plan × (2 ^ e < 64) ⌝ }
     ensures { λ r. ⌜ Drafted e (listIn (now (s .entry))) r × (end ≤ r .done) ⌝ }
 {
-    let many = reserve::power(6 - e) as usize;
-    let own = entry_of(s, p);
+    let many = reserve::power(HEIGHT - e) as usize;
     let code = gather_at(s, own.base, p, own.cells);
-    let mut sums = [0u64; 16];
-    part_sums(&code, 0, 6, e, own.sum, 0, &mut sums);
+    let mut sums = [0u64; MAX_PARTS];
+    part_sums(&code, 0, HEIGHT, e, own.sum, 0, &mut sums);
     let mut next = plan;
     while next.done < end {
         let i = next.done - many * p;
@@ -51,14 +57,15 @@ fn add_ending(all: u64, end: usize, plan: Plan) -> Plan
     plan
 }
 
-// Adds the pages up to page number end of the image, which end in page p of the store; all is the reading at the end of page p.
-fn add_within(s: &[u8], e: u32, p: usize, all: u64, end: usize, plan: Plan) -> Plan
-    requires { ⌜ Within (now s) e p end plan × (all ≡ reading (listIn (now s)) (64 * (p + 1))) ⌝ }
+// Adds the pages up to page number end of the image, which end in page p of the store, whose entry is own; all is the reading at the end of
+// page p.
+fn add_within(s: &[u8], e: u32, p: usize, own: Entry, all: u64, end: usize, plan: Plan) -> Plan
+    requires { ⌜ Within (now s) e p own end plan × (all ≡ reading (listIn (now s)) (64 * (p + 1))) ⌝ }
     ensures { λ r. ⌜ Drafted e (listIn (now (s .entry))) r × (end ≤ r .done) ⌝ }
 {
     let m = reserve::power(e) as usize;
     if m < Header::HOURS {
-        return add_parts(s, e, p, end, plan);
+        return add_parts(s, e, p, own, end, plan);
     }
     add_ending(all, end, plan)
 }
@@ -76,7 +83,7 @@ fn add_pages(s: &[u8], e: u32, pages: usize, plan: Plan) -> Plan
         let own = entry_of(s, p);
         all = all + own.sum;
         let end = lists::smaller(Header::HOURS * (p + 1) / m, next.pages);
-        next = add_within(s, e, p, all, end, next);
+        next = add_within(s, e, p, own, all, end, next);
         p = p + 1;
     }
     add_ending(all, next.pages, next)

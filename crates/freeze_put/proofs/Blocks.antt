@@ -9,7 +9,7 @@ use lib.ListN.{length}
 use lib.Pow.{pow-add, pow-mono, pow-pos}
 use Rattle.lists.specs.Lists.{window}
 use Rattle.image.specs.Image.{page, pages}
-use Rattle.image.proofs.PageLaws.{pages-few, pages-tight}
+use Rattle.image.proofs.PageLaws.{pages-tight}
 use Rattle.store.specs.Reading.{listIn, pagesOf}
 use Rattle.store.specs.Sound.{sound}
 use Rattle.store.proofs.SoundFacts.{facts}

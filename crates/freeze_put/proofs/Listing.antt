@@ -6,11 +6,11 @@ use Prim.Native.Nat.{ℕ, suc, _+_, _-_, _*_, _/_, _%_, _≤_, _<_, min}
 use native.Mathlib.Decide.{decLe}
 use native.Mathlib.Numerals.{add-one}
 use native.Mathlib.Omega.{arith}
-use lib.ListN.{length, getD, set, replicate, length-append, length-replicate, List·getD-append, List·getD-eq-default}
-use lib.Seq.{ext-getD, getD-append-add, sets, take-all}
-use Rattle.lists.specs.Lists.{concat, fill, part, splice, tabulate, window}
+use lib.ListN.{length, getD, replicate, length-append, length-replicate, List·getD-append, List·getD-eq-default}
+use lib.Seq.{ext-getD, getD-append-add}
+use Rattle.lists.specs.Lists.{concat, fill, splice, tabulate, window}
 use Rattle.lists.proofs.Pages.{concat-get}
-use Rattle.lists.proofs.Parts.{length-splice, sets-next, sets-splice, splice-nil, splice-then}
+use Rattle.lists.proofs.Parts.{length-splice, splice-nil, splice-then}
 use Rattle.lists.proofs.Tables.{concat-each, concat-suc, getD-tabulate, length-tabulate, tabulate-ext}
 use Rattle.lists.proofs.Zeros.{splice-zeros, zeros-at}
 use Rattle.store.specs.Plain.{page}

@@ -13,7 +13,7 @@ use Rattle.image.specs.Check.{check}
 use Rattle.image.specs.Read.{listOf}
 use Rattle.image.proofs.Accepted.{accepted-only}
 use Rattle.image.proofs.Sizes.{SmallVerdict, check-small, write-small}
-use Rattle.image_cursor.proofs.AccessLaws.{check-held}
+use Rattle.image.proofs.CheckLaws.{check-held}
 use Rattle.book.specs.Book.{bookOf, decimal, fourDigits, listOfBook}
 use Rattle.book.proofs.BookLaws.{length-book}
 use Rattle.book_in.specs.FromBook.{fromCall}

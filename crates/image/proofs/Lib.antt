@@ -3,6 +3,7 @@ pub mod Packed
 pub mod PageLaws
 pub mod ReadLaws
 pub mod Accepted
+pub mod CheckLaws
 pub mod DamageLaws
 pub mod QueryLaws
 pub mod HeadLaws

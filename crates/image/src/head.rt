@@ -26,6 +26,8 @@ impl Head {
     // The limits of an image.
     pub const MAX_HOURS: u64 = 65536;
 
+    pub const MAX_COUNT: u64 = 4294967295;
+
     pub const MAX_TOTAL: u64 = 4294967295;
 }
 

@@ -14,7 +14,7 @@ use Rattle.lists.proofs.Sums.{sum-take-le}
 use Rattle.image.specs.Check.{accepted, check}
 use Rattle.image.specs.Read.{listOf}
 use Rattle.image.proofs.Accepted.{accepted-only}
-use Rattle.image_cursor.proofs.AccessLaws.{accepted-or, five-or-six, not-both, one-refusal}
+use Rattle.image.proofs.CheckLaws.{accepted-or, five-or-six, not-both, one-refusal}
 use Rattle.runs.specs.Runs.{Busiest}
 use Rattle.runs.proofs.BusiestLaws.{one-busiest, some-busiest}
 use Rattle.runs.proofs.PrefixSums.{run-reading}

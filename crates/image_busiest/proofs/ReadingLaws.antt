@@ -15,7 +15,7 @@ use Rattle.image.specs.Read.{eOf, listOf}
 use Rattle.image.specs.declared.head.Head.{Head}
 use Rattle.image.proofs.Accepted.{accepted-only, length-list}
 use Rattle.image.proofs.QueryLaws.{look-is}
-use Rattle.image_cursor.proofs.AccessLaws.{past-5}
+use Rattle.image.proofs.CheckLaws.{past-5}
 use Rattle.runs.specs.Runs.{runSum}
 use Rattle.runs.proofs.PrefixSums.{reading-next}
 

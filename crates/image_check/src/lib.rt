@@ -1,4 +1,4 @@
-// The check of an image: whether bytes are the writer's.
+// The check of an image: whether bytes are the writer's; and an image opened that the check accepts.
 use answers::image::Verdict;
 use answers::refusal;
 use image::head::Head;
@@ -21,6 +21,7 @@ ghost use Rattle.image.specs.Check.{accepted, check as checkOf};
 ghost use Rattle.answers.specs.Image.{ruled};
 ghost use Rattle.image.specs.Code.Head.{Opened};
 ghost use Rattle.image_test.specs.Code.Test.{pagesFrom, says};
+ghost use Rattle.image_check.specs.Code.Access.{Accesses};
 
 // Whether each page passes with no count above widest, all L bits are used, and the last root is S.
 fn pages_pass(s: &[u8], table: &[u8; 512], h: Head, widest: u64) -> bool
@@ -83,16 +84,32 @@ pub fn passes(s: &[u8], h: Head, widest: u64) -> bool
     fill_zero(s, h)
 }
 
-// The check: N and S of an image, 5 for a wrong header or length, 6 for bytes that are not the writer's. Its limit is one that no count is
+// The header of an image that the check accepts, or the number of the check's refusal.
+pub enum Access {
+    Image(Head),
+    Refused(u32),
+}
+
+// Opens an image and checks it: 5 for a wrong header or length, 6 for bytes that are not the writer's. Its limit is one that no count is
 // above.
+pub fn open_accepted(s: &[u8]) -> Access
+    ensures { λ r. ⌜ Accesses (now (s .entry)) r ⌝ }
+{
+    let Opening::Image(h) = open_image(s) else {
+        return Access::Refused(refusal::HEADER);
+    };
+    if !passes(s, h, Head::MAX_COUNT) {
+        return Access::Refused(refusal::BODY);
+    }
+    Access::Image(h)
+}
+
+// The check: N and S of an image, or a refusal.
 pub fn check(s: &[u8]) -> Verdict
     ensures { λ r. ⌜ ruled r ≡ checkOf (now (s .entry)) ⌝ }
 {
-    let Opening::Image(h) = open_image(s) else {
-        return Verdict::Refused(refusal::HEADER);
-    };
-    if !passes(s, h, Head::MAX_TOTAL) {
-        return Verdict::Refused(refusal::BODY);
+    match open_accepted(s) {
+        Access::Refused(k) => Verdict::Refused(k),
+        Access::Image(h) => Verdict::Holds(h.hours, h.total),
     }
-    Verdict::Holds(h.hours, h.total)
 }

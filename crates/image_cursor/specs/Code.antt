@@ -1,3 +1,2 @@
 -- What the functions of src/ hand each other.
-pub mod Access
 pub mod Cursor

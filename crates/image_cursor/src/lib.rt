@@ -1,3 +1,2 @@
-// An image that the full check accepts, and its counts in their order.
-pub mod access;
+// The counts of an image that the full check accepts, in their order.
 pub mod cursor;

@@ -18,7 +18,7 @@ use Rattle.image.specs.Read.{eOf, listOf, sOf}
 use Rattle.image.specs.declared.head.Head.{Head}
 use Rattle.image.proofs.Accepted.{accepted-only}
 use Rattle.image.proofs.ReadLaws.{s-is}
-use Rattle.image_cursor.proofs.AccessLaws.{accepted-or, five-or-six, not-both, one-refusal}
+use Rattle.image.proofs.CheckLaws.{accepted-or, five-or-six, not-both, one-refusal}
 use Rattle.runs.specs.Runs.{NoMatch}
 use Rattle.runs.proofs.MatchLaws.{FirstOrNone, match-or-none, no-match-from, none-before-first, one-match, some-match}
 use Rattle.image_match.specs.Code.Seek.{Finds}

@@ -18,10 +18,10 @@ use Rattle.tree.proofs.Shape.{counts-tree}
 use Rattle.image.specs.Check.{accepted}
 use Rattle.image.specs.Code.Head.{HeadOf}
 use Rattle.image.specs.Image.{Limits, bytesFor, code, codeStart, image, page, pages, root, size, start, tableAt}
-use Rattle.image.specs.Read.{beforeOf, codeAt, eOf, listOf, nOf, pagesOf, rootOf, sOf, startOf, sumOf, treeAt, widthOf}
+use Rattle.image.specs.Read.{beforeOf, codeAt, eOf, listOf, pagesOf, rootOf, startOf, sumOf, treeAt, widthOf}
 use Rattle.image.specs.declared.head.Head.{Head}
-use Rattle.image.proofs.Accepted.{accepted-only, length-list}
-use Rattle.image.proofs.ReadLaws.{before-is, code-is, length-image, pages-is, root-is, s-is, start-is, sum-is, tree-is, width-is}
+use Rattle.image.proofs.Accepted.{accepted-only}
+use Rattle.image.proofs.ReadLaws.{before-is, code-is, length-image, pages-is, root-is, start-is, sum-is, tree-is, width-is}
 use Rattle.image.proofs.PageLaws.{code-most, length-page, page-le, page-sum, pages-few, start-within, width-most}
 
 -- what the code needs to know of it

@@ -23,7 +23,7 @@ fn start_of(s: &[u8], h: Head, p: usize) -> usize
 }
 
 // Page p's root, of w bits.
-fn root_of(s: &[u8], h: Head, w: u32, p: usize) -> u64
+fn known_root(s: &[u8], h: Head, w: u32, p: usize) -> u64
     requires { ⌜ (accepted (now s) ≡ true) × HeadOf (now s) h × (p < pagesOf (now s)) × (w ≡ widthOf (now s)) ⌝ }
     ensures { λ r. ⌜ r ≡ rootOf (now (s .entry)) p ⌝ }
 {
@@ -31,14 +31,14 @@ fn root_of(s: &[u8], h: Head, w: u32, p: usize) -> u64
 }
 
 // The root of the page before page p: 0 before page 0.
-fn root_before(s: &[u8], h: Head, w: u32, p: usize) -> u64
+fn known_before(s: &[u8], h: Head, w: u32, p: usize) -> u64
     requires { ⌜ (accepted (now s) ≡ true) × HeadOf (now s) h × (p < pagesOf (now s)) × (w ≡ widthOf (now s)) ⌝ }
     ensures { λ r. ⌜ r ≡ beforeOf (now (s .entry)) p ⌝ }
 {
     if p == 0 {
         return 0;
     }
-    root_of(s, h, w, p - 1)
+    known_root(s, h, w, p - 1)
 }
 
 // The root of page p of the image s, whose header is h: the sum of all counts to the page's end, none of which is decoded.
@@ -46,7 +46,7 @@ pub fn page_root(s: &[u8], h: Head, p: usize) -> u64
     requires { ⌜ (accepted (now s) ≡ true) × HeadOf (now s) h × (p < pagesOf (now s)) ⌝ }
     ensures { λ r. ⌜ r ≡ root (eOf (now (s .entry))) (listOf (now (s .entry))) p ⌝ }
 {
-    root_of(s, h, reserve::digits_of(h.total), p)
+    known_root(s, h, reserve::digits_of(h.total), p)
 }
 
 // Puts the 2^e counts of page p of the image s, whose header is h, at the front of counts, zeros from hour N on among them. What stands
@@ -56,8 +56,8 @@ pub fn page_counts(s: &[u8], h: Head, p: usize, counts: &mut [u32])
     ensures { λ _. ⌜ now (counts .exit) ≡ splice (now (counts .entry)) 0 (page (eOf (now (s .entry))) (listOf (now (s .entry))) p) ⌝ }
 {
     let w = reserve::digits_of(h.total);
-    let root = root_of(s, h, w, p);
-    let before = root_before(s, h, w, p);
+    let root = known_root(s, h, w, p);
+    let before = known_before(s, h, w, p);
     let tree = h.code + start_of(s, h, p) + (w as usize);
     decode(s, tree, h.e, root - before, counts, 0);
 }

@@ -14,7 +14,7 @@ use Rattle.bits.proofs.Laws.{length-bits}
 use Rattle.image.specs.Image.{bytesFor, code, codeStart, header, image, maxTotal, pageCode, pages, size, start, tableAt}
 use Rattle.image.proofs.ReadLaws.{length-image}
 use Rattle.image.proofs.PageLaws.{code-most, pages-few}
-use Rattle.image_steps.specs.Code.Writing.{Laid, PlaceOf, Room, laid, tableAndCode}
+use Rattle.image_steps.specs.Code.Writing.{Laid, PlaceOf, Room, laid}
 use Rattle.image_steps.specs.declared.plan.Layout.{Layout}
 use Rattle.image_steps.specs.declared.put.Place.{Place}
 use Rattle.image_steps.proofs.Writing.{image-put, laid-all, laid-more, laid-none}

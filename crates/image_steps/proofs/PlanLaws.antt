@@ -12,7 +12,7 @@ use Rattle.lists.specs.Lists.{concat, pick, sum, tabulate}
 use Rattle.reserve.specs.Reserve.{digits, reserve}
 use Rattle.reserve.proofs.Exact.{digits-le}
 use Rattle.image.specs.Calls.{lengthCall}
-use Rattle.image.specs.Image.{code, image, maxHours, maxTotal, page, pages, root, size, start, tableAt}
+use Rattle.image.specs.Image.{code, image, maxHours, maxTotal, pages, root, size, start, tableAt}
 use Rattle.answers.specs.Image.{refused}
 use Rattle.image.proofs.ReadLaws.{length-image}
 use Rattle.image.proofs.PageLaws.{code-most, page-sum, pages-cover, pages-few, reserve-most, start-next}

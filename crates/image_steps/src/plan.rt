@@ -4,7 +4,7 @@ use image::head::Head;
 use image::head::pages_of;
 use image::head::size_of;
 ghost use mathlib.Core.Path.{_≡_};
-ghost use Prim.Native.Nat.{_+_, _≤_};
+ghost use Prim.Native.Nat.{_+_};
 ghost use lib.ListN.{length};
 ghost use Rattle.image.specs.Image.{image};
 ghost use Rattle.image_steps.specs.Code.Planning.{Awaits, Begun, Drafted, Laying, Planned as PlannedOf, Whole};

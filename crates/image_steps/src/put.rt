@@ -6,7 +6,7 @@ use bits_field::put_field;
 use image::head::Head;
 use tree::sums::sum_of;
 ghost use mathlib.Core.Path.{_≡_};
-ghost use Prim.Native.Nat.{_+_, _≤_, _<_};
+ghost use Prim.Native.Nat.{_+_, _≤_};
 ghost use lib.ListN.{length};
 ghost use Rattle.lists.specs.Lists.{splice};
 ghost use Rattle.image.specs.Image.{header, headerLength, image};

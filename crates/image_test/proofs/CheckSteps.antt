@@ -11,20 +11,20 @@ use lib.Dec.{leb, eqb}
 use borrow.Author.Tests.{le-leb, lt-leb, eq-eqb, ne-eqb}
 use Rattle.lists.specs.Lists.{every, pick}
 use Rattle.lists.proofs.Tests.{every-last, every-no, every-of}
-use Rattle.bits.specs.Bits.{bits, value}
+use Rattle.bits.specs.Bits.{bits}
 use Rattle.reserve.specs.Reserve.{digits, reserve}
 use Rattle.tree.specs.Code.Node.{Lies}
 use Rattle.tree_walk.specs.Code.Answers.{walkAnswer as walked}
 use Rattle.tree.specs.Exact.{clear}
 use Rattle.tree_lowest.specs.Narrow.{narrow, within}
-use Rattle.tree_lowest.proofs.NarrowLaws.{within-sum}
+use Rattle.tree_lowest.proofs.NarrowLaws.{within-each}
 use Rattle.tree.specs.Read.{Found, damaged, found}
-use Rattle.image.specs.Check.{accepted, check, headed}
-use Rattle.answers.specs.Image.{fails, holds, Reply}
+use Rattle.image.specs.Check.{accepted, check}
+use Rattle.answers.specs.Image.{fails, Reply}
 use Rattle.image_test.specs.Code.Test.{Tests}
 use Rattle.image.specs.Code.Head.{Opened}
 use Rattle.image.specs.Code.Page.{RootAt}
-use Rattle.image.specs.Image.{bytesFor, maxTotal}
+use Rattle.image.specs.Image.{bytesFor, maxCount}
 use Rattle.image.specs.Query.{look, passing, readingAt, theReading}
 use Rattle.image.specs.Read.{codeAt, eOf, lOf, listOf, nOf, pagesOf, rootOf, sOf, startOf, widthOf}
 use Rattle.image_test.specs.Code.Test.{passesTest, pagesFrom, says}
@@ -32,7 +32,7 @@ use Rattle.image.proofs.Accepted.{accepted-only}
 use Rattle.image.proofs.DamageLaws.{beyond, is-beyond, within as not-beyond}
 use Rattle.image.proofs.HeadLaws.{Bounds, bounds, never}
 use Rattle.image_test.proofs.TestLaws.{test-is}
-use Rattle.image.proofs.PageLaws.{reserve-most}
+use Rattle.image.proofs.PageLaws.{count-most, reserve-most}
 use Rattle.image.proofs.RootLaws.{root-small}
 use Rattle.image_test.specs.declared.Tested.{Tested}
 use Rattle.image.specs.declared.head.Head.{Head}
@@ -254,23 +254,14 @@ module _ (most : ℕ) {s : List ℕ} {h : Head} (o : Opened s h) (bytes : (i : �
   unfolding every
   test-last a b = sym (every-last (take 2 three) _ (every-of (take 2 three) (a, (b, tt)))) ∙ accepts
 
-pub check-five : (s : List ℕ) → headed s ≡ false → fails 5 ≡ check s
-unfolding check pick
-check-five s e = rw e
-
--- no count of an image is above the limit of its total
-whole : (s : List ℕ) → (accepted s && within maxTotal (listOf s)) ≡ accepted s
+-- no count of an accepted image is above the widest, so this limit turns none down
+whole : (s : List ℕ) → (accepted s && within maxCount (listOf s)) ≡ accepted s
 whole s = go (accepted s) refl
   where
-    go : (t : Bool) → accepted s ≡ t → (t && within maxTotal (listOf s)) ≡ t
-    go true e = within-sum maxTotal (listOf s) (accepted-only s e .limits .total)
+    go : (t : Bool) → accepted s ≡ t → (t && within maxCount (listOf s)) ≡ t
+    go true e = within-each maxCount (listOf s) (count-most (accepted-only s e .limits))
     go false e = refl
 
-module _ {s : List ℕ} {h : Head} (o : Opened s h) where
-  pub check-six : (accepted s && within maxTotal (listOf s)) ≡ false → fails 6 ≡ check s
-  unfolding check pick
-  check-six e = sym (rw (o .passed, sym (whole s) ∙ e))
-
-  pub check-holds : (accepted s && within maxTotal (listOf s)) ≡ true → holds (h .hours) (h .total) ≡ check s
-  unfolding check pick
-  check-holds e = ap₂ holds (o .head .hours-is) (o .head .total-is) ∙ sym (rw (o .passed, sym (whole s) ∙ e))
+pub check-6 : {s : List ℕ} {h : Head} → Opened s h → (accepted s && within maxCount (listOf s)) ≡ false → check s ≡ fails 6
+unfolding check pick
+check-6 {s} o e = rw (o .passed, sym (whole s) ∙ e)

@@ -27,7 +27,7 @@ use Rattle.tree_lowest.proofs.NarrowLaws.{narrow-exact, narrow-within}
 use Rattle.tree.proofs.Shape.{length-counts}
 use Rattle.tree.proofs.WalkLaws.{shift, walk-tree}
 use Rattle.image.specs.Check.{headed}
-use Rattle.image.specs.Image.{bytesFor, code, size, tableAt}
+use Rattle.image.specs.Image.{bytesFor, size, tableAt}
 use Rattle.image.specs.Query.{beforePassing, look, lookIn, pageFine, readingAt, theReading}
 use Rattle.image.specs.Read.{beforeOf, codeAt, eOf, lOf, nOf, pageOf, pagesOf, rootOf, sOf, startOf, sumOf, treeAt, widthOf}
 use Rattle.answers.specs.Image.{given}

@@ -5,7 +5,8 @@ use borrow.Author.Needs.{needs}
 use Rattle.lists.proofs.Tests.{left}
 use Rattle.image.specs.Check.{headed}
 use Rattle.image.specs.Code.Head.{Opened, Opens}
-use Rattle.image_test.proofs.CheckSteps.{check-five, check-six}
+use Rattle.image.proofs.CheckLaws.{check-5}
+use Rattle.image_test.proofs.CheckSteps.{check-6}
 use Rattle.book_out.proofs.ToLaws.{four-is, to-fails, to-past, to-wide}
 use Rattle.book_out.proofs.to_bcd.Statement.{statement}
 use Rattle.book_out.proofs.to_bcd.Tie as tie
@@ -34,7 +35,7 @@ enum-told c = search needs
 returns : tie.Need-returns
 returns c =
     let a = c .before .before .before .before .before .args in
-    to-fails (a .s .now) (a .book .now) 5 (sym (check-five (a .s .now) (wrong c)))
+    to-fails (a .s .now) (a .book .now) 5 (check-5 (a .s .now) (wrong c))
 
 passes-requires : tie.Need-passes-requires
 passes-requires c κs = opened c
@@ -70,7 +71,7 @@ returns-4 c =
     let q = c .before in
     let o = q .before .before .before in
     let a = call o .args in
-    to-fails (a .s .now) (a .book .now) 6 (sym (check-six (opened o) (sym (q .passes2 .ensures) ∙ c .if2 .left)))
+    to-fails (a .s .now) (a .book .now) 6 (check-6 (opened o) (sym (q .passes2 .ensures) ∙ c .if2 .left))
 
 pub to-bcd-spec : {M : Type 1} → statement M
 to-bcd-spec =

@@ -87,7 +87,7 @@ add-within-requires c κs =
     let e = end-in (a .args .e) (n .before .before .power .result) (p n) (c .smaller .result) (next n .pages) (n .before .before .power .ensures) (c .smaller .ensures) in (
       record {
         is-sound = a .pre .0;
-        inside = inside n;
+        entry-is = c .before .before .entry-of .ensures;
         drafted = n .before .loop .inv .2;
         ahead = n .before .loop .inv .3;
         end-one = e .0;

@@ -30,11 +30,8 @@ sub-power c = omega (arith, low (c .before .args .e) (c .before .pre .1))
 power-requires : tie.Need-power-requires Inv-loop μ-loop
 power-requires c κs = omega arith
 
-entry-of-requires : tie.Need-entry-of-requires Inv-loop μ-loop
-entry-of-requires c κs = (c .before .before .pre .0 .is-sound, c .before .before .pre .0 .inside)
-
 gather-at-requires : tie.Need-gather-at-requires Inv-loop μ-loop
-gather-at-requires c κs = as-said (c .entry-of .ensures)
+gather-at-requires c κs = as-said (c .before .before .pre .0 .entry-is)
 
 slice-aggregate-part-sums : tie.Need-slice-aggregate-part-sums Inv-loop μ-loop
 slice-aggregate-part-sums c = search needs
@@ -43,38 +40,41 @@ slice-aggregate-part-sums-2 : tie.Need-slice-aggregate-part-sums-2 Inv-loop μ-l
 slice-aggregate-part-sums-2 c = search needs
 
 -- the tree of page p
+abbrev asked : tie.After-sums Inv-loop μ-loop → tie.Start Inv-loop μ-loop
+asked c = c .before .before .before .before .before
+
 abbrev root : (c : tie.After-sums Inv-loop μ-loop)
-    → Branch (c .before .before .gather-at .result) 0 6 (c .before .before .before .before .before .before .args .e) (c .before .before .before .entry-of .result .sum) 0 (replicate 16 0)
+    → Branch (c .before .before .gather-at .result) 0 6 (asked c .args .e) (asked c .args .own .sum) 0 (replicate 16 0)
 root c =
-    let a = c .before .before .before .before .before .before in
-    page-branch (a .args .e) (c .before .before .before .entry-of .ensures) (c .before .before .gather-at .ensures) (omega arith) refl
-    (a .pre .0 .drafted .e-low) (a .pre .1)
+    let a = asked c in
+    page-branch (a .args .e) (a .pre .0 .entry-is) (c .before .before .gather-at .ensures) (omega arith) refl (a .pre .0 .drafted .e-low) (a .pre .1)
 
 part-sums-requires : tie.Need-part-sums-requires Inv-loop μ-loop
 part-sums-requires c κs = root c
 
 loop-holds : tie.Need-loop-holds Inv-loop μ-loop
 loop-holds c =
-    let a = c .before .before .before .before .before .before .before .before in
+    let o = c .before .before .before .before .before in
+    let a = o .before .before in
     let w = a .pre .0 in (
       w .drafted,
       λ (l : a .args .plan .done < a .args .end).
-          starts-in (a .args .e) _ (a .args .p) (a .args .plan .done) (c .before .before .before .before .before .before .power .ensures) (a .pre .1) (w .ahead (omega (arith, l, w .end-one))),
+          starts-in (a .args .e) _ (a .args .p) (a .args .plan .done) (o .power .ensures) (a .pre .1) (w .ahead (omega (arith, l, w .end-one))),
     )
 
 -- the next page lies in page p
 module _ (c : tie.Then1 Inv-loop μ-loop) where
   abbrev call : tie.Start Inv-loop μ-loop
-  call = c .before .before .before .before .before .before .before .before .before .before .before
+  call = c .before .before .before .before .before .before .before .before .before .before
 
   abbrev next : Plan
   next = c .before .before .loop .next
 
   abbrev many : ℕ
-  many = c .before .before .before .before .before .before .before .before .before .power .result
+  many = c .before .before .before .before .before .before .before .before .power .result
 
   many-is : many ≡ 2 ^ (6 - call .args .e)
-  many-is = c .before .before .before .before .before .before .before .before .before .power .ensures
+  many-is = c .before .before .before .before .before .before .before .before .power .ensures
 
   so-far : Drafted (call .args .e) (listIn (call .args .s .now)) next
   so-far = c .before .before .loop .inv .0
@@ -92,7 +92,7 @@ module _ (c : tie.Then1 Inv-loop μ-loop) where
       omega (
         arith,
         mul-le-mul-right (call .args .p) most,
-        call .pre .0 .inside,
+        call .pre .0 .entry-is .inside,
         facts (call .args .s .now) (call .pre .0 .is-sound) .pages-high,
       )
 
@@ -151,7 +151,6 @@ add-parts-spec =
     μ-loop
     sub-power
     power-requires
-    entry-of-requires
     gather-at-requires
     slice-aggregate-part-sums
     slice-aggregate-part-sums-2

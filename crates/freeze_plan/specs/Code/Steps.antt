@@ -4,15 +4,18 @@ use mathlib.Core.List.{List}
 use mathlib.Core.Path.{_≡_}
 use Prim.Native.Nat.{ℕ, _+_, _*_, _^_, _≤_, _<_}
 use Rattle.lists.specs.Lists.{reading, sum}
-use Rattle.store.specs.Reading.{listIn, pagesOf}
+use Rattle.store.specs.Reading.{listIn}
 use Rattle.store.specs.Sound.{sound}
+use Rattle.store.specs.Code.Hours.{OfPage}
+use Rattle.pages.specs.declared.entry.Entry.{Entry}
 use Rattle.image_steps.specs.Code.Planning.{Drafted}
 use Rattle.image_steps.specs.declared.plan.Plan.{Plan}
 
--- the next page of the image of a sound store's list ends in page p of the store or behind it, and page number end - 1 in p or before it
-pub record Within (s : List ℕ) (e p end : ℕ) (r : Plan) : Type 0 where
+-- the next page of the image of a sound store's list ends in page p of the store, whose entry is own, or behind it, and page number end - 1
+-- in p or before it
+pub record Within (s : List ℕ) (e p : ℕ) (own : Entry) (end : ℕ) (r : Plan) : Type 0 where
   pub is-sound : sound s ≡ true
-  pub inside : p < pagesOf s
+  pub entry-is : OfPage s (own .base) p (own .sum) (own .cells)
   pub drafted : Drafted e (listIn s) r
   pub ahead : r .done < r .pages → 64 * p < 2 ^ e * (r .done + 1)
   pub end-one : end ≤ r .pages

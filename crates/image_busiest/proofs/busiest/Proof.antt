@@ -1,7 +1,7 @@
 -- `image_busiest::busiest` meets its contract. Assumes nothing.
 use mathlib.Core.Path.{subst}
 use borrow.Author.Needs.{needs}
-use Rattle.image_cursor.specs.Code.Access.{Accesses}
+use Rattle.image_check.specs.Code.Access.{Accesses}
 use Rattle.image_busiest.specs.Busiest.{not-accepted}
 use Rattle.image_busiest.proofs.busiest.Statement.{statement}
 use Rattle.image_busiest.proofs.busiest.Tie as tie

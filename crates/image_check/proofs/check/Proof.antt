@@ -1,59 +1,33 @@
 -- `image_check::check` meets its contract. Assumes nothing.
-use mathlib.Core.Bool.{false}
-use mathlib.Core.Path.{_≡_, sym, subst, _∙_}
+use mathlib.Core.Path.{subst, sym, ap₂, _∙_}
 use borrow.Author.Needs.{needs}
-use borrow.Author.Tests.{not-true, not-false}
-use Rattle.answers.specs.Image.{ruled}
-use Rattle.image.specs.Check.{headed}
-use Rattle.image.specs.Code.Head.{Opened, Opens}
-use Rattle.image_test.proofs.CheckSteps.{check-five, check-holds, check-six}
+use Rattle.answers.specs.Image.{holds, ruled}
+use Rattle.image.proofs.CheckLaws.{check-holds}
+use Rattle.image_check.specs.Code.Access.{Accesses}
 use Rattle.image_check.proofs.check.Statement.{statement}
 use Rattle.image_check.proofs.check.Tie as tie
 
--- past refusal 5
-past : (c : tie.After-known-told) → Opened (c .before .before .before .before .before .args .s .now) (c .before .h .given .0 .0)
-past c = subst (Opens (c .before .before .before .before .before .args .s .now)) (c .before .h .given .1) (c .before .before .before .open-image .ensures)
+open-accepted-requires : tie.Need-open-accepted-requires
+open-accepted-requires c κs = search needs
 
--- at refusal 5
-wrong : (c : tie.After-enum-told) → headed (c .before .before .before .before .args .s .now) ≡ false
-wrong c = subst (Opens (c .before .before .before .before .args .s .now)) (c .enum-told .given .1) (c .before .before .open-image .ensures)
-
-open-image-requires : tie.Need-open-image-requires
-open-image-requires c κs = tt
+enum-known-k : tie.Need-enum-known-k
+enum-known-k c = search needs
 
 enum-known-h : tie.Need-enum-known-h
 enum-known-h c = search needs
 
-enum-told : tie.Need-enum-told
-enum-told c = search needs
-
 returns : tie.Need-returns
 unfolding ruled
-returns c = check-five _ (wrong c)
-
-passes-requires : tie.Need-passes-requires
-passes-requires c κs = past c
+returns c =
+    let o = c .before .before .before in
+    sym (subst (Accesses (o .before .before .args .s .now)) (c .before .k .given .1) (o .open-accepted .ensures))
 
 returns-2 : tie.Need-returns-2
 unfolding ruled
 returns-2 c =
-    let t = c .before in
-    check-six (past (t .before)) (sym (t .passes .ensures) ∙ not-true (t .passes .result) (c .if1 .taken))
-
-returns-3 : tie.Need-returns-3
-unfolding ruled
-returns-3 c =
-    let t = c .before in
-    check-holds (past (t .before)) (sym (t .passes .ensures) ∙ not-false (t .passes .result) (c .if1 .left))
+    let o = c .before .before .before in
+    let a = subst (Accesses (o .before .before .args .s .now)) (c .before .h .given .1) (o .open-accepted .ensures) in
+    ap₂ holds (a .1 .hours-is) (a .1 .total-is) ∙ sym (check-holds _ (a .0))
 
 pub check-spec : {M : Type 1} → statement M
-check-spec =
-    tie.close
-    (tie.spec
-    open-image-requires
-    enum-known-h
-    enum-told
-    returns
-    passes-requires
-    returns-2
-    returns-3)
+check-spec = tie.close (tie.spec open-accepted-requires enum-known-k enum-known-h returns returns-2)

@@ -1,7 +1,7 @@
 -- `image_match::matching` meets its contract. Assumes nothing.
 use mathlib.Core.Path.{subst}
 use borrow.Author.Needs.{needs}
-use Rattle.image_cursor.specs.Code.Access.{Accesses}
+use Rattle.image_check.specs.Code.Access.{Accesses}
 use Rattle.image_match.specs.Match.{not-accepted}
 use Rattle.image_match.proofs.matching.Statement.{statement}
 use Rattle.image_match.proofs.matching.Tie as tie

@@ -23,13 +23,13 @@ module _ (c : tie.After-start-of) where
   abbrev top : tie.After-digits-of
   top = c .before .before .before
 
-  numbers : Numbers (call top .args .s .now) (call top .args .h) (call top .args .p) (c .before .before .root-of .result)
-      (c .before .root-before .result) (c .start-of .result) (top .digits-of .result)
+  numbers : Numbers (call top .args .s .now) (call top .args .h) (call top .args .p) (c .before .before .known-root .result)
+      (c .before .known-before .result) (c .start-of .result) (top .digits-of .result)
   numbers = record {
     page = page (call top);
     head = call top .pre .1;
-    root-is = c .before .before .root-of .ensures;
-    before-is = c .before .root-before .ensures;
+    root-is = c .before .before .known-root .ensures;
+    before-is = c .before .known-before .ensures;
     start-is = c .start-of .ensures;
     width-is = width-is top;
   }
@@ -37,13 +37,13 @@ module _ (c : tie.After-start-of) where
 digits-of-requires : tie.Need-digits-of-requires
 digits-of-requires c κs = search needs
 
-root-of-requires : tie.Need-root-of-requires
-root-of-requires c κs =
+known-root-requires : tie.Need-known-root-requires
+known-root-requires c κs =
     let a = call c in
     (a .pre .0, a .pre .1, a .pre .2, width-is c)
 
-root-before-requires : tie.Need-root-before-requires
-root-before-requires c κs =
+known-before-requires : tie.Need-known-before-requires
+known-before-requires c κs =
     let a = call (c .before) in
     (a .pre .0, a .pre .1, a .pre .2, width-is (c .before))
 
@@ -83,8 +83,8 @@ page-counts-spec =
     tie.close
     (tie.spec
     digits-of-requires
-    root-of-requires
-    root-before-requires
+    known-root-requires
+    known-before-requires
     start-of-requires
     add-tree
     cast-tree

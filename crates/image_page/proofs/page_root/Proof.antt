@@ -9,15 +9,15 @@ use Rattle.image_page.proofs.page_root.Tie as tie
 digits-of-requires : tie.Need-digits-of-requires
 digits-of-requires c κs = search needs
 
-root-of-requires : tie.Need-root-of-requires
-root-of-requires c κs =
+known-root-requires : tie.Need-known-root-requires
+known-root-requires c κs =
     let a = c .before .before in
     (a .pre .0, a .pre .1, omega (arith, a .pre .2), head-width (a .pre .1) (c .digits-of .ensures))
 
 returns : tie.Need-returns
 returns c =
     let a = c .before .before .before in
-    c .root-of .ensures ∙ roots _ (a .pre .0) _ (a .pre .2)
+    c .known-root .ensures ∙ roots _ (a .pre .0) _ (a .pre .2)
 
 pub page-root-spec : {M : Type 1} → statement M
-page-root-spec = tie.close (tie.spec digits-of-requires root-of-requires returns)
+page-root-spec = tie.close (tie.spec digits-of-requires known-root-requires returns)

@@ -2,7 +2,6 @@
 use mathlib.Core.Path.{ap, _∙_}
 use Prim.Native.Nat.{ℕ}
 use native.Mathlib.Omega.{arith}
-use borrow.Author.Needs.{needs}
 use Rattle.bits.specs.Numbers.{numberAt}
 use Rattle.image.specs.Read.{startOf}
 use Rattle.image_page.proofs.AcceptedPage.{Page, accepted-page}

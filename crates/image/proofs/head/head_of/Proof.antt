@@ -3,9 +3,6 @@ use borrow.Author.Needs.{needs}
 use Rattle.image.proofs.HeadLaws.{head-read}
 use Rattle.image.proofs.head.head_of.Statement.{statement}
 use Rattle.image.proofs.head.head_of.Tie as tie
-use Rattle.bits.proofs.numbers.get4.Reads as get4-reads
-use Rattle.image.proofs.head.pages_of.Reads as pages-of-reads
-use Rattle.image.proofs.head.table_at.Reads as table-at-reads
 
 get4-requires : tie.Need-get4-requires
 get4-requires c κs = search needs

@@ -11,10 +11,6 @@ use Rattle.image.specs.Read.{eOf, nOf}
 use Rattle.image.proofs.HeadLaws.{field-wrong, fields-right, length-wrong, opened, too-short}
 use Rattle.image.proofs.head.open_image.Statement.{statement}
 use Rattle.image.proofs.head.open_image.Tie as tie
-use Rattle.bits.proofs.numbers.get4.Reads as get4-reads
-use Rattle.image.proofs.head.head_of.Reads as head-of-reads
-use Rattle.image.proofs.head.right.Reads as right-reads
-use Rattle.image.proofs.head.wide.Reads as wide-reads
 
 -- e and N, as they were read
 fields-read : (c : tie.After-get4)

@@ -4,7 +4,6 @@ use borrow.Author.Needs.{needs}
 use Rattle.image.proofs.HeadLaws.{tests-are}
 use Rattle.image.proofs.head.right.Statement.{statement}
 use Rattle.image.proofs.head.right.Tie as tie
-use Rattle.image.proofs.head.all.Reads as all-reads
 
 shared-slice-read-t6 : tie.Need-shared-slice-read-t6
 shared-slice-read-t6 c = search needs

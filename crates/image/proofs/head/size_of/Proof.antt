@@ -3,8 +3,6 @@ use borrow.Author.Needs.{needs}
 use Rattle.image.proofs.HeadLaws.{size-of-is}
 use Rattle.image.proofs.head.size_of.Statement.{statement}
 use Rattle.image.proofs.head.size_of.Tie as tie
-use Rattle.image.proofs.head.pages_of.Reads as pages-of-reads
-use Rattle.image.proofs.head.table_at.Reads as table-at-reads
 
 pages-of-requires : tie.Need-pages-of-requires
 pages-of-requires c κs = search needs

@@ -1,19 +1,27 @@
--- What the check's verdict says of an image that is opened. Assumes nothing.
+-- The check's verdict: what it is, and what it says. Assumes nothing.
 use mathlib.Core.Bool.{Bool, true, false}
 use mathlib.Core.List.{List}
 use mathlib.Core.Logic.{_⊎_, inl, inr}
 use mathlib.Core.Path.{_≡_, refl, sym, _∙_}
 use Prim.Native.Nat.{ℕ}
 use native.Mathlib.Omega.{arith}
-use Rattle.answers.specs.Image.{Verdict, fails, holds}
+use Rattle.answers.specs.Image.{fails, holds}
 use Rattle.lists.specs.Lists.{pick}
 use Rattle.lists.proofs.Tests.{left}
 use Rattle.image.specs.Check.{accepted, check, headed}
 use Rattle.image.specs.Read.{nOf, sOf}
 
 pub check-5 : (s : List ℕ) → headed s ≡ false → check s ≡ fails 5
 unfolding check pick
 check-5 s e = rw e
+
+pub past-5 : (s : List ℕ) → accepted s ≡ true → headed s ≡ true
+unfolding accepted
+past-5 s a = left (headed s) _ a
+
+pub check-holds : (s : List ℕ) → accepted s ≡ true → check s ≡ holds (nOf s) (sOf s)
+unfolding check pick
+check-holds s a = rw (past-5 s a, a)
 
 pub check-held : (s : List ℕ) (n t : ℕ) → check s ≡ holds n t → accepted s ≡ true
 unfolding check pick
@@ -34,14 +42,9 @@ accepted-or s = go (headed s) refl (accepted s) refl
     go true p false q = inr (6, rw (p, q) refl)
     go false p false q = inr (5, rw p refl)
 
-pub past-5 : (s : List ℕ) → accepted s ≡ true → headed s ≡ true
-unfolding accepted
-past-5 s a = left (headed s) _ a
-
 pub not-both : (s : List ℕ) (j : ℕ) → check s ≡ fails j → accepted s ≡ true → ⊥
-unfolding check pick
 not-both s j e a =
-    let q : holds (nOf s) (sOf s) ≡ fails j = rw (past-5 s a, a) at e in
+    let q : holds (nOf s) (sOf s) ≡ fails j = sym (check-holds s a) ∙ e in
     let z : _≡_ {A = ℕ} 0 1 = cc in
     omega arith
 

@@ -1,4 +1,4 @@
--- `image_page::root_of` meets its contract. Assumes nothing.
+-- `image_page::known_root` meets its contract. Assumes nothing.
 use mathlib.Core.Path.{ap₂, _∙_}
 use Prim.Native.Nat.{ℕ, _+_}
 use native.Mathlib.Omega.{arith}
@@ -7,8 +7,8 @@ use Rattle.lists.specs.Lists.{part}
 use Rattle.bits.specs.Bits.{bits, value}
 use Rattle.image.specs.Read.{rootOf}
 use Rattle.image_page.proofs.AcceptedPage.{Page, accepted-page}
-use Rattle.image_page.proofs.root_of.Statement.{statement}
-use Rattle.image_page.proofs.root_of.Tie as tie
+use Rattle.image_page.proofs.known_root.Statement.{statement}
+use Rattle.image_page.proofs.known_root.Tie as tie
 
 page : (c : tie.Start) → Page (c .args .s .now) (c .args .p)
 page c = accepted-page (c .args .s .now) (c .pre .0) (c .args .p) (c .pre .2)
@@ -34,5 +34,5 @@ returns c =
     c .get-field .ensures
     ∙ ap₂ (λ (x y : ℕ). value (part (bits (a .args .s .now)) x y)) (ap₂ _+_ (a .pre .1 .code-is) (c .before .before .start-of .ensures)) (a .pre .3)
 
-pub root-of-spec : {M : Type 1} → statement M
-root-of-spec = tie.close (tie.spec start-of-requires add-get-field get-field-requires returns)
+pub known-root-spec : {M : Type 1} → statement M
+known-root-spec = tie.close (tie.spec start-of-requires add-get-field get-field-requires returns)

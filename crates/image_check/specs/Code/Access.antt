@@ -6,8 +6,8 @@ use Prim.Native.Nat.{ℕ}
 use Rattle.answers.specs.Image.{fails}
 use Rattle.image.specs.Check.{accepted, check}
 use Rattle.image.specs.Code.Head.{HeadOf}
-use Rattle.image_cursor.specs.declared.access.Access.{Access}
-use Rattle.image_cursor.specs.declared.access.Access.the-variants.{Image, Refused}
+use Rattle.image_check.specs.declared.Access.{Access}
+use Rattle.image_check.specs.declared.Access.the-variants.{Image, Refused}
 
 -- what opening the bytes s gives: their header where the check accepts them, else the check's refusal
 abbrev pub Accesses : List ℕ → Access → Type 0

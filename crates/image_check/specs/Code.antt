@@ -1,0 +1,2 @@
+-- What the functions of src/ hand those above.
+pub mod Access
