@@ -21,7 +21,7 @@ use Rattle.image.proofs.ReadLaws.{s-is}
 use Rattle.image.proofs.CheckLaws.{accepted-or, five-or-six, not-both, one-refusal}
 use Rattle.runs.specs.Runs.{NoMatch}
 use Rattle.runs.proofs.MatchLaws.{FirstOrNone, match-or-none, no-match-from, none-before-first, one-match, some-match}
-use Rattle.image_match.specs.Code.Seek.{Finds}
+use Rattle.image_match.specs.Code.Find.{Finds}
 use Rattle.image_match.specs.Match.{MatchCall, no-coins, none, not-accepted, the-run}
 
 -- no run has more coins than all hours

@@ -1,3 +1,2 @@
 -- What the functions of src/ hand each other.
-pub mod Page
-pub mod Seek
+pub mod Find

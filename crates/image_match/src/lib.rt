@@ -1,8 +1,7 @@
 // The hours of a bag: a run of hours of an image with a given sum.
-mod page;
-mod seek;
+mod find;
 
-use crate::seek::find;
+use crate::find::find;
 use answers::image::Bag;
 use answers::refusal;
 use image::head::Head;

@@ -1,0 +1,133 @@
+-- `match_seek::pass` meets its contract. Assumes nothing.
+use mathlib.Core.Logic.{⊎-elim}
+use Prim.Native.Nat.{_+_, _-_, _≤_}
+use native.Mathlib.Omega.{arith}
+use borrow.Author.Needs.{needs}
+use Rattle.image.specs.Read.{listOf}
+use Rattle.image_cursor.proofs.CursorLaws.{small}
+use Rattle.match_page.proofs.PageLaws.{hours, page-small}
+use Rattle.match_seek.proofs.PassLaws.{Passing, ends-all, ends-as, ends-here, later-of, passing-first, passing-on, place-here}
+use Rattle.match_seek.proofs.SeekLaws.{first-low}
+use Rattle.match_seek.proofs.pass.Statement.{statement}
+use Rattle.match_seek.proofs.pass.Tie as tie
+
+abbrev Inv-loop : tie.InvT-loop
+Inv-loop s q page at marks back b n want₀ i₀ want i = (i ≤ n) × Passing (listOf s) q page (at .lo) i want
+
+abbrev μ-loop : tie.MeasureT-loop
+μ-loop s q page at marks back b n want₀ i₀ want i = n - i
+
+low-bits-requires : tie.Need-low-bits-requires Inv-loop μ-loop
+low-bits-requires c κs =
+    let a = c .before .before .before .pre .0 in
+    omega (arith, small _ (a .1) (a .0))
+
+ahead-requires : tie.Need-ahead-requires Inv-loop μ-loop
+ahead-requires c κs =
+    let a = c .before .before .before .before .pre in
+    (small _ (a .0 .1) (a .0 .0), a .0 .1 .hours-small, omega (arith, a .1 .0 .0 .inside, hours _ (a .0 .0) (a .0 .1)))
+
+loop-holds : tie.Need-loop-holds Inv-loop μ-loop
+loop-holds c =
+    let g = c .before .before .before .before .before in
+    let a = g .pre .1 .0 in
+    (omega arith, passing-first _ _ (g .args .page) _ (a .0) (a .1) (a .2))
+
+add-want : tie.Need-add-want Inv-loop μ-loop
+add-want c =
+    let b = c .before in
+    let a = b .before .before .before .before .before .before .pre .0 in
+    let p = place-here _ (a .0) (a .1) _ _ _ (b .before .ahead .ensures) (b .before .before .low-bits .ensures) _ (c .loop-test .taken) in
+    record { fits = omega (arith, p) }
+
+mul-want : tie.Need-mul-want Inv-loop μ-loop
+mul-want c =
+    let b = c .before in
+    let a = b .before .before .before .before .before .before .pre .0 in
+    let p = place-here _ (a .0) (a .1) _ _ _ (b .before .ahead .ensures) (b .before .before .low-bits .ensures) _ (c .loop-test .taken) in
+    record { fits = omega (arith, p) }
+
+shared-slice-read-want : tie.Need-shared-slice-read-want Inv-loop μ-loop
+shared-slice-read-want c =
+    let b = c .before .before in
+    let a = b .before .before .before .before .before .before .pre in
+    let p = place-here _ (a .0 .0) (a .0 .1) _ _ _ (b .before .ahead .ensures) (b .before .before .low-bits .ensures) _ (c .before .loop-test .taken) in
+    omega (arith, p, a .1 .1 .0 .long)
+
+cast-want : tie.Need-cast-want Inv-loop μ-loop
+cast-want c =
+    let b = c .before .before in
+    omega (arith, c .shared-slice-known4 .given (b .before .before .low-bits .result + b .loop .i))
+
+add-want-2 : tie.Need-add-want-2 Inv-loop μ-loop
+add-want-2 c =
+    let b = c .before .before in
+    let a = b .before .before .before .before .before .before .pre .0 in
+    let v = c .shared-slice-known4 .given (b .before .before .low-bits .result + b .loop .i) in
+    record { fits = omega (arith, v, b .loop .inv .1 .1, page-small _ (a .0) (a .1) _ (a .3)) }
+
+add-i : tie.Need-add-i Inv-loop μ-loop
+add-i c = search needs
+
+carries-requires : tie.Need-carries-requires Inv-loop μ-loop
+carries-requires c κs =
+    let b = c .before .before .before .before in
+    b .before .before .before .before .before .before .pre .1 .1 .1 .long
+
+loop-less : tie.Need-loop-less Inv-loop μ-loop
+loop-less c = search needs
+
+loop-again : tie.Need-loop-again Inv-loop μ-loop
+loop-again c =
+    let b = c .before .before .before .before .before .before in
+    let g = b .before .before .before .before .before .before in
+    let a = g .pre in
+    let k = b .before .ahead .ensures in
+    let m = b .before .before .low-bits .ensures in
+    let l = c .before .before .before .before .before .loop-test .taken in
+    let u = c .before .carries .ensures (c .if2 .left) in (
+      omega (arith, l),
+      passing-on _ (a .0 .0) (a .0 .1) _ _ _ k m _ (g .args .page) _ (a .1 .1 .0) _ _ (b .loop .inv .1) _ (a .0 .3) (a .1 .1 .1) l (c .before .before .if1 .left) u,
+    )
+
+returns : tie.Need-returns Inv-loop μ-loop
+returns c =
+    let b = c .before .before .before in
+    let g = b .before .before .before .before .before .before in
+    let a = g .pre in
+    let k = b .before .ahead .ensures in
+    let m = b .before .before .low-bits .ensures in
+    let v = b .loop .inv in
+    let f = first-low _ _ _ (a .0 .3) _ (a .1 .0 .0) (a .1 .0 .1) (a .0 .2) in
+    let y = ends-all _ (a .0 .0) (a .0 .1) _ _ _ k m _ (g .args .page) _ (a .1 .1 .0) _ _ (v .1) f (v .0) in
+    let n = ends-here _ (a .0 .0) (a .0 .1) _ _ _ k m _ (g .args .page) _ (a .1 .1 .0) _ _ (v .1) in
+    later-of _ _ _ _ _ _ _ k
+    (⊎-elim (λ x. ends-as _ _ _ _ _ _ _ _ _ (x .1) (x .2) (y (x .0 .left)))
+    (⊎-elim (λ x. ends-as _ _ _ _ _ _ _ _ _ (x .4) (x .5) (n (x .0 .taken))) (λ x. ends-as _ _ _ _ _ _ _ _ _ (x .6) (x .7) (n (x .0 .taken))))
+    (c .before .before .loop-test .came))
+
+add-t20 : tie.Need-add-t20 Inv-loop μ-loop
+add-t20 c =
+    let a = c .before .before .before .before .before .before .before .before .before .pre .0 in
+    record { fits = omega (arith, returns c .seeks .inside, hours _ (a .0) (a .1), a .1 .hours-small) }
+
+pub pass-spec : {M : Type 1} → statement M
+pass-spec =
+    tie.close
+    (tie.spec
+    Inv-loop
+    μ-loop
+    low-bits-requires
+    ahead-requires
+    loop-holds
+    add-want
+    mul-want
+    shared-slice-read-want
+    cast-want
+    add-want-2
+    add-i
+    carries-requires
+    loop-less
+    loop-again
+    add-t20
+    returns)

@@ -1,0 +1,34 @@
+-- `match_seek::visit` meets its contract. Assumes nothing.
+use native.Mathlib.Omega.{arith}
+use borrow.Author.Needs.{needs}
+use Rattle.match_seek.proofs.visit.Statement.{statement}
+use Rattle.match_seek.proofs.visit.Tie as tie
+
+returns : tie.Need-returns
+returns c =
+    let a = c .before .before .before .before .before .before .before .pre .1 .1 in
+    (a .0, omega (arith, c .if1 .taken), a .1)
+
+mark-page-requires : tie.Need-mark-page-requires
+mark-page-requires c κs = search needs
+
+seek-requires : tie.Need-seek-requires
+seek-requires c κs =
+    let a = c .before .before .before .before .before .before .before .before .before .before .before .before .before .before .before .before .before .pre in
+    ((a .0 .0, a .0 .1, a .0 .2), ((a .0 .3 .run-is, c .before .before .before .before .before .before .before .mark-page .ensures), a .1 .1))
+
+same-length : tie.Need-same-length
+same-length c = search needs
+
+same-length-2 : tie.Need-same-length-2
+same-length-2 c = search needs
+
+same-length-3 : tie.Need-same-length-3
+same-length-3 c = search needs
+
+returns-2 : tie.Need-returns-2
+returns-2 c = c .before .before .seek .ensures
+
+pub visit-spec : {M : Type 1} → statement M
+visit-spec =
+    tie.close (tie.spec returns mark-page-requires seek-requires same-length same-length-2 same-length-3 returns-2)
