@@ -13,7 +13,7 @@ use Rattle.store.specs.Plain.{Append, Plain, change, step}
 use Rattle.store.specs.Reading.{listIn, read}
 use Rattle.store.specs.Sound.{sound}
 use Rattle.store.specs.Call.{Called}
-use Rattle.store.specs.Code.Heads.{Heads}
+use Rattle.store.specs.Code.Head.{HeadOf}
 use Rattle.store.specs.declared.header.Header.{Header}
 use Rattle.store.proofs.CallLaws.{refused-as}
 use Rattle.store.proofs.SoundFacts.{facts}
@@ -24,7 +24,7 @@ unfolding step change pick
 append-over L v l k =
     rw (lt-leb (64 * L .pages) (length (L .counts)) l, lt-ltb 4294967295 (sum (L .counts ++ v ∷ [])) (omega (arith, sum-snoc (L .counts) v)))
 
-pub append-3 : {s : List ℕ} (v : ℕ) → sound s ≡ true → {H : Header} → Heads s H → {all : ℕ} → H .hours < 64 * H .pages → all ≡ sum (listIn s)
+pub append-3 : {s : List ℕ} (v : ℕ) → sound s ≡ true → {H : Header} → HeadOf s H → {all : ℕ} → H .hours < 64 * H .pages → all ≡ sum (listIn s)
     → 4294967295 < all + v → Called (Append v) s (refused 3) s
 append-3 {s} v e {H} h l q k =
     let f = facts s e in

@@ -13,7 +13,7 @@ use Rattle.store.specs.Layout.{bytesOf}
 use Rattle.store.specs.Reading.{listIn, pagesOf, read}
 use Rattle.store.specs.Sound.{sound}
 use Rattle.store.specs.Call.{Called, after, settle}
-use Rattle.store.specs.Code.Heads.{Heads}
+use Rattle.store.specs.Code.Head.{HeadOf}
 use Rattle.store.specs.declared.header.Header.{Header}
 use Rattle.store.proofs.CallLaws.{refused-as, sound-call}
 use Rattle.store.proofs.ChangeLaws.{change-over}
@@ -21,7 +21,7 @@ use Rattle.store.proofs.Inserting.{length-inserted, length-struck, sum-inserted
 use Rattle.store.proofs.SoundFacts.{Facts, facts}
 use Rattle.move_counts.specs.Code.Turned.{turned}
 use Rattle.move_plan.specs.declared.shift.Shift.{Shift}
-use Rattle.move_plan.specs.Code.Plan.{Planned, shifted}
+use Rattle.move_plan.specs.Code.Plan.{Shiftable, shifted}
 use Rattle.move_plan.proofs.Shifting.{insert-above, insert-below, insert-is, insert-moves, strike-above, strike-below, strike-is, strike-moves}
 use Rattle.live_move.specs.Code.Carry.{Carried, shiftOf}
 
@@ -63,7 +63,7 @@ module _ (L : Plain) (i v : ℕ) where
   unfolding step pick
   strike-room l = rw (lt-leb N i l)
 
-module _ {s : List ℕ} (i v : ℕ) (e : sound s ≡ true) {H : Header} (hd : Heads s H) where
+module _ {s : List ℕ} (i v : ℕ) (e : sound s ≡ true) {H : Header} (hd : HeadOf s H) where
   f : Facts s
   f = facts s e
 
@@ -118,9 +118,9 @@ module _ {s : List ℕ} (i v : ℕ) (e : sound s ≡ true) {H : Header} (hd : He
       up-long : length (shifted up xs) ≡ H .hours + 1
       up-long = ap length up-is ∙ omega (arith, length-inserted xs i v (omega (arith, hours-same)), hours-same)
 
-      pub insert-planned : all + v ≤ 4294967295 → Planned s up × (H .hours + 1 ≡ length (shifted up xs))
+      pub insert-shiftable : all + v ≤ 4294967295 → Shiftable s up × (H .hours + 1 ≡ length (shifted up xs))
       unfolding turned pick
-      insert-planned l = (
+      insert-shiftable l = (
         record {
           is-sound = e;
           within = omega arith;
@@ -142,7 +142,7 @@ module _ {s : List ℕ} (i v : ℕ) (e : sound s ≡ true) {H : Header} (hd : He
       insert-go {t} {r} w = carried-as (Insert i v) s t up r e (the-step ∙ ap (change (read s .plain)) (sym up-is)) w
 
 -- ---- strike
-module _ {s : List ℕ} (i : ℕ) (e : sound s ≡ true) {H : Header} (hd : Heads s H) where
+module _ {s : List ℕ} (i : ℕ) (e : sound s ≡ true) {H : Header} (hd : HeadOf s H) where
   abbrev was : List ℕ
   was = listIn s
 
@@ -168,9 +168,9 @@ module _ {s : List ℕ} (i : ℕ) (e : sound s ≡ true) {H : Header} (hd : Head
     down-long : length (shifted down was) ≡ H .hours - 1
     down-long = ap length down-is ∙ omega (arith, length-struck was i (omega (arith, long-is)), long-is)
 
-    pub strike-planned : Planned s down × (H .hours - 1 ≡ length (shifted down was))
+    pub strike-shiftable : Shiftable s down × (H .hours - 1 ≡ length (shifted down was))
     unfolding turned pick
-    strike-planned = (
+    strike-shiftable = (
       record {
         is-sound = e;
         within = omega arith;

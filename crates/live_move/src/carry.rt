@@ -11,14 +11,14 @@ ghost use mathlib.Core.Path.{_≡_};
 ghost use lib.ListN.{length};
 ghost use Rattle.answers.specs.Store.{told};
 ghost use Rattle.store.specs.Reading.{listIn};
-ghost use Rattle.move_plan.specs.Code.Plan.{Planned, shifted};
+ghost use Rattle.move_plan.specs.Code.Plan.{Shiftable, shifted};
 ghost use Rattle.live_move.specs.Code.Carry.{Carried};
 
 // Carries a shift out in a sound store, whose number of hours becomes the one given. The counts that leave the pages and the pages' cells stand
 // in three arrays, so that a page that has moved does not spoil the next one's, and each page's cells are worked out once for its old sum and
 // once for its new one.
 pub(crate) fn carry_out(s: &mut [u8], m: Shift, hours: usize) -> Answer
-    requires { ⌜ Planned (now s) m × (hours ≡ length (shifted m (listIn (now s)))) ⌝ }
+    requires { ⌜ Shiftable (now s) m × (hours ≡ length (shifted m (listIn (now s)))) ⌝ }
     ensures { λ r. ⌜ Carried (now (s .entry)) m (told r) (now (s .exit)) ⌝ }
 {
     let head = Header::of(s);

@@ -20,11 +20,11 @@ use Rattle.store.proofs.Holds.{page-length}
 use Rattle.store.proofs.HourLaws.{getD-le}
 use Rattle.store.proofs.PageCodeLaws.{cells-most}
 use Rattle.store.proofs.ReadBack.{page-le}
-use Rattle.store.proofs.SoundFacts.{Facts, facts, sound-held, sum-read}
+use Rattle.store.proofs.SoundFacts.{Facts, facts, sound-holds, sum-read}
 use Rattle.move_counts.specs.Code.Turned.{leavesAt}
 use Rattle.move_counts.proofs.Turning.{turned-sum}
 use Rattle.move_plan.specs.declared.shift.Shift.{Shift}
-use Rattle.move_plan.specs.Code.Plan.{Counted, Leaves, Needs, Planned, comesTo, leavesPage, near, shifted}
+use Rattle.move_plan.specs.Code.Plan.{Counted, Leaves, Needs, Shiftable, comesTo, leavesPage, near, shifted}
 use Rattle.move_plan.proofs.Shifting.{near-low}
 
 -- one page more
@@ -47,7 +47,7 @@ pub counted-next : (m : Shift) (xs l : List ℕ) (p v : ℕ) → p < length l �
 counted-next m xs l p v = step-at (wanted xs) l (m .first) p v
 
 -- ---- a page of the store
-module _ {s : List ℕ} {m : Shift} (h : Planned s m) where
+module _ {s : List ℕ} {m : Shift} (h : Shiftable s m) where
   abbrev xs : List ℕ
   xs = listIn s
 
@@ -72,7 +72,7 @@ module _ {s : List ℕ} {m : Shift} (h : Planned s m) where
 
     pub of-page : {base k : ℕ} → base ≡ cellsFrom (pagesOf s) → k ≡ cells r → OfPage s base p r k
     of-page eb ek = record {
-      held = sound-held s (h .is-sound);
+      holds = sound-holds s (h .is-sound);
       base-is = eb;
       inside = omega (arith, h .inside);
       sum-is = sum-read s p _ _ ee er;

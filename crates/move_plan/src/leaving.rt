@@ -13,7 +13,7 @@ ghost use Rattle.store.specs.Layout.{cellsFrom};
 ghost use Rattle.store.specs.Plain.{page};
 ghost use Rattle.store.specs.Reading.{listIn, pagesOf};
 ghost use Rattle.store.specs.Code.Hours.{OfPage};
-ghost use Rattle.move_plan.specs.Code.Plan.{Counted, Leaves, Planned};
+ghost use Rattle.move_plan.specs.Code.Plan.{Counted, Leaves, Shiftable};
 
 // Count j of page p, of the sum and cells given.
 fn count_of(s: &[u8], base: usize, p: usize, sum: u64, k: usize, j: usize) -> u32
@@ -26,7 +26,7 @@ fn count_of(s: &[u8], base: usize, p: usize, sum: u64, k: usize, j: usize) -> u3
 
 // Puts the counts that leave the pages into leaving, and the pages' cells into old, each at its page's number.
 pub fn look_up(s: &[u8], base: usize, m: Shift, leaving: &mut [u32], old: &mut [u8])
-    requires { ⌜ Planned (now s) m × (base ≡ cellsFrom (pagesOf (now s))) ⌝ }
+    requires { ⌜ Shiftable (now s) m × (base ≡ cellsFrom (pagesOf (now s))) ⌝ }
     requires { ⌜ (m .end ≤ length (now leaving)) × (m .end ≤ length (now old)) ⌝ }
     ensures { λ _. ⌜ Leaves m (listIn (now (s .entry))) (now (leaving .exit)) (m .end) ⌝ }
     ensures { λ _. ⌜ Counted m (listIn (now (s .entry))) (now (old .exit)) (m .end) ⌝ }

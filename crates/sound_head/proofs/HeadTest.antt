@@ -11,7 +11,7 @@ use borrow.Author.Tests.{eq-eqb, eqb-true, le-leb, leb-true}
 use Rattle.lists.specs.Lists.{every, part, same, sum, tabulate}
 use Rattle.lists.proofs.Tests.{agree, each, every-last, every-no, every-of, same-eq, same-is}
 use Rattle.bits.specs.Numbers.{number, numberAt}
-use Rattle.store.specs.Code.Heads.{Heads}
+use Rattle.store.specs.Code.Head.{HeadOf}
 use Rattle.store.specs.Reading.{cellsOf, hoursOf, pagesOf, sumIn}
 use Rattle.store.specs.declared.header.Header.{Header}
 use Rattle.store.specs.Code.Checked.{headTests}
@@ -121,7 +121,7 @@ pub record Bounds (s : List ℕ) (h : Header) : Type 0 where
   pub cells-high : h .cells ≤ maxCells
   pub size : length s ≡ size (h .pages) (h .cells)
 
-pub bounds : (s : List ℕ) (h : Header) → every (headTests s) ≡ true → Heads s h → Bounds s h
+pub bounds : (s : List ℕ) (h : Header) → every (headTests s) ≡ true → HeadOf s h → Bounds s h
 bounds s h e f =
     let w = headed s e in
     record {

@@ -13,7 +13,7 @@ use Rattle.lists.proofs.Parts.{length-part, sets-splice}
 use Rattle.bits.specs.Bits.{bits}
 use Rattle.bits.specs.Numbers.{Number, numberAt}
 use Rattle.tree.proofs.Shape.{length-counts}
-use Rattle.store.specs.Code.Heads.{Heads}
+use Rattle.store.specs.Code.Head.{HeadOf}
 use Rattle.store.specs.Layout.{cellAt, entryAt, cellsFrom}
 use Rattle.store.specs.PageCode.{cells, pageCounts}
 use Rattle.store.specs.Reading.{chainFrom, chainIn, codeIn, pageIn, sumIn}
@@ -43,7 +43,7 @@ cellsOn s P C N p n m a =
 abbrev pub SoFar : List ℕ → ℕ → ℕ → ℕ → ℕ → List ℕ → ℕ → Type 0
 SoFar s P p j n code c = codeIn s (cellsFrom P) (chainIn s P p) ≡ take (30 * j) code ++ codeIn s (cellsFrom P) (chainFrom s (cellsFrom P) n c)
 
-pub pages-start : (s : List ℕ) (h : Header) → Heads s h → chainsFit s ≡ pagesOn s (h .pages) (h .cells) (h .hours) 0 (replicate 1801 0)
+pub pages-start : (s : List ℕ) (h : Header) → HeadOf s h → chainsFit s ≡ pagesOn s (h .pages) (h .cells) (h .hours) 0 (replicate 1801 0)
 unfolding chainsFit pagesOn
 pages-start s h f =
     let P : ℕ = h .pages in

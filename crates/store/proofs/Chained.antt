@@ -11,7 +11,8 @@ use Rattle.store.specs.Layout.{Model, resize}
 use Rattle.store.specs.Limits.{maxTotal}
 use Rattle.store.specs.PageCode.{cells}
 use Rattle.store.specs.Plain.{page}
-use Rattle.store.specs.Sound.{Chained, Good, onChains}
+use Rattle.store.specs.Sound.{Good, onChains}
+use Rattle.store.specs.Code.Chained.{Chained}
 use Rattle.lists.proofs.Occurrences.{length-concat-set, occurrences-append, occurrences-concat-set, occurrences-split}
 use Rattle.lists.proofs.Pages.{paged-le}
 

@@ -14,16 +14,16 @@ use Rattle.answers.specs.Store.{changed, refused}
 use Rattle.store.specs.Layout.{Model, bytesOf, entryAt, cellsFrom}
 use Rattle.store.specs.Reading.{listIn, pagesOf, read, sumIn}
 use Rattle.store.specs.Call.{settle}
-use Rattle.store.specs.Code.Links.{Ready, rewritten}
-use Rattle.store.specs.Code.Heads.{Heads}
+use Rattle.store.specs.Code.Links.{Rewritable, rewritten}
+use Rattle.store.specs.Code.Head.{HeadOf}
 use Rattle.store.specs.declared.header.Header.{Header}
 use Rattle.store.specs.Code.Hours.{Asked, Changes, OfPage, changeTo, withHour}
 use Rattle.store.proofs.HourLaws.{With, getD-le, page-hour, page-set, page-sum, tabulate-le, with-hour}
 use Rattle.store.proofs.Keep.{need-off}
 use Rattle.store.proofs.OnePage.{settled-off}
-use Rattle.store.proofs.PageChange.{ready, rewritten-bytes}
+use Rattle.store.proofs.PageChange.{rewritable, rewritten-bytes}
 use Rattle.store.proofs.ReadBack.{page-le}
-use Rattle.store.proofs.SoundFacts.{Facts, facts, sound-held, sum-read}
+use Rattle.store.proofs.SoundFacts.{Facts, facts, sound-holds, sum-read}
 use Rattle.store.proofs.Spread.{Spread, spread-of}
 
 -- a rise and a fall: 'one of the two is 0'
@@ -65,18 +65,18 @@ pub has : (s : List ℕ) (i : ℕ) {e : ℕ} {counts : List ℕ} {before old tot
 has s i a e b c d = record { counts-are = a; before-is = sum-read s (i / 64) _ _ e b; old-is = c; total-is = d }
 
 -- the page of an hour that is asked for
-pub of-page : {s : List ℕ} {i base e before old : ℕ} {H : Header} → Asked s i → Heads s H → base ≡ cellsFrom (H .pages) → e ≡ entryAt (i / 64) → before ≡ numberAt s e 4
+pub of-page : {s : List ℕ} {i base e before old : ℕ} {H : Header} → Asked s i → HeadOf s H → base ≡ cellsFrom (H .pages) → e ≡ entryAt (i / 64) → before ≡ numberAt s e 4
     → old ≡ cells before
     → OfPage s base (i / 64) before old
 of-page {s} {i} q hd eb e b c = record {
-  held = sound-held s (q .is-sound);
+  holds = sound-holds s (q .is-sound);
   base-is = eb ∙ ap cellsFrom (hd .pages-is);
   inside = omega (arith, q .inside);
   sum-is = sum-read s (i / 64) _ _ e b;
   cells-is = c;
 }
 
-module _ {s : List ℕ} {i : ℕ} (v : ℕ) (q : Asked s i) {H : Header} (hd : Heads s H) {counts : List ℕ} {before old total : ℕ}
+module _ {s : List ℕ} {i : ℕ} (v : ℕ) (q : Asked s i) {H : Header} (hd : HeadOf s H) {counts : List ℕ} {before old total : ℕ}
     (h : Has s i counts before old total) where
   abbrev m : Model
   m = read s
@@ -209,8 +209,9 @@ module _ {s : List ℕ} {i : ℕ} (v : ℕ) (q : Asked s i) {H : Header} (hd : H
     small = omega (arith, total-new)
 
     -- what the rewriting of the page asks for
-    pub ready-now : {base : ℕ} → base ≡ cellsFrom (H .pages) → Ready s base p old n code after hours
-    ready-now eb = rw (eb, code-as, pages-as, hours-as, chain-as, cells-as, ← after-eq) (ready m (f .good) s sp ys i (w .off) inside fits small enough)
+    pub can-rewrite : {base : ℕ} → base ≡ cellsFrom (H .pages) → Rewritable s base p old n code after hours
+    can-rewrite eb =
+        rw (eb, code-as, pages-as, hours-as, chain-as, cells-as, ← after-eq) (rewritable m (f .good) s sp ys i (w .off) inside fits small enough)
 
     same-bytes : {base : ℕ} → base ≡ cellsFrom (H .pages) → rewritten s base p old n code after hours
         ≡ rewritten s (cellsFrom (m .plain .pages)) p (length (getD (m .chains) p [])) (cells (sum (page ys p)))

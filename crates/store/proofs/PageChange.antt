@@ -11,10 +11,11 @@ use Rattle.lists.specs.Lists.{concat, occurrences, part, sum}
 use Rattle.bits.specs.Numbers.{little, number, numberAt}
 use Rattle.store.specs.Limits.{maxTotal}
 use Rattle.store.specs.Layout.{Model, bytesOf, cellAt, header, resize, size, cellsFrom, entryAt}
-use Rattle.store.specs.Code.Links.{Ready, Steps, cut, filled, joined, put, rewritten}
+use Rattle.store.specs.Code.Links.{Rewritable, Steps, cut, filled, joined, put, rewritten}
 use Rattle.store.specs.PageCode.{cells, pageBytes}
 use Rattle.store.specs.Plain.{need, page}
-use Rattle.store.specs.Sound.{Chained, Good, onChains}
+use Rattle.store.specs.Sound.{Good, onChains}
+use Rattle.store.specs.Code.Chained.{Chained}
 use Rattle.lists.proofs.Occurrences.{occurrences-append, occurrences-getD-concat, occurrences-split}
 use Rattle.lists.proofs.Tests.{both}
 use Rattle.store.proofs.Chained.{OffPage, good-chained, page-chained, spare-fits}
@@ -312,8 +313,8 @@ module _ (m : Model) (g : Chained m) where
         sym final-is ∙ chained-only final (resize m ys p n) g₂ (spread-holds final (resize m ys p n) (g₂ .rows) spread-new)
 
     -- and what the code asks for holds
-    pub page-ready : Ready s (cellsFrom P) p k n code (sum (page ys p)) (length ys)
-    page-ready = record {
+    pub page-rewritable : Rewritable s (cellsFrom P) p k n code (sum (page ys p)) (length ys)
+    page-rewritable = record {
       low = omega (arith, g .limits .pages-high);
       page = omega (arith, lp);
       size = omega (arith, size-le);
@@ -356,5 +357,5 @@ module _ (m : Model) (g : Good m) (s : List ℕ) (h : Spread s m) (ys : List ℕ
       ≡ bytesOf (resize m ys (i / 64) new)
   rewritten-bytes = page-bytes m (good-chained m g) s h ys (i / 64) off-page inside ly sum-fits cells-enough
 
-  pub ready : Ready s (cellsFrom (m .plain .pages)) (i / 64) own new made (sum (page ys (i / 64))) (length ys)
-  ready = page-ready m (good-chained m g) s h ys (i / 64) off-page inside ly sum-fits cells-enough
+  pub rewritable : Rewritable s (cellsFrom (m .plain .pages)) (i / 64) own new made (sum (page ys (i / 64))) (length ys)
+  rewritable = page-rewritable m (good-chained m g) s h ys (i / 64) off-page inside ly sum-fits cells-enough

@@ -10,7 +10,8 @@ use Rattle.store.specs.Layout.{Model, bytesOf, cellAt, cellsFrom, entryA
 use Rattle.store.specs.OneCell.{listed}
 use Rattle.store.specs.PageCode.{cells, pageBytes}
 use Rattle.store.specs.Plain.{page}
-use Rattle.store.specs.Sound.{Chained, onChains}
+use Rattle.store.specs.Sound.{onChains}
+use Rattle.store.specs.Code.Chained.{Chained}
 use Rattle.store.specs.Code.Links.{put}
 use Rattle.store.proofs.Holds.{chained-only}
 use Rattle.store.proofs.Moved.{filled-same, linked-same}

@@ -55,22 +55,6 @@ pub record Good (m : Model) : Type 0 where
   pub once : (c : ℕ) → occurrences c (onChains m) ≡ isCell (m .plain .cells) c
   pub all : length (onChains m) ≡ m .plain .cells
 
--- What holds of the chains alone, also between two pages of a change, when the total may not yet be that of a store: there are pages for all
--- hours, each page has the cells that its sum needs, its sum fits, and each cell is on exactly one chain
-pub record Chained (m : Model) : Type 0 where
-  pub limits : Limits (m .plain .pages) (m .plain .cells)
-  pub hours : length (m .plain .counts) ≤ 64 * m .plain .pages
-  pub rows : length (m .chains) ≡ m .plain .pages
-  pub lengths : (p : ℕ) → p < m .plain .pages → length (getD (m .chains) p []) ≡ cells (sum (page (m .plain .counts) p))
-  pub sums : (p : ℕ) → p < m .plain .pages → sum (page (m .plain .counts) p) ≤ maxTotal
-  pub once : (c : ℕ) → occurrences c (onChains m) ≡ isCell (m .plain .cells) c
-  pub all : length (onChains m) ≡ m .plain .cells
-
--- bytes that hold such a model
-pub record Held (s : List ℕ) : Type 0 where
-  pub chained : Chained (read s)
-  pub same : s ≡ bytesOf (read s)
-
 -- Bytes are sound if what they say is good, and is written as exactly these bytes: so every byte is as document 01 lays it out.
 unfoldable pub sound : List ℕ → Bool
 sound s = fine (read s) && same s (bytesOf (read s))

@@ -2,8 +2,8 @@
 ghost use mathlib.Core.Path.{_≡_};
 ghost use Prim.Native.Nat.{_≤_, _<_};
 ghost use lib.ListN.{length};
-ghost use Rattle.store.specs.Layout.{entryAt, cellAt, cellsFrom, fresh as freshModel};
-ghost use Rattle.store.specs.Code.Heads.{Heads, HeadOf};
+ghost use Rattle.store.specs.Layout.{cellAt, cellsFrom, entryAt, fresh as freshModel};
+ghost use Rattle.store.specs.Code.Head.{HeadFor, HeadOf};
 
 pub struct Header {
     pub pages: usize,
@@ -38,7 +38,7 @@ impl Header {
     // The header of a fresh store: all cells are free.
     pub fn fresh(pages: usize, cells: usize) -> Self
         requires { ⌜ 1 ≤ cells ⌝ }
-        ensures { λ r. ⌜ HeadOf (freshModel pages cells) r ⌝ }
+        ensures { λ r. ⌜ HeadFor (freshModel pages cells) r ⌝ }
     {
         Self {
             pages,
@@ -52,7 +52,7 @@ impl Header {
     // The header that stands in a store's bytes.
     pub fn of(s: &[u8]) -> Self
         requires { ⌜ 16 ≤ length (now s) ⌝ }
-        ensures { λ r. ⌜ Heads (now (s .entry)) r ⌝ }
+        ensures { λ r. ⌜ HeadOf (now (s .entry)) r ⌝ }
     {
         Self {
             pages: bits::numbers::get2(s, 2) as usize,

@@ -40,7 +40,7 @@ abbrev pub Counted : Shift → List ℕ → List ℕ → ℕ → Type 0
 Counted m xs few n = (q : ℕ) → m .first ≤ q → q < n → getD few q 0 ≡ wanted xs q
 
 -- a shift that a sound store can make, but for its cells: the pages that move, and that all others stay
-pub record Planned (s : List ℕ) (m : Shift) : Type 0 where
+pub record Shiftable (s : List ℕ) (m : Shift) : Type 0 where
   pub is-sound : sound s ≡ true
   pub within : m .at < 64
   pub some : m .first < m .end

@@ -10,7 +10,7 @@ use Rattle.store.specs.PageCode.{pageBytes, pageCounts}
 use Rattle.store.specs.Code.Checked.{quiet}
 
 -- what is handed to the functions on a page: the code of its cells, at the front of the bytes of eight cells, its sum and number, and N
-pub record Handed (code : List ℕ) (s p N : ℕ) : Type 0 where
+pub record HandedPage (code : List ℕ) (s p N : ℕ) : Type 0 where
   pub long : length code ≡ 240
   pub small : s < 4294967296
   pub page : p < 1024
