@@ -1,5 +1,4 @@
 // What is asked: an hour to be inserted or struck, by its page and its index there.
-use move_counts::leaves_at;
 ghost use mathlib.Core.Path.{_≡_};
 ghost use Prim.Native.Nat.{_≤_, _<_};
 ghost use lib.ListN.{length};

@@ -17,7 +17,6 @@ use Rattle.store.specs.Plain.{need, page}
 use Rattle.store.specs.Sound.{Good, onChains}
 use Rattle.store.specs.Code.Chained.{Chained}
 use Rattle.lists.proofs.Occurrences.{occurrences-append, occurrences-getD-concat, occurrences-split}
-use Rattle.lists.proofs.Tests.{both}
 use Rattle.store.proofs.Chained.{OffPage, good-chained, page-chained, spare-fits}
 use Rattle.store.proofs.Filling.{Filled}
 use Rattle.store.proofs.FreshLaws.{cell-is, cell-le}

@@ -6,7 +6,7 @@ use native.Mathlib.Omega.{arith}
 use lib.ListN.{length, getD}
 use Rattle.lists.specs.Lists.{concat, part, sum}
 use Rattle.bits.specs.Numbers.{little}
-use Rattle.store.specs.Layout.{Model, bytesOf, cellAt, cellsFrom, entryAt, header, size}
+use Rattle.store.specs.Layout.{Model, bytesOf, cellAt, cellsFrom, entryAt, header}
 use Rattle.store.specs.OneCell.{listed}
 use Rattle.store.specs.PageCode.{cells, pageBytes}
 use Rattle.store.specs.Plain.{page}

@@ -2,7 +2,7 @@
 use mathlib.Core.Path.{_≡_, refl}
 use mathlib.Core.Bool.{Bool, true, false}
 use mathlib.Core.List.{List, [], _∷_, _++_}
-use Prim.Native.Nat.{ℕ, _+_, _-_, _*_, _≤_, _<_}
+use Prim.Native.Nat.{ℕ, _-_, _*_, _≤_, _<_}
 use native.Mathlib.Omega.{arith}
 use lib.ListN.{length, set, length-append, length-set}
 use lib.Dec.{ltb}
@@ -11,7 +11,6 @@ use Rattle.lists.specs.Lists.{pick, sum}
 use Rattle.store.specs.Call.{after, settle}
 use Rattle.store.specs.Settle.{settled}
 use Rattle.store.specs.Layout.{Model}
-use Rattle.store.specs.PageCode.{cells}
 use Rattle.store.specs.Plain.{Append, Call, Count, Day, Free, Insert, Outcome, Plain, Reach, Strike, inserted, relisted, struck}
 use Rattle.answers.specs.Store.{Answer, answered, changed, refused}
 use Rattle.store.specs.Plain.{Reading, Set, change, need, next, step}
