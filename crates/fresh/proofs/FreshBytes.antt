@@ -9,7 +9,8 @@ use native.Mathlib.Decide.{ℕ-discrete}
 use lib.ListN.{length, replicate, length-replicate}
 use Rattle.lists.specs.Lists.{concat, part, pick, tabulate}
 use Rattle.bits.specs.Numbers.{little}
-use Rattle.store.specs.Limits.{Limits, fits}
+use Rattle.store.specs.Limits.{Limits}
+use Rattle.store.specs.Fitting.{fits}
 use Rattle.answers.specs.Store.{answered, refused}
 use Rattle.store.specs.Layout.{bytesOf, cellAt, fresh, header, size, cellsFrom, entryAt}
 use Rattle.store.specs.Call.{Started, freshCall}

@@ -8,6 +8,7 @@ use lib.ListN.{length}
 use borrow.Author.Tests.{le-leb, le-ltb, lt-leb, lt-ltb}
 use Rattle.lists.specs.Lists.{pick, sum}
 use Rattle.answers.specs.Store.{Answer, refused}
+use Rattle.store.specs.Limits.{maxTotal}
 use Rattle.store.specs.Plain.{Call, Insert, Outcome, Plain, Strike, change, inserted, page, step, struck}
 use Rattle.store.specs.Layout.{bytesOf}
 use Rattle.store.specs.Reading.{listIn, pagesOf, read}
@@ -82,7 +83,7 @@ module _ {s : List ℕ} (i v : ℕ) (e : sound s ≡ true) {H : Header} (hd : He
   pub total-asks : (sound s ≡ true) × (H .pages ≡ pagesOf s)
   total-asks = (e, hd .pages-is)
 
-  pub total-low : {all : ℕ} → all ≡ sum xs → all ≤ 4294967295
+  pub total-low : {all : ℕ} → all ≡ sum xs → all ≤ maxTotal
   total-low a = omega (arith, a, f .total-fits)
 
   -- ---- insert
@@ -100,7 +101,7 @@ module _ {s : List ℕ} (i v : ℕ) (e : sound s ≡ true) {H : Header} (hd : He
       the-step : step (Insert i v) (read s .plain) ≡ change (read s .plain) grown
       the-step = insert-room (read s .plain) i v (omega (arith, hours-same)) (omega (arith, hours-same, pages-same))
 
-      pub insert-3 : 4294967295 < all + v → Called (Insert i v) s (refused 3) s
+      pub insert-3 : maxTotal < all + v → Called (Insert i v) s (refused 3) s
       insert-3 l = refused-as (Insert i v) s 3 e (the-step ∙ change-over (read s .plain) grown (omega (arith, ea, sum-inserted xs i v)))
 
       abbrev up : Shift
@@ -118,7 +119,7 @@ module _ {s : List ℕ} (i v : ℕ) (e : sound s ≡ true) {H : Header} (hd : He
       up-long : length (shifted up xs) ≡ H .hours + 1
       up-long = ap length up-is ∙ omega (arith, length-inserted xs i v (omega (arith, hours-same)), hours-same)
 
-      pub insert-shiftable : all + v ≤ 4294967295 → Shiftable s up × (H .hours + 1 ≡ length (shifted up xs))
+      pub insert-shiftable : all + v ≤ maxTotal → Shiftable s up × (H .hours + 1 ≡ length (shifted up xs))
       unfolding turned pick
       insert-shiftable l = (
         record {

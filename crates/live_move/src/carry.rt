@@ -23,9 +23,9 @@ pub(crate) fn carry_out(s: &mut [u8], m: Shift, hours: usize) -> Answer
 {
     let head = Header::of(s);
     let base = cells_from(head.pages);
-    let mut leaving = [0u32; 1024];
-    let mut old = [0u8; 1024];
-    let mut new = [0u8; 1024];
+    let mut leaving = [0u32; Header::MAX_PAGES];
+    let mut old = [0u8; Header::MAX_PAGES];
+    let mut new = [0u8; Header::MAX_PAGES];
     look_up(s, base, m, &mut leaving, &mut old);
     let cells = size_up(s, m, &leaving, &old, &mut new);
     let had = cells.had;

@@ -10,6 +10,7 @@ use Rattle.lists.specs.Lists.{sum}
 use Rattle.lists.proofs.Sums.{sum-most, sum-next}
 use Rattle.lists.proofs.Tables.{tabulate-ext}
 use Rattle.bits.specs.Numbers.{numberAt}
+use Rattle.store.specs.Limits.{maxPages, maxTotal}
 use Rattle.store.specs.Layout.{cellsFrom, entryAt}
 use Rattle.store.specs.PageCode.{cells}
 use Rattle.store.specs.Plain.{need, page}
@@ -57,7 +58,7 @@ module _ {s : List ℕ} {m : Shift} (h : Shiftable s m) where
   f : Facts s
   f = facts s (h .is-sound)
 
-  pub pages-few : m .end ≤ 1024
+  pub pages-few : m .end ≤ maxPages
   pages-few = omega (arith, h .inside, f .pages-high)
 
   pub entry-in : (p : ℕ) → p < m .end → entryAt p + 6 ≤ length s
@@ -67,7 +68,7 @@ module _ {s : List ℕ} {m : Shift} (h : Shiftable s m) where
     sum-page : r ≡ sum (page xs p)
     sum-page = sum-read s p _ _ ee er ∙ f .sums p (omega (arith, h .inside))
 
-    pub sum-fits : r ≤ 4294967295
+    pub sum-fits : r ≤ maxTotal
     sum-fits = omega (arith, sum-page, page-le xs p, f .total-fits)
 
     pub of-page : {base k : ℕ} → base ≡ cellsFrom (pagesOf s) → k ≡ cells r → OfPage s base p r k
@@ -103,7 +104,7 @@ module _ {s : List ℕ} {m : Shift} (h : Shiftable s m) where
             turned-sum (m .strike) (page xs p) (near m p) (comesTo m leaving p) (page-length xs p) (near-low m p (h .within)),
           )
 
-      pub after-fits : r - getD leaving p 0 + c ≤ 4294967295
+      pub after-fits : r - getD leaving p 0 + c ≤ maxTotal
       after-fits = omega (arith, sum-after, page-le ys p, h .total)
 
       pub cells-asked : {k : ℕ} → k ≡ cells (r - getD leaving p 0 + c) → k ≡ wanted ys p

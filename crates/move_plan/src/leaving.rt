@@ -9,6 +9,7 @@ use store::header::entry_at;
 ghost use mathlib.Core.Path.{_≡_};
 ghost use Prim.Native.Nat.{_≤_, _<_};
 ghost use lib.ListN.{getD, length};
+ghost use Rattle.store.specs.Limits.{pageHours};
 ghost use Rattle.store.specs.Layout.{cellsFrom};
 ghost use Rattle.store.specs.Plain.{page};
 ghost use Rattle.store.specs.Reading.{listIn, pagesOf};
@@ -17,7 +18,7 @@ ghost use Rattle.move_plan.specs.Code.Plan.{Counted, Leaves, Shiftable};
 
 // Count j of page p, of the sum and cells given.
 fn count_of(s: &[u8], base: usize, p: usize, sum: u64, k: usize, j: usize) -> u32
-    requires { ⌜ OfPage (now s) base p sum k × (j < 64) ⌝ }
+    requires { ⌜ OfPage (now s) base p sum k × (j < pageHours) ⌝ }
     ensures { λ r. ⌜ r ≡ getD (page (listIn (now (s .entry))) p) j 0 ⌝ }
 {
     let code = gather_at(s, base, p, k);

@@ -15,7 +15,8 @@ use Rattle.store.specs.Code.Head.{HeadOf}
 use Rattle.store.specs.Reading.{cellsOf, hoursOf, pagesOf, sumIn}
 use Rattle.store.specs.declared.header.Header.{Header}
 use Rattle.store.specs.Code.Checked.{headTests}
-use Rattle.store.specs.Limits.{Fitting, fitTests, fits, maxCells, maxPages, maxTotal}
+use Rattle.store.specs.Limits.{maxCells, maxPages, maxTotal}
+use Rattle.store.specs.Fitting.{Fitting, fitTests, fits}
 use Rattle.store.proofs.LimitLaws.{fits-so}
 use Rattle.store.specs.Layout.{headerLength, size}
 
@@ -48,7 +49,7 @@ pub record HeadNumbers (s : List ℕ) : Type 0 where
   pub hours : hoursOf s ≤ 64 * pagesOf s
 
 -- they leave the last: the total
-pub head-last : (s : List ℕ) → HeadNumbers s → leb (sum (tabulate (pagesOf s) (sumIn s))) 4294967295 ≡ every (headTests s)
+pub head-last : (s : List ℕ) → HeadNumbers s → leb (sum (tabulate (pagesOf s) (sumIn s))) maxTotal ≡ every (headTests s)
 unfolding headTests
 head-last s h =
     let P : ℕ = pagesOf s in

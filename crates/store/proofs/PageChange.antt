@@ -329,7 +329,7 @@ module _ (m : Model) (g : Chained m) where
 
 -- ---- a count of a good model, at hour i
 module _ (m : Model) (g : Good m) (s : List ℕ) (h : Spread s m) (ys : List ℕ) (i : ℕ) (o : Off (m .plain .counts) ys i)
-    (li : i < 64 * m .plain .pages) (ly : length ys ≤ 64 * m .plain .pages) (lt : sum ys ≤ 4294967295)
+    (li : i < 64 * m .plain .pages) (ly : length ys ≤ 64 * m .plain .pages) (lt : sum ys ≤ maxTotal)
     (ln : need ys (m .plain .pages) ≤ m .plain .cells) where
   abbrev own : ℕ
   own = length (getD (m .chains) (i / 64) [])

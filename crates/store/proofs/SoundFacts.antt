@@ -7,7 +7,7 @@ use native.Mathlib.Omega.{arith}
 use lib.ListN.{length}
 use Rattle.lists.specs.Lists.{sum}
 use Rattle.bits.specs.Numbers.{numberAt}
-use Rattle.store.specs.Limits.{maxCells, maxPages}
+use Rattle.store.specs.Limits.{maxCells, maxPages, maxTotal}
 use Rattle.store.specs.Plain.{need, page}
 use Rattle.store.specs.Layout.{Model, bytesOf, entryAt, size}
 use Rattle.store.specs.Reading.{cellsOf, hoursOf, listIn, pagesOf, read, readFor, sumIn}
@@ -34,10 +34,10 @@ pub record Facts (s : List ℕ) : Type 0 where
   pub cells-low : 1 ≤ cellsOf s
   pub cells-high : cellsOf s ≤ maxCells
   pub hours-fit : hoursOf s ≤ 64 * pagesOf s
-  pub total-fits : sum (listIn s) ≤ 4294967295
+  pub total-fits : sum (listIn s) ≤ maxTotal
   pub free-and-need : numberAt s 8 2 + need (listIn s) (pagesOf s) ≡ cellsOf s
   pub sums : (p : ℕ) → p < pagesOf s → sumIn s p ≡ sum (page (listIn s) p)
-  pub sum-fits : (p : ℕ) → p < pagesOf s → sumIn s p ≤ 4294967295
+  pub sum-fits : (p : ℕ) → p < pagesOf s → sumIn s p ≤ maxTotal
 
 pub facts : (s : List ℕ) → sound s ≡ true → Facts s
 unfolding read readFor
@@ -77,7 +77,7 @@ pub record ChainFacts (s : List ℕ) : Type 0 where
   pub free-is : numberAt s 8 2 ≡ length (read s .spare)
   pub long : length s ≡ size (pagesOf s) (cellsOf s)
   pub sums : (p : ℕ) → p < pagesOf s → sumIn s p ≡ sum (page (listIn s) p)
-  pub sum-fits : (p : ℕ) → p < pagesOf s → sumIn s p ≤ 4294967295
+  pub sum-fits : (p : ℕ) → p < pagesOf s → sumIn s p ≤ maxTotal
 
 pub chain-facts : (s : List ℕ) → HoldsChains s → ChainFacts s
 unfolding read readFor

@@ -9,7 +9,7 @@ use Rattle.lists.specs.Lists.{tabulate, concat, sum, every, same, one, occurren
 use Rattle.store.specs.PageCode.{cells}
 use Rattle.store.specs.Plain.{page}
 use Rattle.store.specs.Layout.{Model, bytesOf}
-use Rattle.store.specs.Limits.{Limits, limitTests, maxTotal}
+use Rattle.store.specs.Limits.{Limits, limitTests, maxTotal, pageHours}
 use Rattle.store.specs.Reading.{read}
 
 -- every cell that is on a chain, chain by chain
@@ -30,7 +30,7 @@ within C (c ∷ cs) = (leb 1 c && leb c C) && within C cs
 unfoldable pub tests : Model → List Bool
 tests m =
     limitTests (m .plain .pages) (m .plain .cells)
-    ++ leb (length (m .plain .counts)) (64 * m .plain .pages)
+    ++ leb (length (m .plain .counts)) (pageHours * m .plain .pages)
     ∷ leb (sum (m .plain .counts)) maxTotal
     ∷ eqb (length (m .chains)) (m .plain .pages)
     ∷ same (tabulate (m .plain .pages) (λ p. length (getD (m .chains) p [])))
@@ -46,7 +46,7 @@ fine m = every (tests m)
 -- the same as facts
 pub record Good (m : Model) : Type 0 where
   pub limits : Limits (m .plain .pages) (m .plain .cells)
-  pub hours : length (m .plain .counts) ≤ 64 * m .plain .pages
+  pub hours : length (m .plain .counts) ≤ pageHours * m .plain .pages
   pub total : sum (m .plain .counts) ≤ maxTotal
   pub rows : length (m .chains) ≡ m .plain .pages
   -- each page has the cells that its sum needs

@@ -2,7 +2,7 @@
 ghost use mathlib.Core.Path.{_≡_};
 ghost use Prim.Native.Nat.{_≤_, _<_};
 ghost use lib.ListN.{length};
-ghost use Rattle.store.specs.Layout.{cellAt, cellsFrom, entryAt, fresh as freshModel};
+ghost use Rattle.store.specs.Layout.{cellAt, cellsFrom, entryAt, fresh as freshModel, headerLength};
 ghost use Rattle.store.specs.Code.Head.{HeadFor, HeadOf};
 
 pub struct Header {
@@ -19,6 +19,9 @@ impl Header {
 
     pub const MAX_CELLS: usize = 1800;
 
+    // A mark for each cell, and one for 0, which is no cell.
+    pub const MARKS: usize = Header::MAX_CELLS + 1;
+
     pub const MAX_TOTAL: u64 = 4294967295;
 
     pub const EDITION: usize = 1;
@@ -34,6 +37,8 @@ impl Header {
     pub const CODE: usize = 30;
     // The bits of a cell's code.
     pub const BITS: usize = 240;
+    // The bytes of eight cells' code: no page has more.
+    pub const PAGE_ROOM: usize = 8 * Header::CODE;
 
     // The header of a fresh store: all cells are free.
     pub fn fresh(pages: usize, cells: usize) -> Self
@@ -51,7 +56,7 @@ impl Header {
 
     // The header that stands in a store's bytes.
     pub fn of(s: &[u8]) -> Self
-        requires { ⌜ 16 ≤ length (now s) ⌝ }
+        requires { ⌜ headerLength ≤ length (now s) ⌝ }
         ensures { λ r. ⌜ HeadOf (now (s .entry)) r ⌝ }
     {
         Self {

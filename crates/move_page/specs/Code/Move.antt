@@ -7,7 +7,7 @@ use Rattle.bits.specs.Numbers.{numberAt}
 use Rattle.store.specs.PageCode.{cells}
 use Rattle.store.specs.Plain.{page}
 use Rattle.store.specs.Layout.{bytesOf, cellsFrom, resize}
-use Rattle.store.specs.Limits.{maxTotal}
+use Rattle.store.specs.Limits.{maxTotal, pageHours}
 use Rattle.store.specs.Reading.{listIn, pagesOf, read, sumIn}
 use Rattle.store.specs.Code.Chained.{HoldsChains}
 use Rattle.store.specs.Code.Moving.{repaged}
@@ -23,12 +23,12 @@ pub record Movable (s : List ℕ) (base : ℕ) (c : PageMove) (hours : ℕ) : Ty
   pub holds : HoldsChains s
   pub base-is : base ≡ cellsFrom (pagesOf s)
   pub inside : c .page < pagesOf s
-  pub within : c .at < 64
+  pub within : c .at < pageHours
   pub old-is : c .old ≡ cells (sumIn s (c .page))
   pub fits : sum (countsAfter s c) ≤ maxTotal
   pub new-is : c .new ≡ cells (sum (countsAfter s c))
   pub enough : c .new ≤ c .old + numberAt s 8 2
-  pub hours-are : hours ≡ 64 * pagesOf s
+  pub hours-are : hours ≡ pageHours * pagesOf s
 
 -- what is left: the page has these counts and the cells that they need, every other page what it had
 abbrev pub Moved : List ℕ → PageMove → List ℕ → Type 0

@@ -4,6 +4,7 @@ use mathlib.Core.List.{List}
 use mathlib.Core.Path.{_≡_}
 use Prim.Native.Nat.{ℕ, _*_, _≤_}
 use lib.ListN.{length}
+use Rattle.store.specs.Limits.{pageHours}
 use Rattle.store.specs.Plain.{need, relisted}
 use Rattle.store.specs.Layout.{bytesOf, cellsFrom}
 use Rattle.store.specs.Reading.{cellsOf, listIn, pagesOf, read}
@@ -23,7 +24,7 @@ pub record Enough (z : List ℕ) (base : ℕ) (m : Shift) (leaving old new : Lis
   pub leaving-long : m .end ≤ length leaving
   pub old-long : m .end ≤ length old
   pub new-long : m .end ≤ length new
-  pub hours-are : hours ≡ 64 * pagesOf z
+  pub hours-are : hours ≡ pageHours * pagesOf z
 
 -- the bytes s are those of z's shift when the pass has come to page n
 abbrev pub Stands : List ℕ → Shift → Bool → ℕ → List ℕ → Type 0

@@ -7,7 +7,7 @@ use Rattle.lists.specs.Lists.{sum, occurrences}
 use Rattle.store.specs.PageCode.{cells}
 use Rattle.store.specs.Plain.{page}
 use Rattle.store.specs.Layout.{Model, bytesOf}
-use Rattle.store.specs.Limits.{Limits, maxTotal}
+use Rattle.store.specs.Limits.{Limits, maxTotal, pageHours}
 use Rattle.store.specs.Reading.{read}
 use Rattle.store.specs.Sound.{isCell, onChains}
 
@@ -15,7 +15,7 @@ use Rattle.store.specs.Sound.{isCell, onChains}
 -- hours, each page has the cells that its sum needs, its sum fits, and each cell is on exactly one chain
 pub record Chained (m : Model) : Type 0 where
   pub limits : Limits (m .plain .pages) (m .plain .cells)
-  pub hours : length (m .plain .counts) ≤ 64 * m .plain .pages
+  pub hours : length (m .plain .counts) ≤ pageHours * m .plain .pages
   pub rows : length (m .chains) ≡ m .plain .pages
   pub lengths : (p : ℕ) → p < m .plain .pages → length (getD (m .chains) p []) ≡ cells (sum (page (m .plain .counts) p))
   pub sums : (p : ℕ) → p < m .plain .pages → sum (page (m .plain .counts) p) ≤ maxTotal

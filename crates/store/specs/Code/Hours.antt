@@ -6,6 +6,7 @@ use Prim.Native.Nat.{ℕ, _*_, _≤_, _<_}
 use lib.ListN.{length, set}
 use lib.Dec.{eqb}
 use Rattle.lists.specs.Lists.{pick}
+use Rattle.store.specs.Limits.{pageHours}
 use Rattle.store.specs.PageCode.{cells}
 use Rattle.store.specs.Plain.{Outcome, change}
 use Rattle.answers.specs.Store.{Answer}
@@ -18,7 +19,7 @@ use Rattle.store.specs.Call.{settle}
 -- a store that is sound, with a page for hour i, which is logged or the next to be logged
 pub record Asked (s : List ℕ) (i : ℕ) : Type 0 where
   pub is-sound : sound s ≡ true
-  pub inside : i < 64 * pagesOf s
+  pub inside : i < pageHours * pagesOf s
   pub reached : i ≤ length (listIn s)
 
 -- page p of a store, sound or between two pages of a change, whose cells start at base: its sum, and its cells
