@@ -8,7 +8,7 @@ use store::header::entry_at;
 use store::link::link;
 ghost use mathlib.Core.Path.{_≡_};
 ghost use Prim.Native.Nat.{_+_};
-ghost use Rattle.store.specs.Code.Links.{rewritten, Rewritable};
+ghost use Rattle.store.specs.Code.Links.{Rewritable, rewritten};
 
 // A page that changes: its number, the cells that it has, those that it is to have, and its new sum.
 pub struct PageChange {

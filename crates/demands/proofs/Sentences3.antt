@@ -117,7 +117,8 @@ module _ (b : List ℕ) (P C : ℕ) (h : Fitting b P C) (cs : List Call) where
       rw (last-answer cs c (freshCall b P C .bytes)) at
       (demand-3 .calls b P C h (cs ++ c ∷ []) .when-12 (length cs) (omega (arith, length-append cs (c ∷ []))) ys (rw (getD-append-seam cs c [] Free, take-append-seam cs (c ∷ [])) w))
 
-  pub append-12 : (v : ℕ) → length X < pageHours * P → sum (X ++ v ∷ []) ≤ maxTotal → (call (Append v) S .answer ≡ refused 12) ↔ (C < need (X ++ v ∷ []) P)
+  pub append-12 : (v : ℕ) → length X < pageHours * P → sum (X ++ v ∷ []) ≤ maxTotal
+      → (call (Append v) S .answer ≡ refused 12) ↔ (C < need (X ++ v ∷ []) P)
   append-12 v l t = twelve (Append v) (X ++ v ∷ []) (appends v (listAfter P C cs) (omega (arith, l, end-pages cs (plainFresh P C))) t)
 
   pub set-12 : (i v : ℕ) → i < length X → sum (set X i v) ≤ maxTotal → (call (Set i v) S .answer ≡ refused 12) ↔ (C < need (set X i v) P)

@@ -66,8 +66,8 @@ pub has : (s : List ℕ) (i : ℕ) {e : ℕ} {counts : List ℕ} {before old tot
 has s i a e b c d = record { counts-are = a; before-is = sum-read s (i / 64) _ _ e b; old-is = c; total-is = d }
 
 -- the page of an hour that is asked for
-pub of-page : {s : List ℕ} {i base e before old : ℕ} {H : Header} → Asked s i → HeadOf s H → base ≡ cellsFrom (H .pages) → e ≡ entryAt (i / 64) → before ≡ numberAt s e 4
-    → old ≡ cells before
+pub of-page : {s : List ℕ} {i base e before old : ℕ} {H : Header} → Asked s i → HeadOf s H → base ≡ cellsFrom (H .pages) → e ≡ entryAt (i / 64)
+    → before ≡ numberAt s e 4 → old ≡ cells before
     → OfPage s base (i / 64) before old
 of-page {s} {i} q hd eb e b c = record {
   holds = sound-holds s (q .is-sound);

@@ -19,10 +19,9 @@ impl Header {
 
     pub const MAX_CELLS: usize = 1800;
 
+    pub const MAX_TOTAL: u64 = 4294967295;
     // A mark for each cell, and one for 0, which is no cell.
     pub const MARKS: usize = Header::MAX_CELLS + 1;
-
-    pub const MAX_TOTAL: u64 = 4294967295;
 
     pub const EDITION: usize = 1;
     // The hours of a page.

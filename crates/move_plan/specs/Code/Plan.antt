@@ -6,7 +6,7 @@ use Prim.Native.Nat.{ℕ, _+_, _-_, _*_, _≤_, _<_}
 use lib.ListN.{length, getD}
 use lib.Dec.{eqb, ltb}
 use Rattle.lists.specs.Lists.{pick, sum}
-use Rattle.store.specs.Limits.{maxTotal, pageHours}
+use Rattle.store.specs.Limits.{maxPages, maxTotal, pageHours}
 use Rattle.store.specs.Plain.{inserted, need, page, struck}
 use Rattle.store.specs.Reading.{listIn, pagesOf}
 use Rattle.store.specs.Settle.{wanted}
@@ -56,4 +56,4 @@ pub record Shiftable (s : List ℕ) (m : Shift) : Type 0 where
 pub record Needs (s : List ℕ) (m : Shift) (had asked : ℕ) : Type 0 where
   pub moved : need (shifted m (listIn s)) (pagesOf s) + had ≡ need (listIn s) (pagesOf s) + asked
   pub had-low : had ≤ need (listIn s) (pagesOf s)
-  pub asked-low : asked ≤ 8192
+  pub asked-low : asked ≤ 8 * maxPages

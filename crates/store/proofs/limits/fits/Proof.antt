@@ -42,7 +42,10 @@ cells-from-requires c κs =
 mul-result : tie.Need-mul-result
 mul-result c =
     let e = c .before in
-    omega (arith, most (e .before .before .before .before .before .args .cells) maxCells (sym (e .before .one-to2 .ensures) ∙ not-false _ (e .if2 .left)))
+    omega (
+      arith,
+      most (e .before .before .before .before .before .args .cells) maxCells (sym (e .before .one-to2 .ensures) ∙ not-false _ (e .if2 .left)),
+    )
 
 add-result : tie.Need-add-result
 add-result c =
