@@ -8,7 +8,7 @@ use store::header::entry_at;
 use store::link::link;
 ghost use mathlib.Core.Path.{_≡_};
 ghost use Prim.Native.Nat.{_+_};
-ghost use Rattle.store.specs.Code.Links.{rewritten, Ready};
+ghost use Rattle.store.specs.Code.Links.{Rewritable, rewritten};
 
 // A page that changes: its number, the cells that it has, those that it is to have, and its new sum.
 pub struct PageChange {
@@ -22,7 +22,7 @@ pub struct PageChange {
 // code is written over as many cells as the page has or had, and the chain is cut after those it keeps: growing and shrinking are one, and
 // the cells given back are cleared by the zeros at the code's end.
 pub fn rewrite(s: &mut [u8], base: usize, c: PageChange, code: &[u8], hours: usize)
-    requires { ⌜ Ready (now s) base (c .page) (c .old) (c .new) (now code) (c .sum) hours ⌝ }
+    requires { ⌜ Rewritable (now s) base (c .page) (c .old) (c .new) (now code) (c .sum) hours ⌝ }
     ensures { λ _. ⌜ now (s .exit) ≡ rewritten (now (s .entry)) base (c .page) (c .old) (c .new) (now (code .entry)) (c .sum) hours ⌝ }
 {
     let old = c.old;

@@ -8,6 +8,7 @@ use lib.ListN.{length, getD, set}
 use Rattle.lists.specs.Lists.{sum, tabulate}
 use Rattle.reserve.specs.Reserve.{ceil, reserve}
 use Rattle.answers.specs.Store.{changed}
+use Rattle.store.specs.Limits.{maxTotal}
 use Rattle.store.specs.PageCode.{cells}
 use Rattle.store.specs.Plain.{Append, Call, Set, page, step}
 use Rattle.store.specs.Reading.{listIn, read}
@@ -30,7 +31,7 @@ sum-takes s d =
     rw (a, b) at k
 
 -- 'or eight if that is less'
-pub hour-eight : (xs : List ℕ) (j d : ℕ) → j < length xs → sum xs + d ≤ 4294967295 → cells (sum (set xs j (getD xs j 0 + d))) ≤ cells (sum xs) + 8
+pub hour-eight : (xs : List ℕ) (j d : ℕ) → j < length xs → sum xs + d ≤ maxTotal → cells (sum (set xs j (getD xs j 0 + d))) ≤ cells (sum xs) + 8
 unfolding cellsFor
 hour-eight xs j d l t = omega (arith, coin-cost .lesser xs j d l t)
 

@@ -18,7 +18,7 @@ not-123 h = let l : 2 ≤ 1 = h 0 123 in omega arith
 -- eight are taken: all the coins of a store in an empty page
 pub not-seven : ((s d : ℕ) → s + d ≤ maxTotal → cells (s + d) ≤ cells s + 7) → ⊥
 unfolding cells ceil reserve
-not-seven h = let l : 8 ≤ 7 = h 0 4294967295 (omega arith) in omega arith
+not-seven h = let l : 8 ≤ 7 = h 0 maxTotal (omega arith) in omega arith
 
 -- beyond document 01's limit of coins eight do not suffice: the least number of coins that takes nine
 pub nine-beyond : (cells 13634816812 ≡ 8) × (cells 13634816813 ≡ 9)

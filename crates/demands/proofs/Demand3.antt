@@ -9,7 +9,7 @@ use native.Mathlib.Decide.{decLe}
 use lib.ListN.{length, getD, take, set, List·getD-eq-default}
 use borrow.Author.Tests.{le-ltb, lt-leb}
 use Rattle.lists.specs.Lists.{pick}
-use Rattle.store.specs.Limits.{Fitting}
+use Rattle.store.specs.Fitting.{Fitting}
 use Rattle.store.specs.Call.{Result, call, freshCall, storeAnswers, storeEnd}
 use Rattle.store.specs.Layout.{Model, bytesOf, fresh}
 use Rattle.store.specs.Plain.{Append, Call, Count, Day, Free, Insert, Outcome, Plain, Reach, Reading, Set, Strike}

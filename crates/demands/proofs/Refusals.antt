@@ -10,13 +10,14 @@ use lib.Dec.{leb}
 use borrow.Author.Tests.{leb-true}
 use Rattle.lists.specs.Lists.{occurrences, one, pick, sum}
 use Rattle.tree.specs.Read.{Found, damaged, found}
+use Rattle.store.specs.Limits.{maxTotal}
 use Rattle.store.specs.Plain.{Append, Call, Count, Day, Free, Insert, Outcome, Plain, Reach as ReachOf, Reading, Set, Strike}
 use Rattle.answers.specs.Store.{Answer, answered, refused as turned}
 use Rattle.store.specs.Plain.{change, inserted, refuse, step, struck}
 use Rattle.store.specs.Layout.{bytesOf, fresh}
 use Rattle.store.specs.Reading.{listIn, read}
 use Rattle.store.specs.Sound.{sound}
-use Rattle.store.specs.Limits.{fits}
+use Rattle.store.specs.Fitting.{fits}
 use Rattle.store.specs.Call.{Result, call, freshCall}
 use Rattle.store.proofs.CallLaws.{call-10, sound-call}
 use Rattle.store.proofs.Inserting.{sum-struck}
@@ -63,7 +64,7 @@ module _ (r : Row) (L : Plain) where
       go (done x y) = g
 
   -- a strike has a lower total: never 3
-  strike-allowed : (i : ℕ) → sum (L .counts) ≤ 4294967295 → r .gives ≡ cellsMoved → Among 12 (r .refusals)
+  strike-allowed : (i : ℕ) → sum (L .counts) ≤ maxTotal → r .gives ≡ cellsMoved → Among 12 (r .refusals)
       → Allowed r (ofStore (change L (struck (L .counts) i) .answer))
   unfolding ofStore
   strike-allowed i t g b = go (change-is L (struck (L .counts) i))
@@ -73,7 +74,7 @@ module _ (r : Row) (L : Plain) where
       go (short x y) = b
       go (done x y) = g
 
-step-allowed : (c : Call) (s : List ℕ) (L : Plain) → sum (L .counts) ≤ 4294967295 → Allowed (row (Live c s)) (ofStore (step c L .answer))
+step-allowed : (c : Call) (s : List ℕ) (L : Plain) → sum (L .counts) ≤ maxTotal → Allowed (row (Live c s)) (ofStore (step c L .answer))
 unfolding step row occurrences one ofStore
 step-allowed (Append v) s L t = or-turned _ L _ 11 _ (omega arith) (change-allowed _ L (L .counts ++ v ∷ []) refl (omega arith) (omega arith))
 step-allowed (Set i v) s L t = or-turned _ L _ 7 _ (omega arith) (change-allowed _ L (set (L .counts) i v) refl (omega arith) (omega arith))

@@ -32,8 +32,8 @@ Gives k (theHours f n) = k ≡ hoursOrNone
 Gives k noRun = k ≡ hoursOrNone
 Gives k (refusal j) = ⊥
 
--- A call's row of the table 'Where a call is turned down', or what its note in document 02 says of it: its refusals in their order; what it
--- gives else; whether it is a question, which changes nothing
+-- A call's row of the table 'Where a call is turned down', or what its note in document 02 says of it: its refusals in their order, as numbers,
+-- so that row and table can be held against each other; what it gives else; whether it is a question, which changes nothing
 pub record Row : Type 0 where
   pub refusals : List ℕ
   pub gives : Kind

@@ -8,11 +8,12 @@ use lib.ListN.{length, getD, take, set}
 use Rattle.answers.specs.Refusals.{cellsShort}
 use Rattle.lists.specs.Lists.{tabulate, concat, sum, occurrences}
 use Rattle.bits.specs.Numbers.{numberAt}
+use Rattle.store.specs.Limits.{maxTotal, pageHours}
 use Rattle.store.specs.PageCode.{cells}
 use Rattle.store.specs.Plain.{Plain, Call, Append, Set, Insert, Strike, Free, inserted, page, need, plainEnd, plainAnswers, plainFresh, struck}
 use Rattle.answers.specs.Store.{Answer, answered, refused}
 use Rattle.store.specs.Layout.{cellsFrom, size}
-use Rattle.store.specs.Limits.{Fitting}
+use Rattle.store.specs.Fitting.{Fitting}
 use Rattle.store.specs.Reading.{Runs, firstIn, sumIn, chainIn, spareIn, read}
 use Rattle.store.specs.Sound.{sound, isCell}
 use Rattle.store.specs.Call.{call, storeEnd, storeAnswers, freshCall}
@@ -35,12 +36,12 @@ answerAt b P C cs n = getD (storeAnswers cs (freshCall b P C .bytes)) n (answere
 
 -- an append, set, insert or strike that passes the checks before 12, and the list that it asks for
 pub data Passes : Call → Plain → List ℕ → Type 0 where
-  appends : (v : ℕ) (L : Plain) → length (L .counts) < 64 * L .pages → sum (L .counts ++ v ∷ []) ≤ 4294967295
+  appends : (v : ℕ) (L : Plain) → length (L .counts) < pageHours * L .pages → sum (L .counts ++ v ∷ []) ≤ maxTotal
       → Passes (Append v) L (L .counts ++ v ∷ [])
-  sets : (i v : ℕ) (L : Plain) → i < length (L .counts) → sum (set (L .counts) i v) ≤ 4294967295 → Passes (Set i v) L (set (L .counts) i v)
-  inserts : (i v : ℕ) (L : Plain) → i ≤ length (L .counts) → length (L .counts) < 64 * L .pages → sum (inserted (L .counts) i v) ≤ 4294967295
+  sets : (i v : ℕ) (L : Plain) → i < length (L .counts) → sum (set (L .counts) i v) ≤ maxTotal → Passes (Set i v) L (set (L .counts) i v)
+  inserts : (i v : ℕ) (L : Plain) → i ≤ length (L .counts) → length (L .counts) < pageHours * L .pages → sum (inserted (L .counts) i v) ≤ maxTotal
       → Passes (Insert i v) L (inserted (L .counts) i v)
-  strikes : (i : ℕ) (L : Plain) → i < length (L .counts) → sum (struck (L .counts) i) ≤ 4294967295 → Passes (Strike i) L (struck (L .counts) i)
+  strikes : (i : ℕ) (L : Plain) → i < length (L .counts) → sum (struck (L .counts) i) ≤ maxTotal → Passes (Strike i) L (struck (L .counts) i)
 
 -- the bytes s are a sound store of P pages and C cells, and hold the list xs
 pub record StoreHolds (s : List ℕ) (P C : ℕ) (xs : List ℕ) : Type 0 where

@@ -12,7 +12,7 @@ use Rattle.replies.specs.Session.{turn, replies, output}
 use Rattle.replies.specs.PlainSession.{plainOutput}
 use Rattle.replies.proofs.SessionLaws.{session-is-plain}
 use Rattle.dialogue.specs.Dialogue.{State, start, prints, leaves, next, fed, said, last}
-use Rattle.dialogue.specs.Feed.{Runs, at-end, reads}
+use Rattle.dialogue.specs.Feed.{Loops, at-end, reads}
 
 -- commands in two parts
 prints-append : (cs ds : List Command) (s : List ℕ) → prints (cs ++ ds) s ≡ prints cs s ++ prints ds (leaves cs s)
@@ -54,21 +54,21 @@ unfolding output prints
 byte-by-byte input = to-the-end input start ∙ ap (λ (cs : List Command). prints cs []) (one-for-each-line 41 input (omega arith))
 
 -- what is left to write is what the bytes that are left print
-runs-said : {p : State} {chunks : List (List ℕ)} {text : List ℕ} → Runs p chunks text
+loops-said : {p : State} {chunks : List (List ℕ)} {text : List ℕ} → Loops p chunks text
     → text ≡ said (concat chunks) p ++ last (fed (concat chunks) p)
 unfolding concat fed said
-runs-said (at-end w) = w .text
-runs-said {p} (reads {q = q} {chunk} {chunks = chunks} {rest} w r) =
+loops-said (at-end w) = w .text
+loops-said {p} (reads {q = q} {chunk} {chunks = chunks} {rest} w r) =
     let xs = concat chunks in
-    ap₂ _++_ (w .text) (runs-said r)
+    ap₂ _++_ (w .text) (loops-said r)
     ∙ ap (λ (z : State). said chunk p ++ (said xs z ++ last (fed xs z))) (w .state)
     ∙ sym (append-assoc (said chunk p) (said xs (fed chunk p)) (last (fed xs (fed chunk p))))
     ∙ sym (ap₂ (λ (l : List ℕ) (z : State). l ++ last z) (said-append chunk xs p) (fed-append chunk xs p))
 
 -- However the input is cut into chunks, the loop writes what the session prints
-pub runs-output : {chunks : List (List ℕ)} {text : List ℕ} → Runs start chunks text → text ≡ output (concat chunks)
-runs-output {chunks} r = runs-said r ∙ byte-by-byte (concat chunks)
+pub loops-output : {chunks : List (List ℕ)} {text : List ℕ} → Loops start chunks text → text ≡ output (concat chunks)
+loops-output {chunks} r = loops-said r ∙ byte-by-byte (concat chunks)
 
 -- and that is what the plain list answers to its lines
-pub runs-plain : {chunks : List (List ℕ)} {text : List ℕ} → Runs start chunks text → text ≡ plainOutput (concat chunks)
-runs-plain {chunks} r = runs-output r ∙ session-is-plain (concat chunks)
+pub loops-plain : {chunks : List (List ℕ)} {text : List ℕ} → Loops start chunks text → text ≡ plainOutput (concat chunks)
+loops-plain {chunks} r = loops-output r ∙ session-is-plain (concat chunks)

@@ -24,7 +24,7 @@ pub record Closes (p : State) (n : ℕ) (after : List ℕ) : Type 0 where
 
 -- The loop: each chunk that is read goes to `feed` once, where the chunk before left off, and what `feed` gives is written once; at the
 -- input's end the same of `close`. The chunks, and all that is written. That the program's loop does so is not proved
-pub data Runs : State → List (List ℕ) → List ℕ → Type 0 where
-  at-end : {p : State} {n : ℕ} {out : List ℕ} → Closes p n out → Runs p [] (take n out)
+pub data Loops : State → List (List ℕ) → List ℕ → Type 0 where
+  at-end : {p : State} {n : ℕ} {out : List ℕ} → Closes p n out → Loops p [] (take n out)
   reads : {p q : State} {chunk : List ℕ} {n : ℕ} {before out : List ℕ} {chunks : List (List ℕ)} {rest : List ℕ}
-      → Feeds chunk p 0 before q n out → Runs q chunks rest → Runs p (chunk ∷ chunks) (take n out ++ rest)
+      → Feeds chunk p 0 before q n out → Loops q chunks rest → Loops p (chunk ∷ chunks) (take n out ++ rest)

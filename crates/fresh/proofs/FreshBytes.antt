@@ -9,12 +9,13 @@ use native.Mathlib.Decide.{ℕ-discrete}
 use lib.ListN.{length, replicate, length-replicate}
 use Rattle.lists.specs.Lists.{concat, part, pick, tabulate}
 use Rattle.bits.specs.Numbers.{little}
-use Rattle.store.specs.Limits.{Limits, fits}
+use Rattle.store.specs.Limits.{Limits}
+use Rattle.store.specs.Fitting.{fits}
 use Rattle.answers.specs.Store.{answered, refused}
 use Rattle.store.specs.Layout.{bytesOf, cellAt, fresh, header, size, cellsFrom, entryAt}
 use Rattle.store.specs.Call.{Started, freshCall}
 use Rattle.store.specs.Code.Links.{put}
-use Rattle.store.specs.Code.Heads.{HeadOf}
+use Rattle.store.specs.Code.Head.{HeadFor}
 use Rattle.fresh.specs.Code.Header.{HeaderPut}
 use Rattle.fresh.specs.Code.Cells.{chained}
 use Rattle.store.specs.declared.header.Header.{Header}
@@ -139,7 +140,7 @@ linked-up s base C (suc n) c a e h l x y =
       rw (tabulate-ext n (λ j. c + suc (suc j)) (λ j. c + 1 + suc j) (λ j _. omega arith)) r,
     )
 
-module _ (P C : ℕ) (l : Limits P C) (t : List ℕ) (H : Header) (k : HeadOf (fresh P C) H)
+module _ (P C : ℕ) (l : Limits P C) (t : List ℕ) (H : Header) (k : HeadFor (fresh P C) H)
     (h : HeaderPut (replicate (size P C) 0) H t) where
   Z : List ℕ
   Z = replicate (size P C) 0
@@ -209,7 +210,7 @@ module _ (b : List ℕ) (P C : ℕ) where
   unfolding freshCall pick
   started-9 e = record { answer = rw e refl; bytes = rw e refl }
 
-  pub started : (z t u : List ℕ) (H : Header) {base : ℕ} → fits b P C ≡ true → z ≡ replicate (length b) 0 → HeadOf (fresh P C) H → HeaderPut z H t
+  pub started : (z t u : List ℕ) (H : Header) {base : ℕ} → fits b P C ≡ true → z ≡ replicate (length b) 0 → HeadFor (fresh P C) H → HeaderPut z H t
       → base ≡ cellsFrom P → u ≡ chained t base (C - 1) → Started b P C (answered 0) u
   unfolding freshCall pick
   started z t u H e a k h i f =

@@ -4,11 +4,12 @@ use chains::numbers::put_two;
 use store::header::Header;
 ghost use Prim.Native.Nat.{_≤_};
 ghost use lib.ListN.{length};
+ghost use Rattle.store.specs.Layout.{headerLength};
 ghost use Rattle.fresh.specs.Code.Header.{HeaderPut};
 
 // Puts a header into a store's first 16 bytes.
 pub(crate) fn put_header(s: &mut [u8], h: Header)
-    requires { ⌜ 16 ≤ length (now s) ⌝ }
+    requires { ⌜ headerLength ≤ length (now s) ⌝ }
     ensures { λ _. ⌜ HeaderPut (now (s .entry)) h (now (s .exit)) ⌝ }
 {
     put_two(s, 0, Header::EDITION);

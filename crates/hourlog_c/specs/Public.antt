@@ -7,6 +7,7 @@ use Prim.Native.Nat.{ℕ}
 use Rattle.store.specs.Plain.{Append, Call, Count, Day, Free, Insert, Reach as ReachOf, Reading, Set, Strike}
 use Rattle.store.specs.Call.{call, freshCall}
 use Rattle.store.specs.Items.{Items}
+use Rattle.answers.specs.Refusals.{notSound}
 use Rattle.answers.specs.Image.{Reply}
 use Rattle.image.specs.Check.{check}
 use Rattle.image.specs.Calls.{lengthCall, writeCall}
@@ -85,8 +86,8 @@ Ends (ImageMatch i q) a t = ((r : Bag) × MatchCall i q r × (a ≡ ofBag r)) ×
 -- 'store, every other live call and freeze: 10, not sound', where a sound store is told clause by clause
 abbrev pub Ten : PublicCall → End → Type 0
 Ten (Fresh s P C) a = Unit {0}
-Ten (Live c s) a = (a ≡ refusal 10) ↔ (Items s → ⊥)
-Ten (Freeze s e i) a = (a ≡ refusal 10) ↔ (Items s → ⊥)
+Ten (Live c s) a = (a ≡ refusal notSound) ↔ (Items s → ⊥)
+Ten (Freeze s e i) a = (a ≡ refusal notSound) ↔ (Items s → ⊥)
 Ten (ImageLength xs e) a = Unit {0}
 Ten (ImageWrite xs e i) a = Unit {0}
 Ten (ImageCheck i) a = Unit {0}

@@ -4,7 +4,7 @@ use mathlib.Core.List.{List, _++_}
 use Prim.Native.Nat.{ℕ}
 use lib.ListN.{length, drop}
 use lib.Dec.{leb}
-use Rattle.answers.specs.Refusals.{listTooLong, pageSizeWrong, totalTooHigh}
+use Rattle.answers.specs.Refusals.{bufferShort, listTooLong, pageSizeWrong, totalTooHigh}
 use Rattle.lists.specs.Lists.{sum, pick}
 use Rattle.image.specs.Image.{image, maxHours, maxTotal}
 use Rattle.answers.specs.Image.{Reply, given, refused}
@@ -27,7 +27,7 @@ unwritten out k = record { reply = refused k; bytes = out }
 
 -- an image into a buffer: 4, 'shorter than the image'; 'Bytes beyond the image are left unchanged.'
 unfoldable pub put : List ℕ → List ℕ → Result
-put out i = pick (leb (length i) (length out)) (record { reply = given (length i); bytes = i ++ drop (length i) out }) (unwritten out 4)
+put out i = pick (leb (length i) (length out)) (record { reply = given (length i); bytes = i ++ drop (length i) out }) (unwritten out bufferShort)
 
 -- past the refusals of length
 unfoldable pub putAfter : Reply → List ℕ → List ℕ → Result

@@ -16,7 +16,7 @@ use Rattle.store.specs.Plain.{Day, tell}
 use Rattle.store.specs.Reading.{listIn, read}
 use Rattle.store.specs.Sound.{sound}
 use Rattle.store.specs.Call.{Called}
-use Rattle.store.specs.Code.Heads.{Heads}
+use Rattle.store.specs.Code.Head.{HeadOf}
 use Rattle.store.specs.declared.header.Header.{Header}
 use Rattle.store.proofs.CallLaws.{answered-as, refused-as}
 use Rattle.store.proofs.DayLaws.{not-over, over, wrong-list}
@@ -30,7 +30,7 @@ module _ {s : List ℕ} (e : sound s ≡ true) (d : ℕ) (cs : List ℕ) where
   pub day-16 : {t : Bool} → t ≡ changesFit cs → not t ≡ true → Called (Day d cs) s (refused 16) s
   day-16 {t} w f = refused-as (Day d cs) s 16 e (wrong-list d cs (read s .plain) (sym w ∙ not-true t f))
 
-  module _ (f : changesFit cs ≡ true) {H : Header} (h : Heads s H) {start more : ℕ} (a : start ≡ dayStart cs d) (b : more ≡ dayHours cs d) where
+  module _ (f : changesFit cs ≡ true) {H : Header} (h : HeadOf s H) {start more : ℕ} (a : start ≡ dayStart cs d) (b : more ≡ dayHours cs d) where
     abbrev xs : List ℕ
     xs = listIn s
 

@@ -9,16 +9,16 @@ use Rattle.store.specs.Plain.{Outcome, Plain, need}
 use Rattle.store.specs.Layout.{bytesOf, cellsFrom}
 use Rattle.store.specs.Reading.{cellsOf, listIn, pagesOf, read}
 use Rattle.store.specs.Call.{settle}
-use Rattle.store.specs.Code.Heads.{Heads}
+use Rattle.store.specs.Code.Head.{HeadOf}
 use Rattle.store.specs.declared.header.Header.{Header}
 use Rattle.store.proofs.ChangeLaws.{change-done, change-short}
 use Rattle.store.proofs.SoundFacts.{Facts, facts}
 use Rattle.move_plan.specs.declared.shift.Shift.{Shift}
-use Rattle.move_plan.specs.Code.Plan.{Counted, Leaves, Needs, Planned, shifted}
+use Rattle.move_plan.specs.Code.Plan.{Counted, Leaves, Needs, Shiftable, shifted}
 use Rattle.move_pages.specs.Code.Pass.{Enough, Settles}
 use Rattle.live_move.specs.Code.Carry.{Carried, shiftOf}
 
-module _ {s : List ℕ} {m : Shift} (h : Planned s m) where
+module _ {s : List ℕ} {m : Shift} (h : Shiftable s m) where
   f : Facts s
   f = facts s (h .is-sound)
 
@@ -32,7 +32,7 @@ module _ {s : List ℕ} {m : Shift} (h : Planned s m) where
   header-in = omega (arith, f .long)
 
   -- the cells, by what the header says of them
-  module _ {H : Header} (hd : Heads s H) {had asked : ℕ} (n : Needs s m had asked) where
+  module _ {H : Header} (hd : HeadOf s H) {had asked : ℕ} (n : Needs s m had asked) where
     left : H .free + need (listIn s) (pagesOf s) ≡ cellsOf s
     left = omega (arith, hd .free-is, f .free-and-need)
 
@@ -62,7 +62,7 @@ module _ {s : List ℕ} {m : Shift} (h : Planned s m) where
           → Counted m (listIn s) old (m .end) → Counted m ys new (m .end) → m .end ≤ length leaving → m .end ≤ length old → m .end ≤ length new
           → Enough s base m leaving old new all
       enough-now eb ea hl ho hn ll lo ln = record {
-        planned = h;
+        shiftable = h;
         enough = cells-fit;
         base-is = eb ∙ ap cellsFrom (hd .pages-is);
         leaves = hl;

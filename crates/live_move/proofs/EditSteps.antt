@@ -8,12 +8,13 @@ use lib.ListN.{length}
 use borrow.Author.Tests.{le-leb, le-ltb, lt-leb, lt-ltb}
 use Rattle.lists.specs.Lists.{pick, sum}
 use Rattle.answers.specs.Store.{Answer, refused}
+use Rattle.store.specs.Limits.{maxTotal}
 use Rattle.store.specs.Plain.{Call, Insert, Outcome, Plain, Strike, change, inserted, page, step, struck}
 use Rattle.store.specs.Layout.{bytesOf}
 use Rattle.store.specs.Reading.{listIn, pagesOf, read}
 use Rattle.store.specs.Sound.{sound}
 use Rattle.store.specs.Call.{Called, after, settle}
-use Rattle.store.specs.Code.Heads.{Heads}
+use Rattle.store.specs.Code.Head.{HeadOf}
 use Rattle.store.specs.declared.header.Header.{Header}
 use Rattle.store.proofs.CallLaws.{refused-as, sound-call}
 use Rattle.store.proofs.ChangeLaws.{change-over}
@@ -21,7 +22,7 @@ use Rattle.store.proofs.Inserting.{length-inserted, length-struck, sum-inserted
 use Rattle.store.proofs.SoundFacts.{Facts, facts}
 use Rattle.move_counts.specs.Code.Turned.{turned}
 use Rattle.move_plan.specs.declared.shift.Shift.{Shift}
-use Rattle.move_plan.specs.Code.Plan.{Planned, shifted}
+use Rattle.move_plan.specs.Code.Plan.{Shiftable, shifted}
 use Rattle.move_plan.proofs.Shifting.{insert-above, insert-below, insert-is, insert-moves, strike-above, strike-below, strike-is, strike-moves}
 use Rattle.live_move.specs.Code.Carry.{Carried, shiftOf}
 
@@ -63,7 +64,7 @@ module _ (L : Plain) (i v : ℕ) where
   unfolding step pick
   strike-room l = rw (lt-leb N i l)
 
-module _ {s : List ℕ} (i v : ℕ) (e : sound s ≡ true) {H : Header} (hd : Heads s H) where
+module _ {s : List ℕ} (i v : ℕ) (e : sound s ≡ true) {H : Header} (hd : HeadOf s H) where
   f : Facts s
   f = facts s e
 
@@ -82,7 +83,7 @@ module _ {s : List ℕ} (i v : ℕ) (e : sound s ≡ true) {H : Header} (hd : He
   pub total-asks : (sound s ≡ true) × (H .pages ≡ pagesOf s)
   total-asks = (e, hd .pages-is)
 
-  pub total-low : {all : ℕ} → all ≡ sum xs → all ≤ 4294967295
+  pub total-low : {all : ℕ} → all ≡ sum xs → all ≤ maxTotal
   total-low a = omega (arith, a, f .total-fits)
 
   -- ---- insert
@@ -100,7 +101,7 @@ module _ {s : List ℕ} (i v : ℕ) (e : sound s ≡ true) {H : Header} (hd : He
       the-step : step (Insert i v) (read s .plain) ≡ change (read s .plain) grown
       the-step = insert-room (read s .plain) i v (omega (arith, hours-same)) (omega (arith, hours-same, pages-same))
 
-      pub insert-3 : 4294967295 < all + v → Called (Insert i v) s (refused 3) s
+      pub insert-3 : maxTotal < all + v → Called (Insert i v) s (refused 3) s
       insert-3 l = refused-as (Insert i v) s 3 e (the-step ∙ change-over (read s .plain) grown (omega (arith, ea, sum-inserted xs i v)))
 
       abbrev up : Shift
@@ -118,9 +119,9 @@ module _ {s : List ℕ} (i v : ℕ) (e : sound s ≡ true) {H : Header} (hd : He
       up-long : length (shifted up xs) ≡ H .hours + 1
       up-long = ap length up-is ∙ omega (arith, length-inserted xs i v (omega (arith, hours-same)), hours-same)
 
-      pub insert-planned : all + v ≤ 4294967295 → Planned s up × (H .hours + 1 ≡ length (shifted up xs))
+      pub insert-shiftable : all + v ≤ maxTotal → Shiftable s up × (H .hours + 1 ≡ length (shifted up xs))
       unfolding turned pick
-      insert-planned l = (
+      insert-shiftable l = (
         record {
           is-sound = e;
           within = omega arith;
@@ -142,7 +143,7 @@ module _ {s : List ℕ} (i v : ℕ) (e : sound s ≡ true) {H : Header} (hd : He
       insert-go {t} {r} w = carried-as (Insert i v) s t up r e (the-step ∙ ap (change (read s .plain)) (sym up-is)) w
 
 -- ---- strike
-module _ {s : List ℕ} (i : ℕ) (e : sound s ≡ true) {H : Header} (hd : Heads s H) where
+module _ {s : List ℕ} (i : ℕ) (e : sound s ≡ true) {H : Header} (hd : HeadOf s H) where
   abbrev was : List ℕ
   was = listIn s
 
@@ -168,9 +169,9 @@ module _ {s : List ℕ} (i : ℕ) (e : sound s ≡ true) {H : Header} (hd : Head
     down-long : length (shifted down was) ≡ H .hours - 1
     down-long = ap length down-is ∙ omega (arith, length-struck was i (omega (arith, long-is)), long-is)
 
-    pub strike-planned : Planned s down × (H .hours - 1 ≡ length (shifted down was))
+    pub strike-shiftable : Shiftable s down × (H .hours - 1 ≡ length (shifted down was))
     unfolding turned pick
-    strike-planned = (
+    strike-shiftable = (
       record {
         is-sound = e;
         within = omega arith;

@@ -11,21 +11,21 @@ ghost use mathlib.Core.Path.{_≡_};
 ghost use lib.ListN.{length};
 ghost use Rattle.answers.specs.Store.{told};
 ghost use Rattle.store.specs.Reading.{listIn};
-ghost use Rattle.move_plan.specs.Code.Plan.{Planned, shifted};
+ghost use Rattle.move_plan.specs.Code.Plan.{Shiftable, shifted};
 ghost use Rattle.live_move.specs.Code.Carry.{Carried};
 
 // Carries a shift out in a sound store, whose number of hours becomes the one given. The counts that leave the pages and the pages' cells stand
 // in three arrays, so that a page that has moved does not spoil the next one's, and each page's cells are worked out once for its old sum and
 // once for its new one.
 pub(crate) fn carry_out(s: &mut [u8], m: Shift, hours: usize) -> Answer
-    requires { ⌜ Planned (now s) m × (hours ≡ length (shifted m (listIn (now s)))) ⌝ }
+    requires { ⌜ Shiftable (now s) m × (hours ≡ length (shifted m (listIn (now s)))) ⌝ }
     ensures { λ r. ⌜ Carried (now (s .entry)) m (told r) (now (s .exit)) ⌝ }
 {
     let head = Header::of(s);
     let base = cells_from(head.pages);
-    let mut leaving = [0u32; 1024];
-    let mut old = [0u8; 1024];
-    let mut new = [0u8; 1024];
+    let mut leaving = [0u32; Header::MAX_PAGES];
+    let mut old = [0u8; Header::MAX_PAGES];
+    let mut new = [0u8; Header::MAX_PAGES];
     look_up(s, base, m, &mut leaving, &mut old);
     let cells = size_up(s, m, &leaving, &old, &mut new);
     let had = cells.had;

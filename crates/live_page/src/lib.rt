@@ -5,6 +5,7 @@ ghost use mathlib.Core.Bool.{true};
 ghost use mathlib.Core.Path.{_≡_};
 ghost use Prim.Native.Nat.{_+_, _≤_, _<_};
 ghost use Rattle.lists.specs.Lists.{reached, sum};
+ghost use Rattle.store.specs.Limits.{pageHours};
 ghost use Rattle.store.specs.Plain.{page};
 ghost use Rattle.store.specs.Reading.{listIn, pagesOf};
 ghost use Rattle.store.specs.Sound.{sound};
@@ -12,7 +13,7 @@ ghost use Rattle.live_page.specs.Code.Page.{Walked};
 
 // Count j of page p and acc, and with keep = 1 the counts before it in the page too.
 pub fn walk_page(s: &[u8], p: usize, j: usize, acc: u64, keep: u64) -> u64
-    requires { ⌜ (sound (now s) ≡ true) × (p < pagesOf (now s)) × (j < 64) × (acc < 4294967296) × (keep ≤ 1) ⌝ }
+    requires { ⌜ (sound (now s) ≡ true) × (p < pagesOf (now s)) × (j < pageHours) × (acc < 4294967296) × (keep ≤ 1) ⌝ }
     ensures { λ r. ⌜ Walked (page (listIn (now (s .entry))) p) j acc keep r ⌝ }
 {
     let e = entry_of(s, p);

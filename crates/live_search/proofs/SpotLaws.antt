@@ -7,6 +7,7 @@ use native.Mathlib.Omega.{arith}
 use native.Mathlib.Decide.{decLe}
 use Rattle.lists.specs.Lists.{reached, reading, sum}
 use Rattle.bits.specs.Numbers.{numberAt}
+use Rattle.store.specs.Limits.{maxTotal}
 use Rattle.store.specs.Plain.{page}
 use Rattle.store.specs.Reading.{listIn, pagesOf}
 use Rattle.store.specs.Sound.{sound}
@@ -42,7 +43,7 @@ module _ (s : List ℕ) (e : sound s ≡ true) where
     next : before + all ≡ reading xs (64 * (p + 1))
     next = omega (arith, reading-next xs p, g .before-is, g .all-is)
 
-    pub small : before + all ≤ 4294967295
+    pub small : before + all ≤ maxTotal
     small = omega (arith, next, before-fits s e (64 * (p + 1)))
 
     -- a figure that a page does not reach is reached in a later one

@@ -2,6 +2,7 @@
 ghost use mathlib.Core.Path.{_≡_};
 ghost use Prim.Native.Nat.{_<_};
 ghost use lib.ListN.{length};
+ghost use Rattle.store.specs.Limits.{pageHours};
 ghost use Rattle.move_counts.specs.Code.Turned.{leavesAt, pulled, pushed, turned};
 
 // The last index of a page.
@@ -9,7 +10,7 @@ const LAST: usize = 63;
 
 // v comes in before index j, and the last count leaves.
 fn push(counts: &mut [u32], j: usize, v: u32)
-    requires { ⌜ (length (now counts) ≡ 64) × (j < 64) ⌝ }
+    requires { ⌜ (length (now counts) ≡ pageHours) × (j < pageHours) ⌝ }
     ensures { λ _. ⌜ now (counts .exit) ≡ pushed (now (counts .entry)) j v ⌝ }
 {
     let mut k = j;
@@ -25,7 +26,7 @@ fn push(counts: &mut [u32], j: usize, v: u32)
 
 // Count j leaves, and v comes in at the end.
 fn pull(counts: &mut [u32], j: usize, v: u32)
-    requires { ⌜ (length (now counts) ≡ 64) × (j < 64) ⌝ }
+    requires { ⌜ (length (now counts) ≡ pageHours) × (j < pageHours) ⌝ }
     ensures { λ _. ⌜ now (counts .exit) ≡ pulled (now (counts .entry)) j v ⌝ }
 {
     let mut k = j;
@@ -38,7 +39,7 @@ fn pull(counts: &mut [u32], j: usize, v: u32)
 
 // One of the two: of a strike, or of an insert.
 pub fn turn(counts: &mut [u32], strike: bool, j: usize, v: u32)
-    requires { ⌜ (length (now counts) ≡ 64) × (j < 64) ⌝ }
+    requires { ⌜ (length (now counts) ≡ pageHours) × (j < pageHours) ⌝ }
     ensures { λ _. ⌜ now (counts .exit) ≡ turned strike (now (counts .entry)) j v ⌝ }
 {
     if strike {
@@ -50,8 +51,8 @@ pub fn turn(counts: &mut [u32], strike: bool, j: usize, v: u32)
 
 // The index of the count that leaves.
 pub fn leaves_at(strike: bool, j: usize) -> usize
-    requires { ⌜ j < 64 ⌝ }
-    ensures { λ r. ⌜ (r ≡ leavesAt strike j) × (r < 64) ⌝ }
+    requires { ⌜ j < pageHours ⌝ }
+    ensures { λ r. ⌜ (r ≡ leavesAt strike j) × (r < pageHours) ⌝ }
 {
     if strike { j } else { LAST }
 }

@@ -11,28 +11,28 @@ use Rattle.store.specs.Plain.{page}
 use Rattle.store.specs.Layout.{Model, bytesOf, cellsFrom, entryAt, resize}
 use Rattle.store.specs.Limits.{maxTotal}
 use Rattle.store.specs.Reading.{listIn, pagesOf, read}
-use Rattle.store.specs.Sound.{Chained}
+use Rattle.store.specs.Code.Chained.{Chained}
 use Rattle.store.specs.Code.Hours.{OfPage}
-use Rattle.store.specs.Code.Links.{Ready, rewritten}
+use Rattle.store.specs.Code.Links.{Rewritable, rewritten}
 use Rattle.store.specs.Code.Moving.{repaged}
 use Rattle.store.proofs.Chained.{OffPage}
 use Rattle.store.proofs.Holds.{page-length}
 use Rattle.store.proofs.HourLaws.{getD-le}
-use Rattle.store.proofs.PageChange.{page-bytes, page-ready}
+use Rattle.store.proofs.PageChange.{page-bytes, page-rewritable}
 use Rattle.store.proofs.Repaged.{repaged-length, repaged-off, repaged-own}
-use Rattle.store.proofs.SoundFacts.{HeldFacts, held-facts, sum-read}
+use Rattle.store.proofs.SoundFacts.{ChainFacts, chain-facts, sum-read}
 use Rattle.store.proofs.Spread.{Spread, spread-of}
 use Rattle.move_counts.specs.Code.Turned.{leavesAt}
 use Rattle.move_counts.proofs.Turning.{turned-length, turned-sum}
 use Rattle.move_page.specs.declared.PageMove.{PageMove}
-use Rattle.move_page.specs.Code.Move.{Movable, Moved, after}
+use Rattle.move_page.specs.Code.Move.{Movable, Moved, countsAfter}
 
 -- the page that is read
 pub of-page : {s : List ℕ} {base e before : ℕ} {c : PageMove} {hours : ℕ} → Movable s base c hours → e ≡ entryAt (c .page) → before ≡ numberAt s e 4
     → OfPage s base (c .page) before (c .old)
 of-page {s} {c = c} q ee eb =
     let b = sum-read s (c .page) _ _ ee eb in
-    record { held = q .held; base-is = q .base-is; inside = q .inside; sum-is = b; cells-is = q .old-is ∙ ap cells (sym b) }
+    record { holds = q .holds; base-is = q .base-is; inside = q .inside; sum-is = b; cells-is = q .old-is ∙ ap cells (sym b) }
 
 module _ {s : List ℕ} {base : ℕ} {c : PageMove} {hours : ℕ} (q : Movable s base c hours) where
   abbrev m : Model
@@ -48,10 +48,10 @@ module _ {s : List ℕ} {base : ℕ} {c : PageMove} {hours : ℕ} (q : Movable s
   x = page (listIn s) p
 
   abbrev zs : List ℕ
-  zs = repaged P (listIn s) p (after s c)
+  zs = repaged P (listIn s) p (countsAfter s c)
 
-  f : HeldFacts s
-  f = held-facts s (q .held)
+  f : ChainFacts s
+  f = chain-facts s (q .holds)
 
   abbrev g : Chained m
   g = f .chained
@@ -59,14 +59,14 @@ module _ {s : List ℕ} {base : ℕ} {c : PageMove} {hours : ℕ} (q : Movable s
   lp : p < P
   lp = omega (arith, q .inside, f .pages-are)
 
-  own : page zs p ≡ after s c
-  own = repaged-own P (listIn s) p (after s c) lp (turned-length (c .strike) x (c .at) (c .count) (page-length (listIn s) p) (q .within))
+  own : page zs p ≡ countsAfter s c
+  own = repaged-own P (listIn s) p (countsAfter s c) lp (turned-length (c .strike) x (c .at) (c .count) (page-length (listIn s) p) (q .within))
 
   off : OffPage (listIn s) zs p
-  off = repaged-off P (listIn s) p (after s c) (g .hours)
+  off = repaged-off P (listIn s) p (countsAfter s c) (g .hours)
 
   long : length zs ≡ 64 * P
-  long = repaged-length P (listIn s) p (after s c)
+  long = repaged-length P (listIn s) p (countsAfter s c)
 
   fits : sum (page zs p) ≤ maxTotal
   fits = rw own (q .fits)
@@ -98,7 +98,7 @@ module _ {s : List ℕ} {base : ℕ} {c : PageMove} {hours : ℕ} (q : Movable s
     pub out-low : getD counts leaves 0 ≤ before
     out-low = omega (arith, out-is, before-is, getD-le x (leavesAt (c .strike) (c .at)))
 
-    pub sum-now : before - getD counts leaves 0 + c .count ≡ sum (after s c)
+    pub sum-now : before - getD counts leaves 0 + c .count ≡ sum (countsAfter s c)
     sum-now =
         omega (
           arith,
@@ -108,7 +108,7 @@ module _ {s : List ℕ} {base : ℕ} {c : PageMove} {hours : ℕ} (q : Movable s
           turned-sum (c .strike) x (c .at) (c .count) (page-length (listIn s) p) (q .within),
         )
 
-    module _ {turned : List ℕ} (et : turned ≡ after s c) {code : List ℕ} {sum′ : ℕ} (es : sum′ ≡ before - getD counts leaves 0 + c .count)
+    module _ {turned : List ℕ} (et : turned ≡ countsAfter s c) {code : List ℕ} {sum′ : ℕ} (es : sum′ ≡ before - getD counts leaves 0 + c .count)
         (ek : code ≡ pageBytes turned ++ replicate (240 - 30 * cells sum′) 0) where
       sum-own : sum′ ≡ sum (page zs p)
       sum-own = es ∙ sum-now ∙ sym (ap sum own)
@@ -125,8 +125,8 @@ module _ {s : List ℕ} {base : ℕ} {c : PageMove} {hours : ℕ} (q : Movable s
       hours-as : hours ≡ length zs
       hours-as = q .hours-are ∙ ap (λ (z : ℕ). 64 * z) (f .pages-are) ∙ sym long
 
-      pub ready-now : Ready s base p (c .old) (c .new) code sum′ hours
-      ready-now = rw (base-as, code-as, hours-as, old-long, new-as, sum-own) (page-ready m g s sp zs p off lp (omega (arith, long)) fits room)
+      pub can-rewrite : Rewritable s base p (c .old) (c .new) code sum′ hours
+      can-rewrite = rw (base-as, code-as, hours-as, old-long, new-as, sum-own) (page-rewritable m g s sp zs p off lp (omega (arith, long)) fits room)
 
       same : rewritten s base p (c .old) (c .new) code sum′ hours
           ≡ rewritten s (cellsFrom P) p (length (getD (m .chains) p [])) (cells (sum (page zs p)))

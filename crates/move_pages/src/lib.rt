@@ -13,7 +13,7 @@ ghost use lib.ListN.{length};
 ghost use Rattle.lists.specs.Lists.{pick};
 ghost use Rattle.store.specs.Reading.{listIn};
 ghost use Rattle.move_plan.specs.Code.Plan.{shifted};
-ghost use Rattle.move_pages.specs.Code.Pass.{Enough, Passes, Settles, Some, pagesIn};
+ghost use Rattle.move_pages.specs.Code.Pass.{Enough, PassTo, Settles, Some, pagesIn};
 
 // Whether a page is to move in this pass, from the cells that it has and is to have.
 fn due(late: bool, old: usize, new: usize) -> bool
@@ -38,7 +38,7 @@ fn pass_page(
     p: usize,
 )
     requires { ⌜ Some base m (now leaving) (now old) (now new) hours late p (now s) × (m .first ≤ p) × (p < m .end) ⌝ }
-    ensures { λ _. ⌜ Passes base m (now (leaving .entry)) (now (old .entry)) (now (new .entry)) hours late p (λ _. p + 1) (now (s .entry)) (now (s .exit)) ⌝ }
+    ensures { λ _. ⌜ PassTo base m (now (leaving .entry)) (now (old .entry)) (now (new .entry)) hours late p (λ _. p + 1) (now (s .entry)) (now (s .exit)) ⌝ }
 {
     let has = old[p] as usize;
     let gets = new[p] as usize;
@@ -68,7 +68,7 @@ fn pass(
     late: bool,
 )
     requires { ⌜ Some base m (now leaving) (now old) (now new) hours late 0 (now s) ⌝ }
-    ensures { λ _. ⌜ Passes base m (now (leaving .entry)) (now (old .entry)) (now (new .entry)) hours late 0 pagesIn (now (s .entry)) (now (s .exit)) ⌝ }
+    ensures { λ _. ⌜ PassTo base m (now (leaving .entry)) (now (old .entry)) (now (new .entry)) hours late 0 pagesIn (now (s .entry)) (now (s .exit)) ⌝ }
 {
     let end = m.end;
     let mut p = m.first;

@@ -10,6 +10,7 @@ use Rattle.lists.specs.Lists.{sum}
 use Rattle.lists.proofs.Sums.{sum-most, sum-next}
 use Rattle.lists.proofs.Tables.{tabulate-ext}
 use Rattle.bits.specs.Numbers.{numberAt}
+use Rattle.store.specs.Limits.{maxPages, maxTotal}
 use Rattle.store.specs.Layout.{cellsFrom, entryAt}
 use Rattle.store.specs.PageCode.{cells}
 use Rattle.store.specs.Plain.{need, page}
@@ -20,11 +21,11 @@ use Rattle.store.proofs.Holds.{page-length}
 use Rattle.store.proofs.HourLaws.{getD-le}
 use Rattle.store.proofs.PageCodeLaws.{cells-most}
 use Rattle.store.proofs.ReadBack.{page-le}
-use Rattle.store.proofs.SoundFacts.{Facts, facts, sound-held, sum-read}
+use Rattle.store.proofs.SoundFacts.{Facts, facts, sound-holds, sum-read}
 use Rattle.move_counts.specs.Code.Turned.{leavesAt}
 use Rattle.move_counts.proofs.Turning.{turned-sum}
 use Rattle.move_plan.specs.declared.shift.Shift.{Shift}
-use Rattle.move_plan.specs.Code.Plan.{Counted, Leaves, Needs, Planned, comesTo, leavesPage, near, shifted}
+use Rattle.move_plan.specs.Code.Plan.{Counted, Leaves, Needs, Shiftable, comesTo, leavesPage, near, shifted}
 use Rattle.move_plan.proofs.Shifting.{near-low}
 
 -- one page more
@@ -47,7 +48,7 @@ pub counted-next : (m : Shift) (xs l : List ℕ) (p v : ℕ) → p < length l �
 counted-next m xs l p v = step-at (wanted xs) l (m .first) p v
 
 -- ---- a page of the store
-module _ {s : List ℕ} {m : Shift} (h : Planned s m) where
+module _ {s : List ℕ} {m : Shift} (h : Shiftable s m) where
   abbrev xs : List ℕ
   xs = listIn s
 
@@ -57,7 +58,7 @@ module _ {s : List ℕ} {m : Shift} (h : Planned s m) where
   f : Facts s
   f = facts s (h .is-sound)
 
-  pub pages-few : m .end ≤ 1024
+  pub pages-few : m .end ≤ maxPages
   pages-few = omega (arith, h .inside, f .pages-high)
 
   pub entry-in : (p : ℕ) → p < m .end → entryAt p + 6 ≤ length s
@@ -67,12 +68,12 @@ module _ {s : List ℕ} {m : Shift} (h : Planned s m) where
     sum-page : r ≡ sum (page xs p)
     sum-page = sum-read s p _ _ ee er ∙ f .sums p (omega (arith, h .inside))
 
-    pub sum-fits : r ≤ 4294967295
+    pub sum-fits : r ≤ maxTotal
     sum-fits = omega (arith, sum-page, page-le xs p, f .total-fits)
 
     pub of-page : {base k : ℕ} → base ≡ cellsFrom (pagesOf s) → k ≡ cells r → OfPage s base p r k
     of-page eb ek = record {
-      held = sound-held s (h .is-sound);
+      holds = sound-holds s (h .is-sound);
       base-is = eb;
       inside = omega (arith, h .inside);
       sum-is = sum-read s p _ _ ee er;
@@ -103,7 +104,7 @@ module _ {s : List ℕ} {m : Shift} (h : Planned s m) where
             turned-sum (m .strike) (page xs p) (near m p) (comesTo m leaving p) (page-length xs p) (near-low m p (h .within)),
           )
 
-      pub after-fits : r - getD leaving p 0 + c ≤ 4294967295
+      pub after-fits : r - getD leaving p 0 + c ≤ maxTotal
       after-fits = omega (arith, sum-after, page-le ys p, h .total)
 
       pub cells-asked : {k : ℕ} → k ≡ cells (r - getD leaving p 0 + c) → k ≡ wanted ys p

@@ -7,7 +7,7 @@ use store::header::entry_at;
 ghost use Prim.Native.Nat.{_≤_};
 ghost use lib.ListN.{length};
 ghost use Rattle.store.specs.Reading.{listIn};
-ghost use Rattle.move_plan.specs.Code.Plan.{Counted, Leaves, Needs, Planned, shifted};
+ghost use Rattle.move_plan.specs.Code.Plan.{Counted, Leaves, Needs, Shiftable, shifted};
 
 // The cells that the pages which move have, and those that they are to have.
 pub struct Cells {
@@ -17,7 +17,7 @@ pub struct Cells {
 
 // Puts the cells that each page is to have into new, at its number, and adds up: each page's sum loses one count and gains another.
 pub fn size_up(s: &[u8], m: Shift, leaving: &[u32], old: &[u8], new: &mut [u8]) -> Cells
-    requires { ⌜ Planned (now s) m × (m .end ≤ length (now leaving)) × (m .end ≤ length (now old)) × (m .end ≤ length (now new)) ⌝ }
+    requires { ⌜ Shiftable (now s) m × (m .end ≤ length (now leaving)) × (m .end ≤ length (now old)) × (m .end ≤ length (now new)) ⌝ }
     requires { ⌜ Leaves m (listIn (now s)) (now leaving) (m .end) × Counted m (listIn (now s)) (now old) (m .end) ⌝ }
     ensures { λ r. ⌜ Needs (now (s .entry)) m (r .had) (r .asked) ⌝ }
     ensures { λ r. ⌜ Counted m (shifted m (listIn (now (s .entry)))) (now (new .exit)) (m .end) ⌝ }

@@ -1,8 +1,8 @@
 // What is asked: an hour to be inserted or struck, by its page and its index there.
-use move_counts::leaves_at;
 ghost use mathlib.Core.Path.{_≡_};
 ghost use Prim.Native.Nat.{_≤_, _<_};
 ghost use lib.ListN.{length};
+ghost use Rattle.store.specs.Limits.{pageHours};
 ghost use Rattle.move_plan.specs.Code.Plan.{comesTo, near as nearOf};
 
 // Whether the hour is struck or inserted, its page, its index in it, the count that is inserted, and the page behind the last that moves.
@@ -16,8 +16,8 @@ pub struct Shift {
 
 // The index in page p from which its counts move.
 pub fn near(m: Shift, p: usize) -> usize
-    requires { ⌜ m .at < 64 ⌝ }
-    ensures { λ r. ⌜ (r ≡ nearOf m p) × (r < 64) ⌝ }
+    requires { ⌜ m .at < pageHours ⌝ }
+    ensures { λ r. ⌜ (r ≡ nearOf m p) × (r < pageHours) ⌝ }
 {
     if p == m.first { m.at } else { 0 }
 }

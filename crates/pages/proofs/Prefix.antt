@@ -9,6 +9,7 @@ use lib.Seq.{take-all}
 use Rattle.lists.specs.Lists.{reading, sum, tabulate}
 use Rattle.lists.proofs.Pages.{reading-behind}
 use Rattle.lists.proofs.Sums.{sum-next, sum-take-le}
+use Rattle.store.specs.Limits.{maxTotal}
 use Rattle.store.specs.Plain.{page}
 use Rattle.store.specs.Reading.{listIn, pagesOf, sumIn}
 use Rattle.store.specs.Sound.{sound}
@@ -36,7 +37,7 @@ module _ (s : List ℕ) (e : sound s ≡ true) where
       ∙ sym (reading-next xs p)
       ∙ ap (λ (z : ℕ). reading xs (64 * z)) (add-one p)
 
-  pub before-fits : (i : ℕ) → reading xs i ≤ 4294967295
+  pub before-fits : (i : ℕ) → reading xs i ≤ maxTotal
   before-fits i = omega (arith, sum-take-le i xs, facts s e .total-fits)
 
   pub before-all : reading xs (64 * pagesOf s) ≡ sum xs

@@ -10,7 +10,7 @@ use Rattle.store.specs.PageCode.{cells, pageBytes}
 use Rattle.store.specs.Plain.{page}
 use Rattle.store.specs.Layout.{Model, cellsFrom, entryAt}
 use Rattle.store.specs.Reading.{chainIn, codeIn, pagesOf, read, sumIn}
-use Rattle.store.specs.Sound.{Chained}
+use Rattle.store.specs.Code.Chained.{Chained}
 use Rattle.store.specs.Code.Links.{Steps}
 use Rattle.store.specs.Code.Hours.{OfPage}
 use Rattle.store.proofs.Joining.{chain-left, walk-steps}
@@ -18,7 +18,7 @@ use Rattle.store.proofs.PageChange.{page-and-spare}
 use Rattle.store.proofs.PageCodeLaws.{cells-most, length-page}
 use Rattle.store.proofs.ReadBack.{code-in}
 use Rattle.store.proofs.Spread.{spread-of}
-use Rattle.store.proofs.SoundFacts.{HeldFacts, held-facts}
+use Rattle.store.proofs.SoundFacts.{ChainFacts, chain-facts}
 use Rattle.pages.specs.Gathered.{Gathered, codeFrom}
 
 module _ {s : List ℕ} {base p t k : ℕ} (o : OfPage s base p t k) where
@@ -28,8 +28,8 @@ module _ {s : List ℕ} {base p t k : ℕ} (o : OfPage s base p t k) where
   abbrev x : List ℕ
   x = page (m .plain .counts) p
 
-  f : HeldFacts s
-  f = held-facts s (o .held)
+  f : ChainFacts s
+  f = chain-facts s (o .holds)
 
   abbrev g : Chained m
   g = f .chained
@@ -90,7 +90,7 @@ module _ {s : List ℕ} {base p t k : ℕ} (o : OfPage s base p t k) where
   -- the same with the sum that the entry says
   pub as-said : OfPage s base p (sumIn s p) k
   as-said = record {
-    held = o .held;
+    holds = o .holds;
     base-is = o .base-is;
     inside = o .inside;
     sum-is = refl;

@@ -28,11 +28,11 @@ fn copy_chain(s: &[u8], base: usize, e: usize, k: usize, out: &mut [u8])
 }
 
 // The code of page p of such a store, from its k cells, with zeros behind it to the bytes of eight cells.
-pub fn gather_at(s: &[u8], base: usize, p: usize, k: usize) -> [u8; 240]
+pub fn gather_at(s: &[u8], base: usize, p: usize, k: usize) -> [u8; Header::PAGE_ROOM]
     requires { ⌜ OfPage (now s) base p (sumIn (now s) p) k ⌝ }
     ensures { λ r. ⌜ Gathered (now (s .entry)) p r ⌝ }
 {
-    let mut code = [0u8; 240];
+    let mut code = [0u8; Header::PAGE_ROOM];
     copy_chain(s, base, entry_at(p) + 4, k, &mut code);
     code
 }

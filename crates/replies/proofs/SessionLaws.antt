@@ -8,7 +8,8 @@ use lib.ListN.{length, replicate, length-replicate}
 use borrow.Author.Tests.{eq-eqb}
 use Rattle.lists.specs.Lists.{concat, every, pick}
 use Rattle.store.proofs.LimitLaws.{limits-hold}
-use Rattle.store.specs.Limits.{fits, limitTests}
+use Rattle.store.specs.Limits.{limitTests}
+use Rattle.store.specs.Fitting.{fits}
 use Rattle.store.specs.Plain.{Call, plainFresh}
 use Rattle.answers.specs.Store.{refused}
 use Rattle.store.specs.Layout.{Model, bytesOf, fresh, size}

@@ -9,7 +9,8 @@ use lib.Seq.{take-at, length-take-le}
 use lib.Dec.{leb, eqb}
 use Rattle.lists.specs.Lists.{pick, every}
 use Rattle.lists.proofs.Parts.{take-smaller}
-use Rattle.store.specs.Limits.{fits, limitTests, maxPages, maxCells}
+use Rattle.store.specs.Limits.{limitTests, maxPages, maxCells}
+use Rattle.store.specs.Fitting.{fits}
 use Rattle.store.specs.Plain.{Call}
 use Rattle.answers.specs.Store.{Answer as Said, changed, answered, refused}
 use Rattle.store.specs.Layout.{size, bytesOf, fresh}

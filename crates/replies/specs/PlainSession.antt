@@ -1,6 +1,7 @@
 -- The same session on the plain list, which knows nothing of the store's bytes. Assumes nothing.
 use mathlib.Core.List.{List, [], _∷_, map}
 use Prim.Native.Nat.{ℕ}
+use Rattle.answers.specs.Refusals.{freshWrong, notSound}
 use Rattle.lists.specs.Lists.{concat, every, pick}
 use Rattle.store.specs.Plain.{Call, Plain, next, plainFresh, step}
 use Rattle.store.specs.Limits.{limitTests}
@@ -24,18 +25,18 @@ pub record PlainTurn : Type 0 where
 
 -- 'Before n the store is empty: refused 10'
 abbrev pub plainChange : Call → Board → PlainTurn
-plainChange c empty = record { reply = Refused 10; board = empty }
+plainChange c empty = record { reply = Refused notSound; board = empty }
 plainChange c (holds L) = record { reply = replyTo (step c L .answer); board = holds (next c L) }
 
 abbrev pub plainAsk : Call → Board → PlainTurn
-plainAsk c empty = record { reply = Refused 10; board = empty }
+plainAsk c empty = record { reply = Refused notSound; board = empty }
 plainAsk c (holds L) = record { reply = replyTo (step c L .answer); board = holds L }
 
 -- 'pages P from 1 to 1,024; cells C from 1 to 1,800', else n is refused 9 and changes nothing
 abbrev pub plainStart : ℕ → ℕ → Board → PlainTurn
 plainStart P C b =
     pick (every (limitTests P C)) (record { reply = Done; board = holds (plainFresh P C) })
-    (record { reply = Refused 9; board = b })
+    (record { reply = Refused freshWrong; board = b })
 
 unfoldable pub plainTurn : Command → Board → PlainTurn
 plainTurn (Fresh P C) b = plainStart P C b

@@ -4,7 +4,6 @@ use mathlib.Core.List.{[], _∷_, map}
 use Rattle.lists.specs.Lists.{pick}
 use Rattle.session.specs.Ascii.{bytes}
 use Rattle.session_print.specs.Printed.{decimalIn, printed}
-use Rattle.session_print.specs.declared.Reply.{Reply}
 use Rattle.session_print.specs.declared.Reply.the-variants.{Number, Done, Refused, Unknown}
 
 answers :

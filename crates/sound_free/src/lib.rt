@@ -9,7 +9,9 @@ ghost use mathlib.Core.Path.{_≡_};
 ghost use Prim.Native.Nat.{_+_, _*_, _≤_, _<_};
 ghost use lib.ListN.{length, replicate};
 ghost use Rattle.lists.specs.Lists.{part, same};
+ghost use Rattle.store.specs.Layout.{headerLength};
 ghost use Rattle.store.specs.Limits.{maxCells};
+ghost use Rattle.store.specs.Code.Checked.{marksLength};
 ghost use Rattle.sound_free.specs.Code.Free.{allMarked, freeFits};
 
 // Whether the 30 bytes from index at on are 0: whether the numbers in them add up to 0.
@@ -28,7 +30,7 @@ fn zero_block(s: &[u8], at: usize) -> bool
 
 // Whether each cell, 1 to cells, has its mark.
 fn all_marked(marks: &[u8], cells: usize) -> bool
-    requires { ⌜ (length (now marks) ≡ 1801) × (cells ≤ maxCells) ⌝ }
+    requires { ⌜ (length (now marks) ≡ marksLength) × (cells ≤ maxCells) ⌝ }
     ensures { λ r. ⌜ r ≡ allMarked cells (now (marks .entry)) ⌝ }
 {
     let mut c = 1;
@@ -43,8 +45,8 @@ fn all_marked(marks: &[u8], cells: usize) -> bool
 
 // Walks the free chain with the marks that the pages left: whether it has as many cells as the header says, clear and none met before, and
 // whether every cell is then marked.
-pub fn free_fits(s: &[u8], base: usize, cells: usize, met: [u8; 1801]) -> bool
-    requires { ⌜ (length (now s) ≡ base + 32 * cells) × (16 ≤ base) × (base < 65536) × (cells ≤ maxCells) × (length met ≡ 1801) ⌝ }
+pub fn free_fits(s: &[u8], base: usize, cells: usize, met: [u8; Header::MARKS]) -> bool
+    requires { ⌜ (length (now s) ≡ base + 32 * cells) × (headerLength ≤ base) × (base < 65536) × (cells ≤ maxCells) × (length met ≡ marksLength) ⌝ }
     ensures { λ r. ⌜ r ≡ freeFits (now (s .entry)) base cells met ⌝ }
 {
     let mut marks = met;

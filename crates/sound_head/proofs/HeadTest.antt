@@ -11,11 +11,12 @@ use borrow.Author.Tests.{eq-eqb, eqb-true, le-leb, leb-true}
 use Rattle.lists.specs.Lists.{every, part, same, sum, tabulate}
 use Rattle.lists.proofs.Tests.{agree, each, every-last, every-no, every-of, same-eq, same-is}
 use Rattle.bits.specs.Numbers.{number, numberAt}
-use Rattle.store.specs.Code.Heads.{Heads}
+use Rattle.store.specs.Code.Head.{HeadOf}
 use Rattle.store.specs.Reading.{cellsOf, hoursOf, pagesOf, sumIn}
 use Rattle.store.specs.declared.header.Header.{Header}
 use Rattle.store.specs.Code.Checked.{headTests}
-use Rattle.store.specs.Limits.{Fitting, fitTests, fits, maxCells, maxPages, maxTotal}
+use Rattle.store.specs.Limits.{maxCells, maxPages, maxTotal}
+use Rattle.store.specs.Fitting.{Fitting, fitTests, fits}
 use Rattle.store.proofs.LimitLaws.{fits-so}
 use Rattle.store.specs.Layout.{headerLength, size}
 
@@ -48,7 +49,7 @@ pub record HeadNumbers (s : List ℕ) : Type 0 where
   pub hours : hoursOf s ≤ 64 * pagesOf s
 
 -- they leave the last: the total
-pub head-last : (s : List ℕ) → HeadNumbers s → leb (sum (tabulate (pagesOf s) (sumIn s))) 4294967295 ≡ every (headTests s)
+pub head-last : (s : List ℕ) → HeadNumbers s → leb (sum (tabulate (pagesOf s) (sumIn s))) maxTotal ≡ every (headTests s)
 unfolding headTests
 head-last s h =
     let P : ℕ = pagesOf s in
@@ -121,7 +122,7 @@ pub record Bounds (s : List ℕ) (h : Header) : Type 0 where
   pub cells-high : h .cells ≤ maxCells
   pub size : length s ≡ size (h .pages) (h .cells)
 
-pub bounds : (s : List ℕ) (h : Header) → every (headTests s) ≡ true → Heads s h → Bounds s h
+pub bounds : (s : List ℕ) (h : Header) → every (headTests s) ≡ true → HeadOf s h → Bounds s h
 bounds s h e f =
     let w = headed s e in
     record {

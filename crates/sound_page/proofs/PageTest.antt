@@ -33,7 +33,7 @@ use Rattle.tree.proofs.WalkLaws.{walk-tree}
 use Rattle.store.specs.PageCode.{cells, pageBytes, pageCounts}
 use Rattle.store.specs.Code.Checked.{quiet}
 use Rattle.store.proofs.PageCodeLaws.{cells-hold, cells-most, cells-none, page-bits}
-use Rattle.sound_page.specs.Code.Page.{Handed, pageFits}
+use Rattle.sound_page.specs.Code.Page.{HandedPage, pageFits}
 use Rattle.sound_page.proofs.Quiet.{quiet-all, quiet-none, quiet-some, quiet-sum}
 
 -- a list as two of its parts
@@ -41,7 +41,7 @@ split-front : (b : List ℕ) (n r : ℕ) → r ≤ n → take n b ≡ take r b +
 split-front b n r l = ap (λ (z : ℕ). take z b) {x = n} {y = r + (n - r)} (omega arith) ∙ take-add r (n - r) b
 
 -- ---- the gathered code of page p, of sum s
-module _ {code : List ℕ} {s p N : ℕ} (g : Handed code s p N) where
+module _ {code : List ℕ} {s p N : ℕ} (g : HandedPage code s p N) where
   abbrev B : List ℕ
   B = bits code
 

@@ -11,11 +11,11 @@ ghost use Rattle.tree.specs.Read.{counts};
 ghost use Rattle.tree.specs.Exact.{exact};
 ghost use Rattle.store.specs.PageCode.{cells};
 ghost use Rattle.store.specs.Code.Checked.{quiet};
-ghost use Rattle.sound_page.specs.Code.Page.{Handed, pageFits};
+ghost use Rattle.sound_page.specs.Code.Page.{HandedPage, pageFits};
 
 // Whether the hours from the number of hours logged on are zero in page p of sum s: those before them have the whole sum.
 fn hours_fit(code: &[u8], s: u64, p: usize, hours: usize) -> bool
-    requires { ⌜ Handed (now code) s p hours × (exact 6 s (bits (now code)) 0 ≡ true) ⌝ }
+    requires { ⌜ HandedPage (now code) s p hours × (exact 6 s (bits (now code)) 0 ≡ true) ⌝ }
     ensures { λ r. ⌜ r ≡ same (counts 6 s (bits (now (code .entry))) 0) (quiet hours p (counts 6 s (bits (now (code .entry))) 0)) ⌝ }
 {
     let first = Header::HOURS * p;
@@ -30,7 +30,7 @@ fn hours_fit(code: &[u8], s: u64, p: usize, hours: usize) -> bool
 
 // Whether the bytes of k cells at the front of code are those of page p of sum s, by the table of small reserves that is lent.
 pub fn page_fits(code: &[u8], table: &[u8; 512], k: usize, s: u64, p: usize, hours: usize) -> bool
-    requires { ⌜ Handed (now code) s p hours × (k ≡ cells s) × Tabled (now table) ⌝ }
+    requires { ⌜ HandedPage (now code) s p hours × (k ≡ cells s) × Tabled (now table) ⌝ }
     ensures { λ r. ⌜ r ≡ pageFits (take (30 * k) (now (code .entry))) s p hours ⌝ }
 {
     if s == 0 {

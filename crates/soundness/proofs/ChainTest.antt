@@ -13,12 +13,12 @@ use Rattle.lists.proofs.Parts.{length-part, sets-splice}
 use Rattle.bits.specs.Bits.{bits}
 use Rattle.bits.specs.Numbers.{Number, numberAt}
 use Rattle.tree.proofs.Shape.{length-counts}
-use Rattle.store.specs.Code.Heads.{Heads}
+use Rattle.store.specs.Code.Head.{HeadOf}
 use Rattle.store.specs.Layout.{cellAt, entryAt, cellsFrom}
 use Rattle.store.specs.PageCode.{cells, pageCounts}
 use Rattle.store.specs.Reading.{chainFrom, chainIn, codeIn, pageIn, sumIn}
 use Rattle.store.specs.declared.header.Header.{Header}
-use Rattle.store.specs.Code.Checked.{and-then, checkPages, ends-well, go-on, pageTests, walkMarks}
+use Rattle.store.specs.Code.Checked.{and-then, checkPages, ends-well, go-on, marksLength, pageTests, walkMarks}
 use Rattle.sound_page.specs.Code.Page.{pageFits}
 use Rattle.sound_free.specs.Code.Free.{freeFits}
 use Rattle.soundness.specs.Code.Chains.{chainsFit}
@@ -43,13 +43,13 @@ cellsOn s P C N p n m a =
 abbrev pub SoFar : List ℕ → ℕ → ℕ → ℕ → ℕ → List ℕ → ℕ → Type 0
 SoFar s P p j n code c = codeIn s (cellsFrom P) (chainIn s P p) ≡ take (30 * j) code ++ codeIn s (cellsFrom P) (chainFrom s (cellsFrom P) n c)
 
-pub pages-start : (s : List ℕ) (h : Header) → Heads s h → chainsFit s ≡ pagesOn s (h .pages) (h .cells) (h .hours) 0 (replicate 1801 0)
+pub pages-start : (s : List ℕ) (h : Header) → HeadOf s h → chainsFit s ≡ pagesOn s (h .pages) (h .cells) (h .hours) 0 (replicate marksLength 0)
 unfolding chainsFit pagesOn
 pages-start s h f =
     let P : ℕ = h .pages in
     let e : P ≡ P - 0 = omega arith in
     rw (sym (f .pages-is), sym (f .cells-is), sym (f .hours-is))
-    (ap (λ (k : ℕ). ends-well (checkPages s P (h .cells) (h .hours) k 0 (replicate 1801 0)) (freeFits s (cellsFrom P) (h .cells))) e)
+    (ap (λ (k : ℕ). ends-well (checkPages s P (h .cells) (h .hours) k 0 (replicate marksLength 0)) (freeFits s (cellsFrom P) (h .cells))) e)
 
 module _ (s : List ℕ) (P C N p : ℕ) (m : List ℕ) where
   pub pages-end : P ≤ p → pagesOn s P C N p m ≡ freeFits s (cellsFrom P) C m

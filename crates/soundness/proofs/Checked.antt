@@ -10,7 +10,7 @@ use Rattle.bits.specs.Numbers.{numberAt}
 use Rattle.store.specs.Reading.{cellsOf, chainFrom, codeIn, hoursOf, pagesOf}
 use Rattle.store.specs.Sound.{sound}
 use Rattle.store.specs.Limits.{maxCells}
-use Rattle.store.specs.Code.Checked.{Walk, and-then, broken, checkPages, ends-well, headTests, walkMarks, whole}
+use Rattle.store.specs.Code.Checked.{Walk, and-then, broken, checkPages, ends-well, headTests, marksLength, walkMarks, whole}
 use Rattle.store.proofs.Verdict.{chainsWalk, checked, endTests, verdict}
 use Rattle.sound_free.specs.Code.Free.{allMarked, freeFits, freeFrom}
 use Rattle.soundness.specs.Code.Chains.{chainsFit}
@@ -37,7 +37,7 @@ module _ (s : List ℕ) (lC : cellsOf s ≤ maxCells) where
   F = numberAt s 8 2
 
   abbrev pages : Walk
-  pages = checkPages s (pagesOf s) (cellsOf s) (hoursOf s) (pagesOf s) 0 (replicate 1801 0)
+  pages = checkPages s (pagesOf s) (cellsOf s) (hoursOf s) (pagesOf s) 0 (replicate marksLength 0)
 
   -- the tests at the end: that the chains have all cells needs none of its own
   free-is : (m : List ℕ) (w : Walk) → pages ≡ whole m → walkMarks s (cellsFrom P) C F m 6 ≡ w

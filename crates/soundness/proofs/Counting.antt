@@ -19,7 +19,7 @@ use Rattle.store.specs.Layout.{cellAt, cellsFrom, entryAt}
 use Rattle.store.specs.PageCode.{cells}
 use Rattle.store.specs.Reading.{sumIn}
 use Rattle.store.specs.Limits.{maxCells}
-use Rattle.store.specs.Code.Checked.{Walk, checkPages, go-on, pageTests, walkMarks, whole}
+use Rattle.store.specs.Code.Checked.{Walk, checkPages, go-on, marksLength, pageTests, walkMarks, whole}
 use Rattle.store.proofs.CheckChain.{goes-on, goes-then, whole-is}
 use Rattle.sound_free.specs.Code.Free.{allMarked}
 use Rattle.sound_free.proofs.CellTest.{cellTest}
@@ -81,15 +81,16 @@ sum-ones zero = refl
 sum-ones (suc n) = omega (arith, sum-ones n)
 
 -- where every cell is marked, the pages and the free chain, of f cells, have as many cells as there are
-pub number-all : (s : List ℕ) (P C N f : ℕ) (m m′ : List ℕ) → C ≤ maxCells → checkPages s P C N P 0 (replicate 1801 0) ≡ whole m
+pub number-all : (s : List ℕ) (P C N f : ℕ) (m m′ : List ℕ) → C ≤ maxCells → checkPages s P C N P 0 (replicate marksLength 0) ≡ whole m
     → walkMarks s (cellsFrom P) C f m 6 ≡ whole m′ → allMarked C m′ ≡ true → sum (tabulate P (λ p. cells (sumIn s p))) + f ≡ C
 unfolding allMarked
 number-all s P C N f m m′ l h w e =
-    let z : C < length (replicate {A = ℕ} 1801 0) = omega (arith, length-replicate {A = ℕ} 1801 0) in
-    let u = pages-marks s P C N P 0 (replicate 1801 0) m z h in
+    let z : C < length (replicate {A = ℕ} marksLength 0) = omega (arith, length-replicate {A = ℕ} marksLength 0) in
+    let u = pages-marks s P C N P 0 (replicate marksLength 0) m z h in
     let v = walk-marks s P C N f m m′ 6 (omega (arith, u .1)) w in
     let t : tabulate P (λ j. cells (sumIn s (0 + j))) ≡ tabulate P (λ p. cells (sumIn s p)) =
     tabulate-ext P (λ j. cells (sumIn s (0 + j))) (λ p. cells (sumIn s p))
     (λ j _. ap (λ (z : ℕ). cells (sumIn s z)) {x = 0 + j} {y = j} (omega arith)) in
-    let nothing : marked C (replicate 1801 0) ≡ 0 = sum-nones C (λ j. getD (replicate {A = ℕ} 1801 0) (suc j) 0) (λ j. zeros-at 1801 (suc j)) in
+    let nothing : marked C (replicate marksLength 0) ≡ 0 =
+    sum-nones C (λ j. getD (replicate {A = ℕ} marksLength 0) (suc j) 0) (λ j. zeros-at marksLength (suc j)) in
     omega (arith, u .0, v .0, ap sum t, nothing, ap sum (same-is _ _ e), sum-ones C)

@@ -28,8 +28,8 @@ pub(crate) fn chains_fit(s: &[u8], table: &[u8; 512]) -> bool
     let cells = h.cells;
     let hours = h.hours;
     let base = cells_from(pages);
-    let mut marks = [0u8; 1801];
-    let mut code = [0u8; 240];
+    let mut marks = [0u8; Header::MARKS];
+    let mut code = [0u8; Header::PAGE_ROOM];
     let mut ok = true;
     let mut p = 0;
     'pages: while p < pages {

@@ -2,7 +2,7 @@
 use mathlib.Core.Path.{_≡_, refl, sym, ap, _∙_}
 use mathlib.Core.Bool.{Bool, true, false, not}
 use mathlib.Core.List.{List, [], _∷_, _++_}
-use Prim.Native.Nat.{ℕ, _+_, _*_, _≤_, _<_}
+use Prim.Native.Nat.{ℕ, _*_, _≤_, _<_}
 use native.Mathlib.Omega.{arith}
 use lib.ListN.{length, set}
 use borrow.Author.Tests.{eq-eqb, ne-eqb, le-leb, lt-leb, not-false, not-true}
@@ -13,7 +13,7 @@ use Rattle.store.specs.Layout.{bytesOf}
 use Rattle.store.specs.Reading.{listIn, read}
 use Rattle.store.specs.Sound.{sound}
 use Rattle.store.specs.Call.{Called, after, call, settle}
-use Rattle.store.specs.Code.Heads.{Heads}
+use Rattle.store.specs.Code.Head.{HeadOf}
 use Rattle.store.specs.declared.header.Header.{Header}
 use Rattle.store.specs.Code.Hours.{Asked, Changes, changeTo, withHour}
 use Rattle.store.proofs.SoundFacts.{facts}
@@ -80,7 +80,7 @@ append-full : (L : Plain) (v : ℕ) → 64 * L .pages ≤ length (L .counts) →
 unfolding step pick
 append-full L v l = rw (le-leb (64 * L .pages) (length (L .counts)) l)
 
-module _ {s : List ℕ} (v : ℕ) (e : sound s ≡ true) {H : Header} (h : Heads s H) where
+module _ {s : List ℕ} (v : ℕ) (e : sound s ≡ true) {H : Header} (h : HeadOf s H) where
   pub append-11 : 64 * H .pages ≤ H .hours → Called (Append v) s (refused 11) s
   append-11 l = let f = facts s e in refused-as (Append v) s 11 e
       (append-full (read s .plain) v (omega (arith, f .hours-are, f .pages-are, h .hours-is, h .pages-is)))
@@ -112,7 +112,7 @@ set-past : (L : Plain) (i v : ℕ) → length (L .counts) ≤ i → step (Set i 
 unfolding step pick
 set-past L i v l = rw (le-leb (length (L .counts)) i l)
 
-module _ {s : List ℕ} (i v : ℕ) (e : sound s ≡ true) {H : Header} (h : Heads s H) where
+module _ {s : List ℕ} (i v : ℕ) (e : sound s ≡ true) {H : Header} (h : HeadOf s H) where
   pub set-7 : H .hours ≤ i → Called (Set i v) s (refused 7) s
   set-7 l = refused-as (Set i v) s 7 e (set-past (read s .plain) i v (omega (arith, facts s e .hours-are, h .hours-is)))
 

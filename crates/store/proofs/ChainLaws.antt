@@ -2,7 +2,7 @@
 use mathlib.Core.Path.{_≡_, sym, ap, ap₂, _∙_}
 use mathlib.Core.Bool.{true}
 use mathlib.Core.List.{List, [], _∷_, _++_}
-use Prim.Native.Nat.{ℕ, _+_, _-_, _≤_, _<_}
+use Prim.Native.Nat.{ℕ, _+_, _≤_, _<_}
 use native.Mathlib.Omega.{arith}
 use lib.ListN.{length, getD}
 use Rattle.lists.specs.Lists.{concat, occurrences, sum, tabulate}
@@ -19,7 +19,6 @@ use Rattle.store.proofs.Joining.{chain-head, chain-left, chain-right, c
 use Rattle.store.proofs.Keep.{spare-is}
 use Rattle.store.proofs.Numbers.{number-two}
 use Rattle.store.proofs.PageChange.{page-and-spare}
-use Rattle.store.proofs.Chained.{good-chained}
 use Rattle.store.proofs.ReadBack.{chain-is, pages-is, read-is, sum-is}
 use Rattle.store.proofs.SoundLaws.{sound-bytes}
 use Rattle.store.proofs.Spread.{spread-of}

@@ -1,7 +1,7 @@
 -- The chains alone: the laws between two changes of a page. Assumes nothing.
 use mathlib.Core.Path.{_≡_, _∙_}
 use mathlib.Core.List.{List, [], _++_}
-use Prim.Native.Nat.{ℕ, _+_, _-_, _*_, _≤_, _<_}
+use Prim.Native.Nat.{ℕ, _+_, _*_, _≤_, _<_}
 use native.Mathlib.Omega.{arith}
 use native.Mathlib.Decide.{ℕ-discrete}
 use lib.ListN.{length, getD, take, drop, set, length-append, length-take, length-drop, length-set}
@@ -11,7 +11,8 @@ use Rattle.store.specs.Layout.{Model, resize}
 use Rattle.store.specs.Limits.{maxTotal}
 use Rattle.store.specs.PageCode.{cells}
 use Rattle.store.specs.Plain.{page}
-use Rattle.store.specs.Sound.{Chained, Good, onChains}
+use Rattle.store.specs.Sound.{Good, onChains}
+use Rattle.store.specs.Code.Chained.{Chained}
 use Rattle.lists.proofs.Occurrences.{length-concat-set, occurrences-append, occurrences-concat-set, occurrences-split}
 use Rattle.lists.proofs.Pages.{paged-le}
 

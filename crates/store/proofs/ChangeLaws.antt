@@ -8,22 +8,23 @@ use lib.ListN.{length, getD, set, replicate}
 use borrow.Author.Tests.{lt-ltb, le-ltb}
 use Rattle.lists.specs.Lists.{pick, sum}
 use Rattle.bits.specs.Numbers.{numberAt}
+use Rattle.store.specs.Limits.{maxTotal}
 use Rattle.store.specs.PageCode.{cells, pageBytes}
 use Rattle.store.specs.Plain.{Outcome, Plain, change, need, page, relisted}
 use Rattle.answers.specs.Store.{changed, refused}
 use Rattle.store.specs.Layout.{Model, bytesOf, entryAt, cellsFrom}
 use Rattle.store.specs.Reading.{listIn, pagesOf, read, sumIn}
 use Rattle.store.specs.Call.{settle}
-use Rattle.store.specs.Code.Links.{Ready, rewritten}
-use Rattle.store.specs.Code.Heads.{Heads}
+use Rattle.store.specs.Code.Links.{Rewritable, rewritten}
+use Rattle.store.specs.Code.Head.{HeadOf}
 use Rattle.store.specs.declared.header.Header.{Header}
 use Rattle.store.specs.Code.Hours.{Asked, Changes, OfPage, changeTo, withHour}
 use Rattle.store.proofs.HourLaws.{With, getD-le, page-hour, page-set, page-sum, tabulate-le, with-hour}
 use Rattle.store.proofs.Keep.{need-off}
 use Rattle.store.proofs.OnePage.{settled-off}
-use Rattle.store.proofs.PageChange.{ready, rewritten-bytes}
+use Rattle.store.proofs.PageChange.{rewritable, rewritten-bytes}
 use Rattle.store.proofs.ReadBack.{page-le}
-use Rattle.store.proofs.SoundFacts.{Facts, facts, sound-held, sum-read}
+use Rattle.store.proofs.SoundFacts.{Facts, facts, sound-holds, sum-read}
 use Rattle.store.proofs.Spread.{Spread, spread-of}
 
 -- a rise and a fall: 'one of the two is 0'
@@ -35,22 +36,22 @@ one-side a b = go (decLe a b)
     go (no l) = let e : b - a ≡ 0 = omega arith in rw e (omega arith)
 
 module _ (L : Plain) (ys : List ℕ) where
-  pub change-over : 4294967295 < sum ys → change L ys ≡ record { answer = refused 3; list = L }
+  pub change-over : maxTotal < sum ys → change L ys ≡ record { answer = refused 3; list = L }
   unfolding change pick
-  change-over a = rw (lt-ltb 4294967295 (sum ys) a)
+  change-over a = rw (lt-ltb maxTotal (sum ys) a)
 
-  pub change-short : sum ys ≤ 4294967295 → L .cells < need ys (L .pages) → change L ys ≡ record { answer = refused 12; list = L }
+  pub change-short : sum ys ≤ maxTotal → L .cells < need ys (L .pages) → change L ys ≡ record { answer = refused 12; list = L }
   unfolding change pick
-  change-short a b = rw (le-ltb 4294967295 (sum ys) a, lt-ltb (L .cells) (need ys (L .pages)) b)
+  change-short a b = rw (le-ltb maxTotal (sum ys) a, lt-ltb (L .cells) (need ys (L .pages)) b)
 
-  pub change-done : sum ys ≤ 4294967295 → need ys (L .pages) ≤ L .cells
+  pub change-done : sum ys ≤ maxTotal → need ys (L .pages) ≤ L .cells
       → change L ys ≡ record {
         answer = changed (need ys (L .pages) - need (L .counts) (L .pages))
             (need (L .counts) (L .pages) - need ys (L .pages));
         list = relisted L ys;
       }
   unfolding change pick
-  change-done a b = rw (le-ltb 4294967295 (sum ys) a, le-ltb (L .cells) (need ys (L .pages)) b)
+  change-done a b = rw (le-ltb maxTotal (sum ys) a, le-ltb (L .cells) (need ys (L .pages)) b)
 
 -- what the code has read: the page's counts, its sum, its cells, and the list's total
 pub record Has (s : List ℕ) (i : ℕ) (counts : List ℕ) (before old total : ℕ) : Type 0 where
@@ -65,18 +66,18 @@ pub has : (s : List ℕ) (i : ℕ) {e : ℕ} {counts : List ℕ} {before old tot
 has s i a e b c d = record { counts-are = a; before-is = sum-read s (i / 64) _ _ e b; old-is = c; total-is = d }
 
 -- the page of an hour that is asked for
-pub of-page : {s : List ℕ} {i base e before old : ℕ} {H : Header} → Asked s i → Heads s H → base ≡ cellsFrom (H .pages) → e ≡ entryAt (i / 64) → before ≡ numberAt s e 4
-    → old ≡ cells before
+pub of-page : {s : List ℕ} {i base e before old : ℕ} {H : Header} → Asked s i → HeadOf s H → base ≡ cellsFrom (H .pages) → e ≡ entryAt (i / 64)
+    → before ≡ numberAt s e 4 → old ≡ cells before
     → OfPage s base (i / 64) before old
 of-page {s} {i} q hd eb e b c = record {
-  held = sound-held s (q .is-sound);
+  holds = sound-holds s (q .is-sound);
   base-is = eb ∙ ap cellsFrom (hd .pages-is);
   inside = omega (arith, q .inside);
   sum-is = sum-read s (i / 64) _ _ e b;
   cells-is = c;
 }
 
-module _ {s : List ℕ} {i : ℕ} (v : ℕ) (q : Asked s i) {H : Header} (hd : Heads s H) {counts : List ℕ} {before old total : ℕ}
+module _ {s : List ℕ} {i : ℕ} (v : ℕ) (q : Asked s i) {H : Header} (hd : HeadOf s H) {counts : List ℕ} {before old total : ℕ}
     (h : Has s i counts before old total) where
   abbrev m : Model
   m = read s
@@ -121,10 +122,10 @@ module _ {s : List ℕ} {i : ℕ} (v : ℕ) (q : Asked s i) {H : Header} (hd : H
   pub was-before : was ≤ before
   was-before = omega (arith, was-is, before-eq, page-hour xs i, getD-le (page xs p) (i % 64))
 
-  pub total-fits : total ≤ 4294967295
+  pub total-fits : total ≤ maxTotal
   total-fits = omega (arith, h .total-is, f .total-fits)
 
-  pub before-fits : before ≤ 4294967295
+  pub before-fits : before ≤ maxTotal
   before-fits = omega (arith, h .before-is, f .sum-fits p lp)
 
   total-new : sum ys ≡ total - was + v
@@ -140,7 +141,7 @@ module _ {s : List ℕ} {i : ℕ} (v : ℕ) (q : Asked s i) {H : Header} (hd : H
   pub sum-new : after ≡ sum (set counts (i % 64) v)
   sum-new = sym (ap sum counts-new ∙ after-eq)
 
-  pub after-fits : total - was + v ≤ 4294967295 → after ≤ 4294967295
+  pub after-fits : total - was + v ≤ maxTotal → after ≤ maxTotal
   after-fits l = omega (arith, page-le ys p, total-new, after-eq)
 
   abbrev new : ℕ
@@ -166,13 +167,13 @@ module _ {s : List ℕ} {i : ℕ} (v : ℕ) (q : Asked s i) {H : Header} (hd : H
     bytes = f .same ∙ sym (ap (λ (o : Outcome). bytesOf (settle m o (o .answer))) e);
   }
 
-  pub end-3 : 4294967295 < total - was + v → Changes s i v (refused 3) s
+  pub end-3 : maxTotal < total - was + v → Changes s i v (refused 3) s
   end-3 l = unchanged 3 (change-over (m .plain) ys (omega (arith, total-new)))
 
-  pub end-12 : {n : ℕ} → total - was + v ≤ 4294967295 → n ≡ new → old + H .free < n → Changes s i v (refused 12) s
+  pub end-12 : {n : ℕ} → total - was + v ≤ maxTotal → n ≡ new → old + H .free < n → Changes s i v (refused 12) s
   end-12 l e r = unchanged 12 (change-short (m .plain) ys (omega (arith, total-new)) (omega (arith, needs, left, hd .free-is)))
 
-  module _ (l : total - was + v ≤ 4294967295) {n : ℕ} (en : n ≡ new) (r : n ≤ old + H .free) {hours : ℕ} (eh : hours ≡ max (H .hours) (i + 1))
+  module _ (l : total - was + v ≤ maxTotal) {n : ℕ} (en : n ≡ new) (r : n ≤ old + H .free) {hours : ℕ} (eh : hours ≡ max (H .hours) (i + 1))
       {code : List ℕ} (ec : code ≡ pageBytes (set counts (i % 64) v) ++ replicate (240 - 30 * new) 0) where
     old-le : old ≤ need xs (m .plain .pages)
     unfolding need
@@ -205,12 +206,13 @@ module _ {s : List ℕ} {i : ℕ} (v : ℕ) (q : Asked s i) {H : Header} (hd : H
     inside : i < 64 * m .plain .pages
     inside = omega (arith, q .inside, pages-eq)
 
-    small : sum ys ≤ 4294967295
+    small : sum ys ≤ maxTotal
     small = omega (arith, total-new)
 
     -- what the rewriting of the page asks for
-    pub ready-now : {base : ℕ} → base ≡ cellsFrom (H .pages) → Ready s base p old n code after hours
-    ready-now eb = rw (eb, code-as, pages-as, hours-as, chain-as, cells-as, ← after-eq) (ready m (f .good) s sp ys i (w .off) inside fits small enough)
+    pub can-rewrite : {base : ℕ} → base ≡ cellsFrom (H .pages) → Rewritable s base p old n code after hours
+    can-rewrite eb =
+        rw (eb, code-as, pages-as, hours-as, chain-as, cells-as, ← after-eq) (rewritable m (f .good) s sp ys i (w .off) inside fits small enough)
 
     same-bytes : {base : ℕ} → base ≡ cellsFrom (H .pages) → rewritten s base p old n code after hours
         ≡ rewritten s (cellsFrom (m .plain .pages)) p (length (getD (m .chains) p [])) (cells (sum (page ys p)))

@@ -10,7 +10,8 @@ use Rattle.bits.specs.Numbers.{little}
 use Rattle.store.specs.Layout.{Model, bytesOf, cellAt, entry, header, laidAt, lay, layAll, layPages, size, cellsFrom, entryAt}
 use Rattle.store.specs.PageCode.{cells}
 use Rattle.store.specs.Plain.{page}
-use Rattle.store.specs.Sound.{Chained, Good, isCell}
+use Rattle.store.specs.Sound.{Good, isCell}
+use Rattle.store.specs.Code.Chained.{Chained}
 use Rattle.lists.proofs.Parts.{part-skip, part-sub}
 use Rattle.lists.proofs.Tables.{chop, concat-at, concat-each, length-tabulate, tabulate-ext}
 use Rattle.store.proofs.Chained.{good-chained}

@@ -2,7 +2,7 @@
 use mathlib.Core.Path.{_≡_, refl, sym, ap, subst, _∙_}
 use mathlib.Core.Bool.{true}
 use mathlib.Core.List.{List, [], _∷_}
-use Prim.Native.Nat.{ℕ, zero, suc, _+_, _-_, _*_, _≤_, _<_}
+use Prim.Native.Nat.{ℕ, zero, suc, _+_, _*_, _≤_, _<_}
 use native.Mathlib.Decide.{decLe}
 use native.Mathlib.Omega.{arith}
 use lib.ListN.{length, getD, replicate, length-append, List·getD-eq-default}
@@ -14,10 +14,9 @@ use Rattle.lists.proofs.Occurrences.{length-concat, occurrences-append, occurre
 use Rattle.lists.proofs.Parts.{part-front}
 use Rattle.lists.proofs.Tables.{getD-tabulate, length-tabulate}
 use Rattle.lists.proofs.Tests.{Each, same-eq}
-use Rattle.bits.specs.Numbers.{little, number, numberAt}
+use Rattle.bits.specs.Numbers.{little, numberAt}
 use Rattle.bits.proofs.Little.{stored}
 use Rattle.bits.specs.Bits.{bits}
-use Rattle.tree.specs.Read.{counts}
 use Rattle.tree.proofs.Shape.{length-counts}
 use Rattle.store.specs.PageCode.{cells, pageBytes, pageCounts}
 use Rattle.store.specs.Plain.{page}

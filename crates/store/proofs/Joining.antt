@@ -1,7 +1,7 @@
 -- A chain and the free chain are joined, and cut again. Assumes nothing.
 use mathlib.Core.Path.{_≡_, refl, sym, ap, _∙_}
 use mathlib.Core.List.{List, [], _∷_, _++_}
-use Prim.Native.Nat.{ℕ, _+_, _-_, _*_, _≤_}
+use Prim.Native.Nat.{ℕ, _+_, _*_, _≤_}
 use native.Mathlib.Omega.{arith}
 use lib.ListN.{length}
 use Rattle.lists.specs.Lists.{first, occurrences, part}
@@ -9,7 +9,6 @@ use Rattle.bits.specs.Numbers.{little, number, numberAt}
 use Rattle.store.specs.Limits.{maxCells}
 use Rattle.store.specs.Layout.{cellAt}
 use Rattle.store.specs.Code.Links.{Steps, cut, joined, linkAfter, put}
-use Rattle.store.specs.PageCode.{cells}
 use Rattle.store.specs.Sound.{isCell}
 use Rattle.store.proofs.FreshLaws.{cell-is, cell-le}
 use Rattle.lists.proofs.Occurrences.{occurrences-append, one-equal, one-same}

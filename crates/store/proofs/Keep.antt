@@ -1,10 +1,11 @@
 -- A change of one count keeps a store good. Assumes nothing.
 use mathlib.Core.Path.{_≡_, ap, _∙_}
 use mathlib.Core.List.{List, []}
-use Prim.Native.Nat.{ℕ, _+_, _-_, _*_, _/_, _≤_, _<_}
+use Prim.Native.Nat.{ℕ, _+_, _*_, _/_, _≤_, _<_}
 use native.Mathlib.Omega.{arith}
 use lib.ListN.{length, getD, length-append}
 use Rattle.lists.specs.Lists.{concat, sum, tabulate}
+use Rattle.store.specs.Limits.{maxTotal}
 use Rattle.store.specs.Layout.{Model, resize}
 use Rattle.store.specs.PageCode.{cells}
 use Rattle.store.specs.Plain.{need, page}
@@ -41,7 +42,7 @@ spare-is m g =
 
 -- the page of hour i is given the cells that it now needs
 pub keep : (m : Model) (ys : List ℕ) (i : ℕ) → Good m → Off (m .plain .counts) ys i → i < 64 * m .plain .pages
-    → length ys ≤ 64 * m .plain .pages → sum ys ≤ 4294967295 → need ys (m .plain .pages) ≤ m .plain .cells
+    → length ys ≤ 64 * m .plain .pages → sum ys ≤ maxTotal → need ys (m .plain .pages) ≤ m .plain .cells
     → Good (resize m ys (i / 64) (cells (sum (page ys (i / 64)))))
 unfolding page resize
 keep m ys i g o li ly lt lc =

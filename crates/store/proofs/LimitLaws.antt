@@ -11,7 +11,8 @@ use borrow.Author.Tests.{eq-eqb, eqb-true, le-leb, leb-true}
 use Rattle.lists.specs.Lists.{every}
 use Rattle.lists.proofs.Tests.{each, every-of}
 use Rattle.store.specs.Layout.{size}
-use Rattle.store.specs.Limits.{Fitting, Limits, fitTests, fits, limitTests, maxCells, maxPages}
+use Rattle.store.specs.Limits.{Limits, limitTests, maxCells, maxPages}
+use Rattle.store.specs.Fitting.{Fitting, fitTests, fits}
 
 pub limits-hold : (P C : ℕ) → every (limitTests P C) ≡ true → Limits P C
 limits-hold P C e =

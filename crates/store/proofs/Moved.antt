@@ -1,7 +1,7 @@
 -- A page's chain and the free chain joined, filled and cut again. Assumes nothing.
 use mathlib.Core.Path.{_≡_, ap, _∙_}
 use mathlib.Core.List.{List, [], _∷_, _++_}
-use Prim.Native.Nat.{ℕ, _+_, _-_, _*_, _≤_}
+use Prim.Native.Nat.{ℕ, _+_, _*_, _≤_}
 use native.Mathlib.Omega.{arith}
 use lib.ListN.{length, drop}
 use Rattle.lists.specs.Lists.{first, occurrences, part}
@@ -9,7 +9,6 @@ use Rattle.bits.specs.Numbers.{numberAt}
 use Rattle.store.specs.Limits.{maxCells}
 use Rattle.store.specs.Layout.{cellAt}
 use Rattle.store.specs.Code.Links.{Steps, cut, filled, joined, linkAfter, put}
-use Rattle.store.specs.PageCode.{cells}
 use Rattle.lists.proofs.Occurrences.{occurrences-append, one-same}
 use Rattle.store.proofs.Filling.{ClearCode, Filled, code-apart, code-link, fill-filled, fill-outside, filled-length}
 use Rattle.store.proofs.Joining.{Outside, chain-left, chain-right, cut-free, cut-outside}

@@ -15,7 +15,8 @@ use Rattle.store.specs.Plain.{need, page, relisted}
 use Rattle.store.specs.Layout.{Model, bytesOf, resize}
 use Rattle.store.specs.OneCell.{chainOf}
 use Rattle.store.specs.Settle.{pagewise, settled, shrunk, sizeTo, wanted, withList}
-use Rattle.store.specs.Sound.{Chained, Good, isCell, onChains}
+use Rattle.store.specs.Sound.{Good, isCell, onChains}
+use Rattle.store.specs.Code.Chained.{Chained}
 use Rattle.store.specs.Code.Links.{put}
 use Rattle.store.specs.Code.Moving.{hasMoved, mixed, moving, noGrowth, passedCells, repaged}
 use Rattle.store.proofs.Chained.{good-chained}

@@ -11,12 +11,12 @@ use Rattle.lists.specs.Lists.{concat, occurrences, part, sum}
 use Rattle.bits.specs.Numbers.{little, number, numberAt}
 use Rattle.store.specs.Limits.{maxTotal}
 use Rattle.store.specs.Layout.{Model, bytesOf, cellAt, header, resize, size, cellsFrom, entryAt}
-use Rattle.store.specs.Code.Links.{Ready, Steps, cut, filled, joined, put, rewritten}
+use Rattle.store.specs.Code.Links.{Rewritable, Steps, cut, filled, joined, put, rewritten}
 use Rattle.store.specs.PageCode.{cells, pageBytes}
 use Rattle.store.specs.Plain.{need, page}
-use Rattle.store.specs.Sound.{Chained, Good, onChains}
+use Rattle.store.specs.Sound.{Good, onChains}
+use Rattle.store.specs.Code.Chained.{Chained}
 use Rattle.lists.proofs.Occurrences.{occurrences-append, occurrences-getD-concat, occurrences-split}
-use Rattle.lists.proofs.Tests.{both}
 use Rattle.store.proofs.Chained.{OffPage, good-chained, page-chained, spare-fits}
 use Rattle.store.proofs.Filling.{Filled}
 use Rattle.store.proofs.FreshLaws.{cell-is, cell-le}
@@ -312,8 +312,8 @@ module _ (m : Model) (g : Chained m) where
         sym final-is ∙ chained-only final (resize m ys p n) g₂ (spread-holds final (resize m ys p n) (g₂ .rows) spread-new)
 
     -- and what the code asks for holds
-    pub page-ready : Ready s (cellsFrom P) p k n code (sum (page ys p)) (length ys)
-    page-ready = record {
+    pub page-rewritable : Rewritable s (cellsFrom P) p k n code (sum (page ys p)) (length ys)
+    page-rewritable = record {
       low = omega (arith, g .limits .pages-high);
       page = omega (arith, lp);
       size = omega (arith, size-le);
@@ -329,7 +329,7 @@ module _ (m : Model) (g : Chained m) where
 
 -- ---- a count of a good model, at hour i
 module _ (m : Model) (g : Good m) (s : List ℕ) (h : Spread s m) (ys : List ℕ) (i : ℕ) (o : Off (m .plain .counts) ys i)
-    (li : i < 64 * m .plain .pages) (ly : length ys ≤ 64 * m .plain .pages) (lt : sum ys ≤ 4294967295)
+    (li : i < 64 * m .plain .pages) (ly : length ys ≤ 64 * m .plain .pages) (lt : sum ys ≤ maxTotal)
     (ln : need ys (m .plain .pages) ≤ m .plain .cells) where
   abbrev own : ℕ
   own = length (getD (m .chains) (i / 64) [])
@@ -356,5 +356,5 @@ module _ (m : Model) (g : Good m) (s : List ℕ) (h : Spread s m) (ys : List ℕ
       ≡ bytesOf (resize m ys (i / 64) new)
   rewritten-bytes = page-bytes m (good-chained m g) s h ys (i / 64) off-page inside ly sum-fits cells-enough
 
-  pub ready : Ready s (cellsFrom (m .plain .pages)) (i / 64) own new made (sum (page ys (i / 64))) (length ys)
-  ready = page-ready m (good-chained m g) s h ys (i / 64) off-page inside ly sum-fits cells-enough
+  pub rewritable : Rewritable s (cellsFrom (m .plain .pages)) (i / 64) own new made (sum (page ys (i / 64))) (length ys)
+  rewritable = page-rewritable m (good-chained m g) s h ys (i / 64) off-page inside ly sum-fits cells-enough

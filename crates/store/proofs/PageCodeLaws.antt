@@ -13,6 +13,7 @@ use Rattle.reserve.proofs.Fit.{most}
 use Rattle.tree.specs.Tree.{tree}
 use Rattle.tree.specs.Read.{counts}
 use Rattle.tree.proofs.Shape.{length-tree, bits-tree, counts-tree}
+use Rattle.store.specs.Limits.{maxTotal}
 use Rattle.store.specs.PageCode.{cells, pageBytes, pageCounts}
 
 -- 'none for sum 0'
@@ -25,7 +26,7 @@ pub cells-is : (s : ℕ) → (reserve 6 s + 239) / 240 ≡ cells s
 unfolding cells ceil
 cells-is s = omega arith
 
-pub cells-most : (s : ℕ) → s ≤ 4294967295 → cells s ≤ 8
+pub cells-most : (s : ℕ) → s ≤ maxTotal → cells s ≤ 8
 unfolding cells ceil
 cells-most s l = omega (arith, most s (omega arith))
 

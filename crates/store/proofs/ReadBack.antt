@@ -1,7 +1,7 @@
 -- What is read from bytes that hold a list and its chains is these. Assumes nothing.
 use mathlib.Core.Path.{_≡_, refl, sym, ap, ap₂, _∙_}
 use mathlib.Core.List.{List, [], _∷_, _++_}
-use Prim.Native.Nat.{ℕ, suc, _+_, _-_, _*_, _≤_, _<_}
+use Prim.Native.Nat.{ℕ, suc, _+_, _*_, _≤_, _<_}
 use native.Mathlib.Omega.{arith}
 use lib.ListN.{length, getD, take, drop, replicate, length-append, length-replicate}
 use lib.Seq.{take-all, take-take, take-add}
@@ -11,7 +11,8 @@ use Rattle.store.specs.Layout.{Model, cellAt, entry, header, lay, layAll
 use Rattle.store.specs.PageCode.{cells, pageBytes, pageCounts}
 use Rattle.store.specs.Plain.{page}
 use Rattle.store.specs.Reading.{cellsOf, chainFrom, chainIn, codeIn, hoursOf, pageIn, pagesOf, read, readFor, spareIn, sumIn}
-use Rattle.store.specs.Sound.{Chained, onChains}
+use Rattle.store.specs.Sound.{onChains}
+use Rattle.store.specs.Code.Chained.{Chained}
 use Rattle.lists.proofs.Occurrences.{occurrences-append, occurrences-getD-concat, one-same}
 use Rattle.lists.proofs.Pages.{paged-le, pages-back, pages-get}
 use Rattle.lists.proofs.Parts.{part-front, part-in}

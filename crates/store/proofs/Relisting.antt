@@ -6,11 +6,12 @@ use native.Mathlib.Omega.{arith}
 use lib.ListN.{length, getD}
 use Rattle.lists.specs.Lists.{concat, part, sum}
 use Rattle.bits.specs.Numbers.{little}
-use Rattle.store.specs.Layout.{Model, bytesOf, cellAt, cellsFrom, entryAt, header, size}
+use Rattle.store.specs.Layout.{Model, bytesOf, cellAt, cellsFrom, entryAt, header}
 use Rattle.store.specs.OneCell.{listed}
 use Rattle.store.specs.PageCode.{cells, pageBytes}
 use Rattle.store.specs.Plain.{page}
-use Rattle.store.specs.Sound.{Chained, onChains}
+use Rattle.store.specs.Sound.{onChains}
+use Rattle.store.specs.Code.Chained.{Chained}
 use Rattle.store.specs.Code.Links.{put}
 use Rattle.store.proofs.Holds.{chained-only}
 use Rattle.store.proofs.Moved.{filled-same, linked-same}

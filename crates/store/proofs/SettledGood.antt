@@ -1,11 +1,12 @@
 -- A store whose list changes as a whole stays good. Assumes nothing.
 use mathlib.Core.Path.{_≡_, ap, _∙_}
 use mathlib.Core.List.{List}
-use Prim.Native.Nat.{ℕ, _-_, _*_, _≤_, min}
+use Prim.Native.Nat.{ℕ, _*_, _≤_, min}
 use native.Mathlib.Omega.{arith}
 use lib.ListN.{length}
 use Rattle.lists.specs.Lists.{sum, tabulate}
 use Rattle.lists.proofs.Tables.{tabulate-ext}
+use Rattle.store.specs.Limits.{maxTotal}
 use Rattle.store.specs.Plain.{need, relisted}
 use Rattle.store.specs.Layout.{Model}
 use Rattle.store.specs.OneCell.{chainOf}
@@ -39,7 +40,7 @@ module _ (m : Model) (ys : List ℕ) (g : Good m) where
     pub settled-sized : Sized (shrunk m ys) (wanted ys) P (pagewise P (λ p. sizeTo p (wanted ys p)) (shrunk m ys))
     settled-sized = sized (shrunk m ys) (wanted ys) P (omega (arith, g .rows, shrunk-sized .rows)) grows-enough
 
-    pub settled-good : length ys ≤ 64 * P → sum ys ≤ 4294967295 → Good (settled m (relisted (m .plain) ys))
+    pub settled-good : length ys ≤ 64 * P → sum ys ≤ maxTotal → Good (settled m (relisted (m .plain) ys))
     unfolding settled onChains
     settled-good ly ls =
         let a = shrunk-sized in

@@ -8,7 +8,8 @@ use lib.ListN.{length, set}
 use Rattle.lists.specs.Lists.{pick, sum}
 use Rattle.lists.proofs.Reach.{reached-le}
 use Rattle.lists.proofs.Sums.{sum-take-le}
-use Rattle.store.specs.Limits.{fits, maxCells}
+use Rattle.store.specs.Limits.{maxCells, maxTotal}
+use Rattle.store.specs.Fitting.{fits}
 use Rattle.store.specs.Plain.{Append, Call, Count, Day, Free, Insert, Outcome, Plain, Reach, Reading, Set, Strike}
 use Rattle.answers.specs.Store.{Answer, answered, changed, refused}
 use Rattle.days.specs.Days.{dayEnd}
@@ -30,7 +31,7 @@ Small (answered n) = n ≤ 4294967295
 Small (refused k) = (1 ≤ k) × (k ≤ 20)
 
 -- ---- the plain list
-module _ (L : Plain) (few : L .cells ≤ maxCells) (hours : length (L .counts) ≤ 65536) (total : sum (L .counts) ≤ 4294967295)
+module _ (L : Plain) (few : L .cells ≤ maxCells) (hours : length (L .counts) ≤ 65536) (total : sum (L .counts) ≤ maxTotal)
     (enough : need (L .counts) (L .pages) ≤ L .cells) where
   refused-or : (b : Bool) (k : ℕ) (o : Outcome) → 1 ≤ k → k ≤ 20 → Small (o .answer) → Small (pick b (refuse k L) o .answer)
   unfolding pick

@@ -7,11 +7,12 @@ use native.Mathlib.Omega.{arith}
 use lib.ListN.{length}
 use Rattle.lists.specs.Lists.{sum}
 use Rattle.bits.specs.Numbers.{numberAt}
-use Rattle.store.specs.Limits.{maxCells, maxPages}
+use Rattle.store.specs.Limits.{maxCells, maxPages, maxTotal}
 use Rattle.store.specs.Plain.{need, page}
 use Rattle.store.specs.Layout.{Model, bytesOf, entryAt, size}
 use Rattle.store.specs.Reading.{cellsOf, hoursOf, listIn, pagesOf, read, readFor, sumIn}
-use Rattle.store.specs.Sound.{Chained, Good, Held, sound}
+use Rattle.store.specs.Sound.{Good, sound}
+use Rattle.store.specs.Code.Chained.{Chained, HoldsChains}
 use Rattle.store.proofs.Chained.{good-chained}
 use Rattle.store.proofs.Holds.{Holds, chained-bytes, holds-bytes}
 use Rattle.store.proofs.Keep.{spare-is}
@@ -33,10 +34,10 @@ pub record Facts (s : List ℕ) : Type 0 where
   pub cells-low : 1 ≤ cellsOf s
   pub cells-high : cellsOf s ≤ maxCells
   pub hours-fit : hoursOf s ≤ 64 * pagesOf s
-  pub total-fits : sum (listIn s) ≤ 4294967295
+  pub total-fits : sum (listIn s) ≤ maxTotal
   pub free-and-need : numberAt s 8 2 + need (listIn s) (pagesOf s) ≡ cellsOf s
   pub sums : (p : ℕ) → p < pagesOf s → sumIn s p ≡ sum (page (listIn s) p)
-  pub sum-fits : (p : ℕ) → p < pagesOf s → sumIn s p ≤ 4294967295
+  pub sum-fits : (p : ℕ) → p < pagesOf s → sumIn s p ≤ maxTotal
 
 pub facts : (s : List ℕ) → sound s ≡ true → Facts s
 unfolding read readFor
@@ -65,10 +66,10 @@ facts s e =
     }
 
 -- ---- bytes that hold chains, as those of a sound store do
-pub sound-held : (s : List ℕ) → sound s ≡ true → Held s
-sound-held s e = let f = facts s e in record { chained = good-chained (read s) (f .good); same = f .same }
+pub sound-holds : (s : List ℕ) → sound s ≡ true → HoldsChains s
+sound-holds s e = let f = facts s e in record { chained = good-chained (read s) (f .good); same = f .same }
 
-pub record HeldFacts (s : List ℕ) : Type 0 where
+pub record ChainFacts (s : List ℕ) : Type 0 where
   pub chained : Chained (read s)
   pub holds : Holds s (read s)
   pub pages-are : pagesOf s ≡ read s .plain .pages
@@ -76,11 +77,11 @@ pub record HeldFacts (s : List ℕ) : Type 0 where
   pub free-is : numberAt s 8 2 ≡ length (read s .spare)
   pub long : length s ≡ size (pagesOf s) (cellsOf s)
   pub sums : (p : ℕ) → p < pagesOf s → sumIn s p ≡ sum (page (listIn s) p)
-  pub sum-fits : (p : ℕ) → p < pagesOf s → sumIn s p ≤ 4294967295
+  pub sum-fits : (p : ℕ) → p < pagesOf s → sumIn s p ≤ maxTotal
 
-pub held-facts : (s : List ℕ) → Held s → HeldFacts s
+pub chain-facts : (s : List ℕ) → HoldsChains s → ChainFacts s
 unfolding read readFor
-held-facts s d =
+chain-facts s d =
     let m : Model = read s in
     let g : Chained m = d .chained in
     let h : Holds s m = subst (λ (z : List ℕ). Holds z m) (sym (d .same)) (chained-bytes m g) in
@@ -99,8 +100,8 @@ held-facts s d =
 pub bytes-read : (m : Model) → Chained m → read (bytesOf m) ≡ m
 bytes-read m g = read-is (bytesOf m) m g (chained-bytes m g)
 
-pub bytes-held : (m : Model) → Chained m → Held (bytesOf m)
-bytes-held m g = let e = bytes-read m g in record { chained = subst Chained (sym e) g; same = ap bytesOf (sym e) }
+pub bytes-hold : (m : Model) → Chained m → HoldsChains (bytesOf m)
+bytes-hold m g = let e = bytes-read m g in record { chained = subst Chained (sym e) g; same = ap bytesOf (sym e) }
 
 -- the sum that the code reads in page p's entry, at address e
 pub sum-read : (s : List ℕ) (p e r : ℕ) → e ≡ entryAt p → r ≡ numberAt s e 4 → r ≡ sumIn s p

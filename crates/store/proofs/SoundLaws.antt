@@ -2,14 +2,14 @@
 use mathlib.Core.Path.{_≡_, refl, ap, _∙_}
 use mathlib.Core.Bool.{true, _&&_}
 use mathlib.Core.List.{List, [], _∷_}
-use Prim.Native.Nat.{ℕ, zero, suc, _-_, _*_, _≤_, _<_}
+use Prim.Native.Nat.{ℕ, zero, suc, _*_, _≤_, _<_}
 use native.Mathlib.Omega.{arith}
 use native.Mathlib.Decide.{decLe, ℕ-discrete}
 use lib.ListN.{length, getD, replicate}
 use lib.Dec.{leb}
 use borrow.Author.Tests.{le-leb, leb-true, eq-eqb, eqb-true}
 use Rattle.lists.specs.Lists.{occurrences, same, sum, tabulate}
-use Rattle.store.specs.Limits.{maxCells, maxPages}
+use Rattle.store.specs.Limits.{maxCells, maxPages, maxTotal}
 use Rattle.store.specs.Layout.{Model, bytesOf}
 use Rattle.store.specs.PageCode.{cells}
 use Rattle.store.specs.Plain.{page}
@@ -82,7 +82,7 @@ good-fine m g =
             (
               le-leb (length (m .plain .counts)) (64 * P) (g .hours),
               (
-                le-leb (sum (m .plain .counts)) 4294967295 (g .total),
+                le-leb (sum (m .plain .counts)) maxTotal (g .total),
                 (
                   eq-eqb (length (m .chains)) P (g .rows),
                   (
@@ -129,7 +129,7 @@ fine-good m f =
         cells-high = leb-true C maxCells (w .1 .1 .1 .0);
       };
       hours = leb-true (length (m .plain .counts)) (64 * P) (w .1 .1 .1 .1 .0);
-      total = leb-true (sum (m .plain .counts)) 4294967295 (w .1 .1 .1 .1 .1 .0);
+      total = leb-true (sum (m .plain .counts)) maxTotal (w .1 .1 .1 .1 .1 .0);
       rows = eqb-true (length (m .chains)) P (w .1 .1 .1 .1 .1 .1 .0);
       lengths = same-tabulate P (λ p. length (getD (m .chains) p [])) (λ p. cells (sum (page (m .plain .counts) p))) (w .1 .1 .1 .1 .1 .1 .1 .0);
       once = once-of C (onChains m) r o;

@@ -2,16 +2,16 @@
 use mathlib.Core.Path.{_≡_, refl}
 use mathlib.Core.Bool.{Bool, true, false}
 use mathlib.Core.List.{List, [], _∷_, _++_}
-use Prim.Native.Nat.{ℕ, _+_, _-_, _*_, _≤_, _<_}
+use Prim.Native.Nat.{ℕ, _-_, _*_, _≤_, _<_}
 use native.Mathlib.Omega.{arith}
 use lib.ListN.{length, set, length-append, length-set}
 use lib.Dec.{ltb}
 use borrow.Author.Tests.{ltb-true, ltb-false, leb-false}
 use Rattle.lists.specs.Lists.{pick, sum}
+use Rattle.store.specs.Limits.{maxTotal}
 use Rattle.store.specs.Call.{after, settle}
 use Rattle.store.specs.Settle.{settled}
 use Rattle.store.specs.Layout.{Model}
-use Rattle.store.specs.PageCode.{cells}
 use Rattle.store.specs.Plain.{Append, Call, Count, Day, Free, Insert, Outcome, Plain, Reach, Strike, inserted, relisted, struck}
 use Rattle.answers.specs.Store.{Answer, answered, changed, refused}
 use Rattle.store.specs.Plain.{Reading, Set, change, need, next, step}
@@ -25,15 +25,15 @@ moved L ys = changed (need ys (L .pages) - need (L .counts) (L .pages)) (need (L
 
 -- the three ends of a change, each with what holds there
 pub data Change (L : Plain) (ys : List ℕ) : Outcome → Type 0 where
-  over : 4294967295 < sum ys → Change L ys (record { answer = refused 3; list = L })
-  short : sum ys ≤ 4294967295 → L .cells < need ys (L .pages) → Change L ys (record { answer = refused 12; list = L })
-  done : sum ys ≤ 4294967295 → need ys (L .pages) ≤ L .cells → Change L ys (record { answer = moved L ys; list = relisted L ys })
+  over : maxTotal < sum ys → Change L ys (record { answer = refused 3; list = L })
+  short : sum ys ≤ maxTotal → L .cells < need ys (L .pages) → Change L ys (record { answer = refused 12; list = L })
+  done : sum ys ≤ maxTotal → need ys (L .pages) ≤ L .cells → Change L ys (record { answer = moved L ys; list = relisted L ys })
 
 pub change-is : (L : Plain) (ys : List ℕ) → Change L ys (change L ys)
 unfolding change pick
-change-is L ys = go (ltb 4294967295 (sum ys)) (ltb (L .cells) (need ys (L .pages))) refl refl
+change-is L ys = go (ltb maxTotal (sum ys)) (ltb (L .cells) (need ys (L .pages))) refl refl
   where
-    go : (a b : Bool) → ltb 4294967295 (sum ys) ≡ a → ltb (L .cells) (need ys (L .pages)) ≡ b → Change L ys (change L ys)
+    go : (a b : Bool) → ltb maxTotal (sum ys) ≡ a → ltb (L .cells) (need ys (L .pages)) ≡ b → Change L ys (change L ys)
     go true b e d = rw e (over (ltb-true _ _ e))
     go false true e d = rw (e, d) (short (ltb-false _ _ e) (ltb-true _ _ d))
     go false false e d = rw (e, d) (done (ltb-false _ _ e) (ltb-false _ _ d))
@@ -42,7 +42,7 @@ change-is L ys = go (ltb 4294967295 (sum ys)) (ltb (L .cells) (need ys (L .pages
 pub data End (L : Plain) : Outcome → Type 0 where
   said : (n : ℕ) → End L (record { answer = answered n; list = L })
   not-done : (n : ℕ) → End L (record { answer = refused n; list = L })
-  made : (ys : List ℕ) → length ys ≤ 64 * L .pages → sum ys ≤ 4294967295 → need ys (L .pages) ≤ L .cells
+  made : (ys : List ℕ) → length ys ≤ 64 * L .pages → sum ys ≤ maxTotal → need ys (L .pages) ≤ L .cells
       → End L (record { answer = moved L ys; list = relisted L ys })
 
 change-end : {L : Plain} {ys : List ℕ} {o : Outcome} → length ys ≤ 64 * L .pages → Change L ys o → End L o

@@ -6,7 +6,7 @@ use Prim.Native.Nat.{ℕ, zero, suc}
 use native.Mathlib.Omega.{arith}
 use lib.ListN.{getD, take}
 use Rattle.lists.specs.Lists.{pick}
-use Rattle.store.specs.Limits.{fits}
+use Rattle.store.specs.Fitting.{fits}
 use Rattle.store.specs.Plain.{Call, Outcome, step}
 use Rattle.answers.specs.Store.{Answer, answered, refused}
 use Rattle.store.specs.Layout.{Model, bytesOf, fresh}

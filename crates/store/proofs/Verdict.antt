@@ -2,7 +2,7 @@
 use mathlib.Core.Path.{_≡_, refl, sym, ap, ap₂, subst, _∙_}
 use mathlib.Core.Bool.{Bool, true, _&&_}
 use mathlib.Core.List.{List, [], _∷_, _++_}
-use Prim.Native.Nat.{ℕ, suc, _+_, _-_, _*_, _≤_, _<_}
+use Prim.Native.Nat.{ℕ, suc, _+_, _*_, _≤_, _<_}
 use native.Mathlib.Omega.{arith}
 use native.Mathlib.Decide.{decLe}
 use lib.ListN.{length, getD, take, replicate, length-replicate, length-append}
@@ -11,7 +11,8 @@ use borrow.Author.Tests.{le-leb, leb-true, eq-eqb, eqb-true}
 use Rattle.lists.specs.Lists.{concat, every, occurrences, part, same, sum, tabulate}
 use Rattle.bits.specs.Numbers.{little, numberAt}
 use Rattle.bits.proofs.Little.{stored}
-use Rattle.store.specs.Limits.{Fitting, maxCells, maxPages}
+use Rattle.store.specs.Limits.{maxCells, maxPages, maxTotal}
+use Rattle.store.specs.Fitting.{Fitting}
 use Rattle.store.specs.Layout.{Model, bytesOf, header, size, cellsFrom, entryAt}
 use Rattle.store.specs.PageCode.{cells, pageBytes}
 use Rattle.store.specs.Plain.{need, page}
@@ -23,7 +24,7 @@ use Rattle.lists.proofs.Sums.{sum-concat, sum-take-le}
 use Rattle.lists.proofs.Tables.{getD-tabulate, length-tabulate, tabulate-ext}
 use Rattle.lists.proofs.Tests.{left, right, Each, agree, both, each, every-of, same-eq, same-is}
 use Rattle.lists.proofs.Zeros.{zeros-at}
-use Rattle.store.specs.Code.Checked.{Walk, and-then, broken, checkPages, ends-well, headTests, pageTests, quiet, walkMarks, whole}
+use Rattle.store.specs.Code.Checked.{Walk, and-then, broken, checkPages, ends-well, headTests, marksLength, pageTests, quiet, walkMarks, whole}
 use Rattle.store.proofs.CheckChain.{Marked, Unmarked, goes-then}
 use Rattle.store.proofs.CheckChain.{markAll, marks, walk-through, walked}
 use Rattle.store.proofs.CheckPages.{PageGood, chainsFrom, pages-good, pages-through, then-whole}
@@ -47,9 +48,9 @@ well : (m : List ℕ) (f : List ℕ → Bool) → ends-well (whole m) f ≡ f m
 unfolding ends-well
 well m f = refl
 
-zeros-marked : (C : ℕ) → Marked C (replicate 1801 0) []
+zeros-marked : (C : ℕ) → Marked C (replicate marksLength 0) []
 unfolding occurrences
-zeros-marked C d l = zeros-at 1801 d
+zeros-marked C d l = zeros-at marksLength d
 
 -- they hold
 pub record HeadHolds (s : List ℕ) : Type 0 where
@@ -58,7 +59,7 @@ pub record HeadHolds (s : List ℕ) : Type 0 where
   pub gap : part s 10 2 ≡ 0 ∷ 0 ∷ []
   pub fitting : Fitting s (pagesOf s) (cellsOf s)
   pub hours : hoursOf s ≤ 64 * pagesOf s
-  pub total : sum (tabulate (pagesOf s) (sumIn s)) ≤ 4294967295
+  pub total : sum (tabulate (pagesOf s) (sumIn s)) ≤ maxTotal
 
 pub head-each : (s : List ℕ) → HeadHolds s → Each (headTests s)
 unfolding headTests
@@ -86,7 +87,7 @@ head-each s h =
 
 -- the pages' chains, then the free one
 unfoldable pub chainsWalk : List ℕ → Walk
-chainsWalk s = and-then (checkPages s (pagesOf s) (cellsOf s) (hoursOf s) (pagesOf s) 0 (replicate 1801 0))
+chainsWalk s = and-then (checkPages s (pagesOf s) (cellsOf s) (hoursOf s) (pagesOf s) 0 (replicate marksLength 0))
     (λ m. walkMarks s (cellsFrom (pagesOf s)) (cellsOf s) (numberAt s 8 2) m 6)
 
 -- every cell is marked, and the free cells are clear
@@ -139,9 +140,9 @@ module _ (s : List ℕ) (bytes : (i : ℕ) → getD s i 0 < 256) where
       let lP : P ≤ maxPages = leb-true P maxPages (hd .1 .1 .1 .1 .0) in
       let lC : C ≤ maxCells = leb-true C maxCells (hd .1 .1 .1 .1 .1 .1 .0) in
       let sz : size P C ≤ length s = omega (arith, eqb-true (length s) (size P C) (hd .1 .1 .1 .1 .1 .1 .1 .0)) in
-      let t = goes-then (checkPages s P C N P 0 (replicate 1801 0)) (λ m. walkMarks s (cellsFrom P) C (numberAt s 8 2) m 6) (w .0) (w .1) in
-      let lz : C < length (replicate {A = ℕ} 1801 0) = omega (arith, length-replicate {A = ℕ} 1801 0) in
-      let g = pages-good s P C N lC lP bytes sz P 0 (replicate 1801 0) (t .0) [] (omega arith) lz (zeros-marked C) (t .1) in
+      let t = goes-then (checkPages s P C N P 0 (replicate marksLength 0)) (λ m. walkMarks s (cellsFrom P) C (numberAt s 8 2) m 6) (w .0) (w .1) in
+      let lz : C < length (replicate {A = ℕ} marksLength 0) = omega (arith, length-replicate {A = ℕ} marksLength 0) in
+      let g = pages-good s P C N lC lP bytes sz P 0 (replicate marksLength 0) (t .0) [] (omega arith) lz (zeros-marked C) (t .1) in
       let l₁ : C < length (t .0) = omega (arith, g .length-marks) in
       let f = walked s (cellsFrom P) C lC bytes sz (numberAt s 8 2) (t .0) (w .0) 6 l₁ (omega arith) (t .2) in
       let k : Marked C (w .0) (concat (chainsFrom s P 0 P) ++ F) = rw (f .marked)
@@ -168,7 +169,7 @@ module _ (s : List ℕ) (bytes : (i : ℕ) → getD s i 0 < 256) where
     m = readFor s P
 
     head-facts : (16 ≤ length s) × (part s 0 2 ≡ 1 ∷ 0 ∷ []) × (part s 10 2 ≡ 0 ∷ 0 ∷ []) × (1 ≤ P) × (P ≤ maxPages) × (1 ≤ C) × (C ≤ maxCells)
-        × (length s ≡ size P C) × (N ≤ 64 * P) × (sum (tabulate P (sumIn s)) ≤ 4294967295)
+        × (length s ≡ size P C) × (N ≤ 64 * P) × (sum (tabulate P (sumIn s)) ≤ maxTotal)
     unfolding headTests
     head-facts =
         let h = f .head in (
@@ -181,7 +182,7 @@ module _ (s : List ℕ) (bytes : (i : ℕ) → getD s i 0 < 256) where
           leb-true C maxCells (h .1 .1 .1 .1 .1 .1 .0),
           eqb-true (length s) (size P C) (h .1 .1 .1 .1 .1 .1 .1 .0),
           leb-true N (64 * P) (h .1 .1 .1 .1 .1 .1 .1 .1 .0),
-          leb-true (sum (tabulate P (sumIn s))) 4294967295 (h .1 .1 .1 .1 .1 .1 .1 .1 .1 .0),
+          leb-true (sum (tabulate P (sumIn s))) maxTotal (h .1 .1 .1 .1 .1 .1 .1 .1 .1 .0),
         )
 
     page-facts : (p : ℕ) → p < P
@@ -334,7 +335,7 @@ module _ (s : List ℕ) (bytes : (i : ℕ) → getD s i 0 < 256) where
 
     -- the walks go through
     abbrev Z : List ℕ
-    Z = replicate 1801 0
+    Z = replicate marksLength 0
 
     size-fits : size P C ≤ length s
     unfolding readFor spareIn
@@ -351,7 +352,7 @@ module _ (s : List ℕ) (bytes : (i : ℕ) → getD s i 0 < 256) where
     through : (m′ : List ℕ) × (checkPages s P C N P 0 Z ≡ whole m′) × (length m′ ≡ length Z) × Marked C m′ (concat (chainsFrom s P 0 P))
     through =
         pages-through s P C N cells-small pages-small bytes size-fits P 0 Z []
-        (omega (arith, cells-small, length-replicate {A = ℕ} 1801 0)) (zeros-marked C)
+        (omega (arith, cells-small, length-replicate {A = ℕ} marksLength 0)) (zeros-marked C)
         (λ j l. let e : 0 + j ≡ j = omega arith in rw e (page-ok j l))
         (λ d. omega (arith, ap (occurrences d) pages-are, counted d, cell-le C d))
 
@@ -380,7 +381,7 @@ module _ (s : List ℕ) (bytes : (i : ℕ) → getD s i 0 < 256) where
     unfolding last-marks
     last-marked =
         marks C F (through .0) (concat (chainsFrom s P 0 P))
-        (omega (arith, through .2, cells-small, length-replicate {A = ℕ} 1801 0)) spare-chain free-new (through .3)
+        (omega (arith, through .2, cells-small, length-replicate {A = ℕ} marksLength 0)) spare-chain free-new (through .3)
 
     number-is : sum (tabulate P (λ p. cells (sumIn s p))) + numberAt s 8 2 ≡ C
     unfolding readFor spareIn need xs

@@ -7,6 +7,7 @@ use native.Mathlib.Nat.{not-suc-le-zero, le-of-suc-le-suc}
 use native.Mathlib.Omega.{arith}
 use lib.ListN.{length, getD, take}
 use Rattle.lists.specs.Lists.{pick, sum}
+use Rattle.store.specs.Limits.{maxTotal}
 use Rattle.store.specs.Call.{after, call, storeAnswers, storeEnd}
 use Rattle.store.specs.Layout.{Model, bytesOf}
 use Rattle.store.specs.PageCode.{cells}
@@ -67,7 +68,7 @@ length-answers [] L = refl
 length-answers (c ∷ cs) L = ap suc (length-answers cs (next c L))
 
 -- with at least eight cells a page the cells suffice
-enough : (L : Plain) (ys : List ℕ) → 8 * L .pages ≤ L .cells → sum ys ≤ 4294967295 → need ys (L .pages) ≤ L .cells
+enough : (L : Plain) (ys : List ℕ) → 8 * L .pages ≤ L .cells → sum ys ≤ maxTotal → need ys (L .pages) ≤ L .cells
 unfolding need
 enough L ys h t = omega (
   arith,
@@ -83,7 +84,7 @@ change-never L ys h = go (change-is L ys)
     go (done a d) e = let z : _≡_ {A = ℕ} 0 1 = cc in omega arith
 
 -- refused for cells exactly when the changed list needs more than there are
-pub change-when : (L : Plain) (ys : List ℕ) → sum ys ≤ 4294967295 → (change L ys .answer ≡ refused 12) ↔ (L .cells < need ys (L .pages))
+pub change-when : (L : Plain) (ys : List ℕ) → sum ys ≤ maxTotal → (change L ys .answer ≡ refused 12) ↔ (L .cells < need ys (L .pages))
 change-when L ys t = go (change-is L ys)
   where
     go : {o : Outcome} → Change L ys o → (o .answer ≡ refused 12) ↔ (L .cells < need ys (L .pages))

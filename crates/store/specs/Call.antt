@@ -5,10 +5,11 @@ use Prim.Native.Nat.{ℕ, _/_}
 use lib.ListN.{length}
 use Rattle.answers.specs.Refusals.{freshWrong, notSound}
 use Rattle.lists.specs.Lists.{pick}
+use Rattle.store.specs.Limits.{pageHours}
 use Rattle.store.specs.Plain.{Append, Call, Outcome, Plain, Set, step}
 use Rattle.answers.specs.Store.{Answer, answered, changed, refused}
 use Rattle.store.specs.Layout.{Model, bytesOf, fresh}
-use Rattle.store.specs.Limits.{fits}
+use Rattle.store.specs.Fitting.{fits}
 use Rattle.store.specs.OneCell.{giveCell, listed, takeCell, times}
 use Rattle.store.specs.Settle.{settled, settledByCells}
 use Rattle.store.specs.Reading.{read}
@@ -67,7 +68,8 @@ pub data OneHour : Call → Plain → ℕ → Type 0 where
 -- all that changes on any chain
 abbrev pub HourInOrder : Type 0
 HourInOrder = (c : Call) (s : List ℕ) (i r f : ℕ) → OneHour c (read s .plain) i → call c s .answer ≡ changed r f
-    → read (call c s .bytes) ≡ listed (step c (read s .plain) .list .counts) (times r (takeCell (i / 64)) (times f (giveCell (i / 64)) (read s)))
+    → read (call c s .bytes)
+    ≡ listed (step c (read s .plain) .list .counts) (times r (takeCell (i / pageHours)) (times f (giveCell (i / pageHours)) (read s)))
 
 -- An accepted change, on any bytes: first the pages that shrink give back cells and then those that grow take cells, one by one, and that is
 -- all that changes on any chain

@@ -8,7 +8,8 @@ use Rattle.lists.specs.Lists.{concat, occurrences, part, sum, tabulate}
 use Rattle.bits.specs.Numbers.{numberAt}
 use Rattle.store.specs.PageCode.{pageBytes}
 use Rattle.store.specs.Layout.{cellsFrom}
-use Rattle.store.specs.Limits.{Fitting, maxTotal}
+use Rattle.store.specs.Limits.{maxTotal, pageHours}
+use Rattle.store.specs.Fitting.{Fitting}
 use Rattle.store.specs.Reading.{Runs, cellsOf, chainIn, codeIn, firstIn, hoursOf, pageIn, pagesOf, spareIn, sumIn}
 use Rattle.store.specs.Sound.{isCell}
 
@@ -28,12 +29,12 @@ pub record Items (s : List ℕ) : Type 0 where
   pub page-code : (p : ℕ) → p < pagesOf s → codeIn s (cellsFrom (pagesOf s)) (chainIn s (pagesOf s) p) ≡ pageBytes (pageIn s (pagesOf s) p)
   pub page-sum : (p : ℕ) → p < pagesOf s → sum (pageIn s (pagesOf s) p) ≡ sumIn s p
   -- 'Hours from N on are zero'
-  pub beyond : (p j : ℕ) → p < pagesOf s → j < 64 → hoursOf s ≤ 64 * p + j → getD (pageIn s (pagesOf s) p) j 0 ≡ 0
+  pub beyond : (p j : ℕ) → p < pagesOf s → j < pageHours → hoursOf s ≤ pageHours * p + j → getD (pageIn s (pagesOf s) p) j 0 ≡ 0
   -- 'first free cell', 'number of free cells': the free chain of so many cells runs to its end; 'Free cells hold 30 zero bytes'
   pub free-chain : Runs s (cellsFrom (pagesOf s)) (numberAt s 6 2) (spareIn s (pagesOf s))
   pub free-clear : codeIn s (cellsFrom (pagesOf s)) (spareIn s (pagesOf s)) ≡ replicate (30 * numberAt s 8 2) 0
   -- 'N ≤ 64P, the total fits'
-  pub hours : hoursOf s ≤ 64 * pagesOf s
+  pub hours : hoursOf s ≤ pageHours * pagesOf s
   pub total : sum (tabulate (pagesOf s) (sumIn s)) ≤ maxTotal
   -- 'each cell is on exactly one chain': each number 1 to C once, no other, and so C in all
   pub once : (c : ℕ) → occurrences c (onAll s) ≡ isCell (cellsOf s) c

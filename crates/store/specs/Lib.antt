@@ -1,10 +1,11 @@
 -- Definitions of the crate, in document 01's order.
--- a page's code; the plain list
+-- the limits; a page's code; the plain list
+pub mod Limits
 pub mod PageCode
 pub mod Plain
--- the format and the model: what a store's bytes are, its limits, how chains change
+-- the format and the model: what a store's bytes are, how long they are, how chains change
 pub mod Layout
-pub mod Limits
+pub mod Fitting
 pub mod OneCell
 pub mod Settle
 -- what bytes say, and when they are sound: computed, and clause by clause

@@ -16,6 +16,10 @@ cells s = ceil (reserve 6 s) 240
 unfoldable pub pageBytes : List ℕ → List ℕ
 pageBytes xs = pack (30 * cells (sum xs)) (fill (240 * cells (sum xs)) (tree 6 xs))
 
+-- the bytes of eight cells' code, which every page has room in (`cells-most`)
+abbrev pub pageRoom : ℕ
+pageRoom = 8 * 30
+
 -- the counts that bytes say of a page of sum s, whatever the bytes are
 unfoldable pub pageCounts : ℕ → List ℕ → List ℕ
 pageCounts s bytes = counts 6 s (bits bytes) 0

@@ -9,6 +9,7 @@ use Rattle.answers.specs.Refusals.{aboveTotal, cellsShort, changesWrong, logFul
 use Rattle.lists.specs.Lists.{tabulate, sum, pick, reading, reached}
 use Rattle.answers.specs.Store.{Answer, answered, changed, refused}
 use Rattle.days.specs.Days.{changesFit, dayEnd, dayStart}
+use Rattle.store.specs.Limits.{maxTotal, pageHours}
 use Rattle.store.specs.PageCode.{cells}
 
 -- 'State: a list of counts, empty at first, and the P and C that fresh was given'
@@ -47,7 +48,7 @@ tell n L = record { answer = answered n; list = L }
 
 -- 'page p has hours 64p to 64p + 63': its 64 counts, zero from the list's end on
 unfoldable pub page : List ℕ → ℕ → List ℕ
-page xs p = tabulate 64 (λ j. getD xs (64 * p + j) 0)
+page xs p = tabulate pageHours (λ j. getD xs (pageHours * p + j) 0)
 
 -- 'Need is the sum of the pages' cells by the formula': that of P pages
 unfoldable pub need : List ℕ → ℕ → ℕ
@@ -59,7 +60,7 @@ unfoldable pub change : Plain → List ℕ → Outcome
 change L ys =
     let old = need (L .counts) (L .pages) in
     let new = need ys (L .pages) in
-    pick (ltb 4294967295 (sum ys)) (refuse totalTooHigh L)
+    pick (ltb maxTotal (sum ys)) (refuse totalTooHigh L)
     (pick (ltb (L .cells) new) (refuse cellsShort L) (record { answer = changed (new - old) (old - new); list = relisted L ys }))
 
 -- Document 02, note 5: 'insert v before hour i', 'strike hour i'
@@ -72,13 +73,13 @@ struck xs i = take i xs ++ drop (suc i) xs
 -- what each call answers, and the list afterwards: the refusals first, in the documents' order
 unfoldable pub step : Call → Plain → Outcome
 -- 'refused 11 if 64P hours are logged'
-step (Append v) L = pick (leb (64 * L .pages) (length (L .counts))) (refuse logFull L) (change L (L .counts ++ v ∷ []))
+step (Append v) L = pick (leb (pageHours * L .pages) (length (L .counts))) (refuse logFull L) (change L (L .counts ++ v ∷ []))
 -- '7 if i ≥ N'
 step (Set i v) L = pick (leb (length (L .counts)) i) (refuse notLogged L) (change L (set (L .counts) i v))
 -- 'insert v before hour i (i from 0 to N), and strike hour i (i below N)': 'Refusals 10, 7, 11, 3 and 12 apply in that order'
 step (Insert i v) L =
     pick (ltb (length (L .counts)) i) (refuse notLogged L)
-    (pick (leb (64 * L .pages) (length (L .counts))) (refuse logFull L) (change L (inserted (L .counts) i v)))
+    (pick (leb (pageHours * L .pages) (length (L .counts))) (refuse logFull L) (change L (inserted (L .counts) i v)))
 step (Strike i) L = pick (leb (length (L .counts)) i) (refuse notLogged L) (change L (struck (L .counts) i))
 step (Count i) L = pick (leb (length (L .counts)) i) (refuse notLogged L) (tell (getD (L .counts) i 0) L)
 -- '7 if i > N'

@@ -2,14 +2,14 @@
 use mathlib.Core.Bool.{Bool, true, _&&_}
 use mathlib.Core.List.{List, [], _∷_, _++_}
 use mathlib.Core.Path.{_≡_}
-use Prim.Native.Nat.{ℕ, suc, _+_, _*_, _≤_, _<_}
+use Prim.Native.Nat.{ℕ, suc, _*_, _≤_, _<_}
 use lib.ListN.{length, getD, replicate}
 use lib.Dec.{leb, eqb}
 use Rattle.lists.specs.Lists.{tabulate, concat, sum, every, same, one, occurrences}
 use Rattle.store.specs.PageCode.{cells}
 use Rattle.store.specs.Plain.{page}
 use Rattle.store.specs.Layout.{Model, bytesOf}
-use Rattle.store.specs.Limits.{Limits, limitTests, maxTotal}
+use Rattle.store.specs.Limits.{Limits, limitTests, maxTotal, pageHours}
 use Rattle.store.specs.Reading.{read}
 
 -- every cell that is on a chain, chain by chain
@@ -30,7 +30,7 @@ within C (c ∷ cs) = (leb 1 c && leb c C) && within C cs
 unfoldable pub tests : Model → List Bool
 tests m =
     limitTests (m .plain .pages) (m .plain .cells)
-    ++ leb (length (m .plain .counts)) (64 * m .plain .pages)
+    ++ leb (length (m .plain .counts)) (pageHours * m .plain .pages)
     ∷ leb (sum (m .plain .counts)) maxTotal
     ∷ eqb (length (m .chains)) (m .plain .pages)
     ∷ same (tabulate (m .plain .pages) (λ p. length (getD (m .chains) p [])))
@@ -46,7 +46,7 @@ fine m = every (tests m)
 -- the same as facts
 pub record Good (m : Model) : Type 0 where
   pub limits : Limits (m .plain .pages) (m .plain .cells)
-  pub hours : length (m .plain .counts) ≤ 64 * m .plain .pages
+  pub hours : length (m .plain .counts) ≤ pageHours * m .plain .pages
   pub total : sum (m .plain .counts) ≤ maxTotal
   pub rows : length (m .chains) ≡ m .plain .pages
   -- each page has the cells that its sum needs
@@ -54,22 +54,6 @@ pub record Good (m : Model) : Type 0 where
   -- each cell is on exactly one chain, and nothing else is
   pub once : (c : ℕ) → occurrences c (onChains m) ≡ isCell (m .plain .cells) c
   pub all : length (onChains m) ≡ m .plain .cells
-
--- What holds of the chains alone, also between two pages of a change, when the total may not yet be that of a store: there are pages for all
--- hours, each page has the cells that its sum needs, its sum fits, and each cell is on exactly one chain
-pub record Chained (m : Model) : Type 0 where
-  pub limits : Limits (m .plain .pages) (m .plain .cells)
-  pub hours : length (m .plain .counts) ≤ 64 * m .plain .pages
-  pub rows : length (m .chains) ≡ m .plain .pages
-  pub lengths : (p : ℕ) → p < m .plain .pages → length (getD (m .chains) p []) ≡ cells (sum (page (m .plain .counts) p))
-  pub sums : (p : ℕ) → p < m .plain .pages → sum (page (m .plain .counts) p) ≤ maxTotal
-  pub once : (c : ℕ) → occurrences c (onChains m) ≡ isCell (m .plain .cells) c
-  pub all : length (onChains m) ≡ m .plain .cells
-
--- bytes that hold such a model
-pub record Held (s : List ℕ) : Type 0 where
-  pub chained : Chained (read s)
-  pub same : s ≡ bytesOf (read s)
 
 -- Bytes are sound if what they say is good, and is written as exactly these bytes: so every byte is as document 01 lays it out.
 unfoldable pub sound : List ℕ → Bool

@@ -2,8 +2,8 @@
 ghost use mathlib.Core.Path.{_≡_};
 ghost use Prim.Native.Nat.{_≤_, _<_};
 ghost use lib.ListN.{length};
-ghost use Rattle.store.specs.Layout.{entryAt, cellAt, cellsFrom, fresh as freshModel};
-ghost use Rattle.store.specs.Code.Heads.{Heads, HeadOf};
+ghost use Rattle.store.specs.Layout.{cellAt, cellsFrom, entryAt, fresh as freshModel, headerLength};
+ghost use Rattle.store.specs.Code.Head.{HeadFor, HeadOf};
 
 pub struct Header {
     pub pages: usize,
@@ -20,6 +20,8 @@ impl Header {
     pub const MAX_CELLS: usize = 1800;
 
     pub const MAX_TOTAL: u64 = 4294967295;
+    // A mark for each cell, and one for 0, which is no cell.
+    pub const MARKS: usize = Header::MAX_CELLS + 1;
 
     pub const EDITION: usize = 1;
     // The hours of a page.
@@ -34,11 +36,13 @@ impl Header {
     pub const CODE: usize = 30;
     // The bits of a cell's code.
     pub const BITS: usize = 240;
+    // The bytes of eight cells' code: no page has more.
+    pub const PAGE_ROOM: usize = 8 * Header::CODE;
 
     // The header of a fresh store: all cells are free.
     pub fn fresh(pages: usize, cells: usize) -> Self
         requires { ⌜ 1 ≤ cells ⌝ }
-        ensures { λ r. ⌜ HeadOf (freshModel pages cells) r ⌝ }
+        ensures { λ r. ⌜ HeadFor (freshModel pages cells) r ⌝ }
     {
         Self {
             pages,
@@ -51,8 +55,8 @@ impl Header {
 
     // The header that stands in a store's bytes.
     pub fn of(s: &[u8]) -> Self
-        requires { ⌜ 16 ≤ length (now s) ⌝ }
-        ensures { λ r. ⌜ Heads (now (s .entry)) r ⌝ }
+        requires { ⌜ headerLength ≤ length (now s) ⌝ }
+        ensures { λ r. ⌜ HeadOf (now (s .entry)) r ⌝ }
     {
         Self {
             pages: bits::numbers::get2(s, 2) as usize,

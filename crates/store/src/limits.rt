@@ -4,7 +4,7 @@ use crate::header::cells_from;
 ghost use mathlib.Core.Bool.{_&&_};
 ghost use mathlib.Core.Path.{_≡_};
 ghost use lib.Dec.{leb};
-ghost use Rattle.store.specs.Limits.{fits as fitting};
+ghost use Rattle.store.specs.Fitting.{fits as fitting};
 
 // Whether n is one of the numbers 1 to most.
 pub fn one_to(n: usize, most: usize) -> bool

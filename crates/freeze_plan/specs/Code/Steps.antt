@@ -4,6 +4,7 @@ use mathlib.Core.List.{List}
 use mathlib.Core.Path.{_≡_}
 use Prim.Native.Nat.{ℕ, _+_, _*_, _^_, _≤_, _<_}
 use Rattle.lists.specs.Lists.{reading, sum}
+use Rattle.store.specs.Limits.{maxTotal}
 use Rattle.store.specs.Reading.{listIn}
 use Rattle.store.specs.Sound.{sound}
 use Rattle.store.specs.Code.Hours.{OfPage}
@@ -26,6 +27,6 @@ pub record Ending (all end : ℕ) (r : Plan) : Type 0 where
   pub e : ℕ
   pub xs : List ℕ
   pub drafted : Drafted e xs r
-  pub total-fits : sum xs ≤ 4294967295
+  pub total-fits : sum xs ≤ maxTotal
   pub end-one : end ≤ r .pages
   pub next : r .done < end → (end ≤ r .done + 1) × (all ≡ reading xs (2 ^ e * (r .done + 1)))

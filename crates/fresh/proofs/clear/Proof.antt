@@ -2,7 +2,7 @@
 use Rattle.store.proofs.Zeros.{cleared}
 use mathlib.Core.Path.{_≡_, refl, ap, _∙_}
 use mathlib.Core.List.{List, _++_}
-use Prim.Native.Nat.{ℕ, _+_, _-_, _≤_}
+use Prim.Native.Nat.{ℕ, _-_, _≤_}
 use native.Mathlib.Omega.{arith}
 use lib.ListN.{length, drop, replicate, set, length-set}
 use borrow.Author.Fill.{fill-none, fill-more}

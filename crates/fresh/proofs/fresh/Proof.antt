@@ -3,7 +3,7 @@ use mathlib.Core.Path.{_≡_, sym, _∙_}
 use mathlib.Core.Bool.{true}
 use native.Mathlib.Omega.{arith}
 use borrow.Author.Tests.{not-true, not-false}
-use Rattle.store.specs.Limits.{fits}
+use Rattle.store.specs.Fitting.{fits}
 use Rattle.fresh.proofs.FreshBytes.{started, started-9}
 use Rattle.store.proofs.LimitLaws.{fitting}
 use borrow.Author.Needs.{needs}

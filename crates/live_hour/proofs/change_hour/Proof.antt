@@ -3,7 +3,7 @@ use mathlib.Core.Path.{_≡_, sym, ap, _∙_}
 use Prim.Native.Nat.{ℕ, _+_, max}
 use native.Mathlib.Omega.{arith}
 use Rattle.store.proofs.SoundFacts.{facts}
-use Rattle.store.proofs.ChangeLaws.{Has, after-fits, end-12, end-3, end-done, has, of-page, ready-now, sum-new, total-fits, was-before, was-total}
+use Rattle.store.proofs.ChangeLaws.{Has, after-fits, can-rewrite, end-12, end-3, end-done, has, of-page, sum-new, total-fits, was-before, was-total}
 use borrow.Author.Needs.{needs}
 use Rattle.live_hour.proofs.change_hour.Statement.{statement}
 use Rattle.live_hour.proofs.change_hour.Tie as tie
@@ -173,7 +173,7 @@ rewrite-requires c κs =
     let h = t .before .before .before .before .before .before .before .before .before .of .ensures in
     let e : b .args .hours ≡ max (t .before .before .before .before .before .before .before .before .before .of .result .hours) (b .args .i + 1) =
     b .pre .1 ∙ ap (λ (z : ℕ). max z (b .args .i + 1)) (sym (h .hours-is)) in
-    ready-now (b .args .v) (b .pre .0) h (known t) (c .before .before .before .before .before .before .if1 .left)
+    can-rewrite (b .args .v) (b .pre .0) h (known t) (c .before .before .before .before .before .before .if1 .left)
     (c .before .before .before .before .before .cells-of2 .ensures .0) (c .before .before .before .if2 .left) e (c .before .before .code-of .ensures)
     (t .before .before .before .before .before .before .before .before .cells-from .ensures)
 

@@ -5,7 +5,7 @@ use Prim.Native.Nat.{ℕ}
 use native.Mathlib.Omega.{arith}
 use Rattle.lists.specs.Lists.{sum}
 use Rattle.move_counts.specs.Code.Turned.{turned}
-use Rattle.move_page.proofs.PageMoved.{moved-now, of-page, out-low, pages-low, ready-now, size-is, sum-now}
+use Rattle.move_page.proofs.PageMoved.{can-rewrite, moved-now, of-page, out-low, pages-low, size-is, sum-now}
 use borrow.Author.Needs.{needs}
 use Rattle.move_page.proofs.move_page.Statement.{statement}
 use Rattle.move_page.proofs.move_page.Tie as tie
@@ -67,7 +67,7 @@ rewrite-requires c κs =
     let b = c .before .before .before .before .before .before .before .before .before .before .before .before .before .before in
     let x = c .before .before .before .before .before .before .before .before .counts-at .ensures in
     let y = c .before .before .before .before .turn .ensures ∙ ap (λ (z : List ℕ). turned (b .args .c .strike) z (b .args .c .at) (b .args .c .count)) x in
-    ready-now (b .pre) (c .before .before .before .before .before .before .before .before .before .before .before .entry-at .ensures) (c .before .before .before .before .before .before .before .before .before .before .get4 .ensures .is) x (c .before .before .before .before .before .before .before .leaves-at .ensures .0) y refl (c .before .before .code-of .ensures)
+    can-rewrite (b .pre) (c .before .before .before .before .before .before .before .before .before .before .before .entry-at .ensures) (c .before .before .before .before .before .before .before .before .before .before .get4 .ensures .is) x (c .before .before .before .before .before .before .before .leaves-at .ensures .0) y refl (c .before .before .code-of .ensures)
 
 same-length : tie.Need-same-length
 same-length c = search needs

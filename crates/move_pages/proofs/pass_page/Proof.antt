@@ -32,7 +32,7 @@ returns c z h e =
     stays-at h (b .args .late) (b .pre .1) (b .pre .2) e (due-no (b .args .late) _ _ (c .before .due .ensures) (not-true (c .before .due .result) (c .if1 .taken)))
 
 near-requires : tie.Need-near-requires
-near-requires c κs = c .before .before .before .before .before .before .before .before .pre .0 .1 .planned .within
+near-requires c κs = c .before .before .before .before .before .before .before .before .pre .0 .1 .shiftable .within
 
 coming-requires : tie.Need-coming-requires
 coming-requires c κs =

@@ -6,7 +6,7 @@ use Prim.Native.Nat.{ℕ, _+_, _-_, _*_, _≤_, _<_}
 use lib.ListN.{length, getD}
 use lib.Dec.{eqb, ltb}
 use Rattle.lists.specs.Lists.{pick, sum}
-use Rattle.store.specs.Limits.{maxTotal}
+use Rattle.store.specs.Limits.{maxPages, maxTotal, pageHours}
 use Rattle.store.specs.Plain.{inserted, need, page, struck}
 use Rattle.store.specs.Reading.{listIn, pagesOf}
 use Rattle.store.specs.Settle.{wanted}
@@ -16,7 +16,7 @@ use Rattle.move_plan.specs.declared.shift.Shift.{Shift}
 
 -- the list afterwards
 unfoldable pub shifted : Shift → List ℕ → List ℕ
-shifted m xs = pick (m .strike) (struck xs (64 * m .first + m .at)) (inserted xs (64 * m .first + m .at) (m .count))
+shifted m xs = pick (m .strike) (struck xs (pageHours * m .first + m .at)) (inserted xs (pageHours * m .first + m .at) (m .count))
 
 -- the index in page q from which its counts move
 unfoldable pub near : Shift → ℕ → ℕ
@@ -40,9 +40,9 @@ abbrev pub Counted : Shift → List ℕ → List ℕ → ℕ → Type 0
 Counted m xs few n = (q : ℕ) → m .first ≤ q → q < n → getD few q 0 ≡ wanted xs q
 
 -- a shift that a sound store can make, but for its cells: the pages that move, and that all others stay
-pub record Planned (s : List ℕ) (m : Shift) : Type 0 where
+pub record Shiftable (s : List ℕ) (m : Shift) : Type 0 where
   pub is-sound : sound s ≡ true
-  pub within : m .at < 64
+  pub within : m .at < pageHours
   pub some : m .first < m .end
   pub inside : m .end ≤ pagesOf s
   pub below : (q : ℕ) → q < m .first → page (shifted m (listIn s)) q ≡ page (listIn s) q
@@ -50,10 +50,10 @@ pub record Planned (s : List ℕ) (m : Shift) : Type 0 where
       → page (shifted m (listIn s)) q ≡ turned (m .strike) (page (listIn s) q) (near m q) (comesTo m leaving q)
   pub above : (q : ℕ) → m .end ≤ q → page (shifted m (listIn s)) q ≡ page (listIn s) q
   pub total : sum (shifted m (listIn s)) ≤ maxTotal
-  pub hours : length (shifted m (listIn s)) ≤ 64 * pagesOf s
+  pub hours : length (shifted m (listIn s)) ≤ pageHours * pagesOf s
 
 -- the cells that the pages which move have and are to have: what the need rises or falls by
 pub record Needs (s : List ℕ) (m : Shift) (had asked : ℕ) : Type 0 where
   pub moved : need (shifted m (listIn s)) (pagesOf s) + had ≡ need (listIn s) (pagesOf s) + asked
   pub had-low : had ≤ need (listIn s) (pagesOf s)
-  pub asked-low : asked ≤ 8192
+  pub asked-low : asked ≤ 8 * maxPages

@@ -9,10 +9,11 @@ use Rattle.sound_free.proofs.CellTest.{cell-range, good-cell, met-cell,
 use Rattle.sound_free.proofs.FreeTest.{free-broken, free-ends, free-next, free-open, free-set, free-start}
 use Rattle.sound_free.proofs.free_fits.Statement.{statement}
 use Rattle.sound_free.proofs.free_fits.Tie as tie
+use Rattle.store.specs.Code.Checked.{marksLength}
 
 abbrev Inv-loop : tie.InvT-loop
 Inv-loop s base cells marks₀ free at₀ j₀ marks at j =
-    (j ≤ free) × (length marks ≡ 1801) × (at + 2 ≤ length s) × (freeFits s base cells marks₀ ≡ freeFrom s base cells (free - j) marks at)
+    (j ≤ free) × (length marks ≡ marksLength) × (at + 2 ≤ length s) × (freeFits s base cells marks₀ ≡ freeFrom s base cells (free - j) marks at)
 
 abbrev μ-loop : tie.MeasureT-loop
 μ-loop s base cells marks₀ free at₀ j₀ marks at j = free - j

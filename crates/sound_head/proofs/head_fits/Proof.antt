@@ -7,8 +7,9 @@ use lib.Dec.{leb}
 use borrow.Author.Tests.{lt-leb, ne-eqb, not-false, not-true}
 use Rattle.lists.specs.Lists.{sum, tabulate}
 use Rattle.bits.specs.Numbers.{numberAt}
+use Rattle.store.specs.Limits.{maxTotal}
 use Rattle.store.specs.Reading.{hoursOf, pagesOf, sumIn}
-use Rattle.store.specs.Limits.{Fitting, fits}
+use Rattle.store.specs.Fitting.{Fitting, fits}
 use Rattle.store.proofs.LimitLaws.{fitting}
 use Rattle.store.specs.Code.Checked.{headTests}
 use Rattle.sound_head.proofs.HeadTest.{head-fails, head-last, pair-test, unfit}
@@ -82,7 +83,7 @@ returns-6 c =
     let t₂ = t₃ .before .before in
     let s = t₂ .before .before .before .before .args .s .now in
     let f = fitting s _ _ (sym (t₄ .before .fits2 .ensures) ∙ not-false _ (t₄ .if4 .left)) in
-    ap (λ (z : ℕ). leb z 4294967295) (c .page-sums .ensures ∙ ap (λ (n : ℕ). sum (tabulate n (sumIn s))) (h .pages-is))
+    ap (λ (z : ℕ). leb z maxTotal) (c .page-sums .ensures ∙ ap (λ (n : ℕ). sum (tabulate n (sumIn s))) (h .pages-is))
     ∙ head-last s record {
       long = omega (arith, t₂ .before .before .if1 .left);
       edition = sym (t₂ .before .get2 .ensures .is) ∙ t₂ .if2 .left;

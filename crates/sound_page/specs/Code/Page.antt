@@ -6,14 +6,15 @@ use Prim.Native.Nat.{ℕ, _<_}
 use lib.ListN.{length}
 use lib.Dec.{eqb}
 use Rattle.lists.specs.Lists.{every, same, sum}
-use Rattle.store.specs.PageCode.{pageBytes, pageCounts}
+use Rattle.store.specs.Limits.{maxPages}
+use Rattle.store.specs.PageCode.{pageBytes, pageCounts, pageRoom}
 use Rattle.store.specs.Code.Checked.{quiet}
 
 -- what is handed to the functions on a page: the code of its cells, at the front of the bytes of eight cells, its sum and number, and N
-pub record Handed (code : List ℕ) (s p N : ℕ) : Type 0 where
-  pub long : length code ≡ 240
+pub record HandedPage (code : List ℕ) (s p N : ℕ) : Type 0 where
+  pub long : length code ≡ pageRoom
   pub small : s < 4294967296
-  pub page : p < 1024
+  pub page : p < maxPages
   pub hours : N < 4294967296
 
 -- 'Its code runs along its chain, unused bits zero. Hours from N on are zero': the bytes are those that page p of sum s has by its counts

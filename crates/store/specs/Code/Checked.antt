@@ -8,9 +8,14 @@ use lib.Dec.{leb, ltb, eqb}
 use Rattle.lists.specs.Lists.{every, part, pick, same, sum, tabulate}
 use Rattle.bits.specs.Numbers.{numberAt}
 use Rattle.store.specs.Layout.{cellAt, cellsFrom, entryAt, headerLength}
-use Rattle.store.specs.Limits.{fitTests, maxTotal}
+use Rattle.store.specs.Limits.{maxCells, maxTotal, pageHours}
+use Rattle.store.specs.Fitting.{fitTests}
 use Rattle.store.specs.PageCode.{cells, pageBytes}
 use Rattle.store.specs.Reading.{cellsOf, chainIn, codeIn, hoursOf, pageIn, pagesOf, sumIn}
+
+-- a mark for each cell that a store may have, and one for 0, which is no cell
+abbrev pub marksLength : ℕ
+marksLength = suc maxCells
 
 -- a walk along chains: the marks that it leaves, or that it broke off at a fault
 pub data Walk : Type 0 where
@@ -36,12 +41,12 @@ walkMarks s base C (suc k) m a =
 
 -- the counts of page p, zero from hour N on
 abbrev pub quiet : ℕ → ℕ → List ℕ → List ℕ
-quiet N p xs = tabulate 64 (λ j. pick (ltb (64 * p + j) N) (getD xs j 0) 0)
+quiet N p xs = tabulate pageHours (λ j. pick (ltb (pageHours * p + j) N) (getD xs j 0) 0)
 
 -- a page's counts: 64 of them, of the page's sum, coded as the cells say, and zero from hour N on
 unfoldable pub pageTests : List ℕ → ℕ → ℕ → ℕ → List Bool
 pageTests s P N p =
-    eqb (length (pageIn s P p)) 64
+    eqb (length (pageIn s P p)) pageHours
     ∷ eqb (sum (pageIn s P p)) (sumIn s p)
     ∷ same (codeIn s (cellsFrom P) (chainIn s P p)) (pageBytes (pageIn s P p))
     ∷ same (pageIn s P p) (quiet N p (pageIn s P p))
@@ -65,6 +70,6 @@ headTests s =
     ∷ same (part s 0 2) (1 ∷ 0 ∷ [])
     ∷ same (part s 10 2) (0 ∷ 0 ∷ [])
     ∷ fitTests s (pagesOf s) (cellsOf s)
-    ++ leb (hoursOf s) (64 * pagesOf s)
+    ++ leb (hoursOf s) (pageHours * pagesOf s)
     ∷ leb (sum (tabulate (pagesOf s) (sumIn s))) maxTotal
     ∷ []

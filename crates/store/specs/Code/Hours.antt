@@ -6,23 +6,25 @@ use Prim.Native.Nat.{ℕ, _*_, _≤_, _<_}
 use lib.ListN.{length, set}
 use lib.Dec.{eqb}
 use Rattle.lists.specs.Lists.{pick}
+use Rattle.store.specs.Limits.{pageHours}
 use Rattle.store.specs.PageCode.{cells}
 use Rattle.store.specs.Plain.{Outcome, change}
 use Rattle.answers.specs.Store.{Answer}
 use Rattle.store.specs.Layout.{bytesOf, cellsFrom}
 use Rattle.store.specs.Reading.{listIn, pagesOf, read, sumIn}
-use Rattle.store.specs.Sound.{Held, sound}
+use Rattle.store.specs.Sound.{sound}
+use Rattle.store.specs.Code.Chained.{HoldsChains}
 use Rattle.store.specs.Call.{settle}
 
 -- a store that is sound, with a page for hour i, which is logged or the next to be logged
 pub record Asked (s : List ℕ) (i : ℕ) : Type 0 where
   pub is-sound : sound s ≡ true
-  pub inside : i < 64 * pagesOf s
+  pub inside : i < pageHours * pagesOf s
   pub reached : i ≤ length (listIn s)
 
 -- page p of a store, sound or between two pages of a change, whose cells start at base: its sum, and its cells
 pub record OfPage (s : List ℕ) (base p sum k : ℕ) : Type 0 where
-  pub held : Held s
+  pub holds : HoldsChains s
   pub base-is : base ≡ cellsFrom (pagesOf s)
   pub inside : p < pagesOf s
   pub sum-is : sum ≡ sumIn s p

@@ -43,7 +43,7 @@ rewritten s base p k n code sum hours =
     put (put (put t 8 2 (numberAt s 8 2 + k - n)) (entryAt p) 4 sum) 12 4 hours
 
 -- what it asks for
-pub record Ready (s : List ℕ) (base p k n : ℕ) (code : List ℕ) (sum hours : ℕ) : Type 0 where
+pub record Rewritable (s : List ℕ) (base p k n : ℕ) (code : List ℕ) (sum hours : ℕ) : Type 0 where
   pub low : base < 65536
   pub page : entryAt p + entryLength ≤ base
   pub size : base ≤ length s

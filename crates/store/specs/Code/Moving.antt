@@ -5,6 +5,7 @@ use Prim.Native.Nat.{ℕ, _*_, _/_, _%_, min}
 use lib.ListN.{length, getD}
 use lib.Dec.{eqb, leb, ltb}
 use Rattle.lists.specs.Lists.{pick, tabulate}
+use Rattle.store.specs.Limits.{pageHours}
 use Rattle.store.specs.Plain.{relisted}
 use Rattle.store.specs.Layout.{Model}
 use Rattle.store.specs.OneCell.{chainOf}
@@ -12,11 +13,11 @@ use Rattle.store.specs.Settle.{pagewise, shrunk, sizeTo, wanted, withLis
 
 -- the list xs, with zeros to 64P hours and the counts x as its page p
 unfoldable pub repaged : ℕ → List ℕ → ℕ → List ℕ → List ℕ
-repaged P xs p x = tabulate (64 * P) (λ h. pick (eqb (h / 64) p) (getD x (h % 64) 0) (getD xs h 0))
+repaged P xs p x = tabulate (pageHours * P) (λ h. pick (eqb (h / pageHours) p) (getD x (h % pageHours) 0) (getD xs h 0))
 
 -- 64P hours: those of a page that has moved are of ys, the others of xs
 unfoldable pub mixed : ℕ → List ℕ → List ℕ → (ℕ → Bool) → List ℕ
-mixed P xs ys moved = tabulate (64 * P) (λ h. pick (moved (h / 64)) (getD ys h 0) (getD xs h 0))
+mixed P xs ys moved = tabulate (pageHours * P) (λ h. pick (moved (h / pageHours)) (getD ys h 0) (getD xs h 0))
 
 -- page q does not grow when the list xs becomes ys
 abbrev pub noGrowth : List ℕ → List ℕ → ℕ → Bool

@@ -1,7 +1,7 @@
 -- `live_move::edit::insert` meets its contract. Assumes nothing.
 use native.Mathlib.Omega.{arith}
 use Rattle.store.proofs.SoundFacts.{facts}
-use Rattle.live_move.proofs.EditSteps.{insert-11, insert-3, insert-7, insert-go, insert-planned, total-asks, total-low}
+use Rattle.live_move.proofs.EditSteps.{insert-11, insert-3, insert-7, insert-go, insert-shiftable, total-asks, total-low}
 use borrow.Author.Needs.{needs}
 use Rattle.live_move.proofs.edit.insert.Statement.{statement}
 use Rattle.live_move.proofs.edit.insert.Tie as tie
@@ -55,7 +55,7 @@ add-carry-out c = search needs
 carry-out-requires : tie.Need-carry-out-requires
 carry-out-requires c κs =
     let b = c .before .before .before .before .before .before .before .before .before .before in
-    insert-planned (b .args .i) (b .args .v) (b .pre) (c .before .before .before .before .before .before .before .of .ensures) (c .before .before .before .before .before .before .if1 .left) (c .before .before .before .before .if2 .left) (c .before .before .total .ensures) (c .before .if3 .left)
+    insert-shiftable (b .args .i) (b .args .v) (b .pre) (c .before .before .before .before .before .before .before .of .ensures) (c .before .before .before .before .before .before .if1 .left) (c .before .before .before .before .if2 .left) (c .before .before .total .ensures) (c .before .if3 .left)
 
 same-length-4 : tie.Need-same-length-4
 same-length-4 c = search needs

@@ -1,7 +1,7 @@
 -- `live_move::edit::strike` meets its contract. Assumes nothing.
 use native.Mathlib.Omega.{arith}
 use Rattle.store.proofs.SoundFacts.{facts}
-use Rattle.live_move.proofs.EditSteps.{strike-7, strike-go, strike-planned}
+use Rattle.live_move.proofs.EditSteps.{strike-7, strike-go, strike-shiftable}
 use borrow.Author.Needs.{needs}
 use Rattle.live_move.proofs.edit.strike.Statement.{statement}
 use Rattle.live_move.proofs.edit.strike.Tie as tie
@@ -29,7 +29,7 @@ sub-carry-out c = search needs
 carry-out-requires : tie.Need-carry-out-requires
 carry-out-requires c κs =
     let b = c .before .before .before .before .before in
-    strike-planned (b .args .i) (b .pre) (c .before .before .of .ensures) (c .before .if1 .left)
+    strike-shiftable (b .args .i) (b .pre) (c .before .before .of .ensures) (c .before .if1 .left)
 
 same-length-2 : tie.Need-same-length-2
 same-length-2 c = search needs

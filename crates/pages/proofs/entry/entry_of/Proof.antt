@@ -2,7 +2,7 @@
 use mathlib.Core.Path.{ap, _∙_}
 use native.Mathlib.Omega.{arith}
 use Rattle.store.specs.Layout.{cellsFrom}
-use Rattle.store.proofs.SoundFacts.{facts, sound-held, sum-read}
+use Rattle.store.proofs.SoundFacts.{facts, sound-holds, sum-read}
 use borrow.Author.Needs.{needs}
 use Rattle.pages.proofs.entry.entry_of.Statement.{statement}
 use Rattle.pages.proofs.entry.entry_of.Tie as tie
@@ -27,7 +27,7 @@ returns c =
     let a = c .before .before .before .before .before .before .args in
     let q = c .before .before .before .before .before .before .pre in
     record {
-      held = sound-held (a .s .now) (q .0);
+      holds = sound-holds (a .s .now) (q .0);
       base-is = c .before .cells-from .ensures ∙ ap cellsFrom (c .before .before .link .ensures .is);
       inside = q .1;
       sum-is = sum-read (a .s .now) (a .p) _ _ (c .before .before .before .before .entry-at .ensures) (c .before .before .before .get4 .ensures .is);

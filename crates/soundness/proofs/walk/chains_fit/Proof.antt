@@ -12,7 +12,9 @@ use lib.Dec.{eqb}
 use borrow.Author.Tests.{eqb-false, eqb-true, not-false, not-true}
 use Rattle.lists.specs.Lists.{part}
 use Rattle.bits.specs.Numbers.{numberAt}
+use Rattle.store.specs.PageCode.{pageRoom}
 use Rattle.store.specs.Layout.{cellAt, cellsFrom}
+use Rattle.store.specs.Code.Checked.{marksLength}
 use Rattle.sound_free.specs.Code.Free.{freeFits}
 use Rattle.soundness.specs.Code.Chains.{chainsFit}
 use Rattle.sound_head.proofs.HeadTest.{Bounds, bounds, headed}
@@ -28,7 +30,7 @@ clash b p q = let z : _≡_ {A = ℕ} 0 1 = cc in omega arith
 
 abbrev Inv-loop : tie.InvT-loop
 Inv-loop s table pages cells hours base marks₀ code₀ ok₀ p entry sum k at₀ j₀ marks code ok at j =
-    (j ≤ k) × (length marks ≡ 1801) × (length code ≡ 240) × (ok ≡ true) × (at + 2 ≤ length s)
+    (j ≤ k) × (length marks ≡ marksLength) × (length code ≡ pageRoom) × (ok ≡ true) × (at + 2 ≤ length s)
     × (chainsFit s ≡ cellsOn s pages cells hours p (k - j) marks at) × SoFar s pages p j (k - j) code (numberAt s at 2)
 
 abbrev μ-loop : tie.MeasureT-loop
@@ -36,7 +38,7 @@ abbrev μ-loop : tie.MeasureT-loop
 
 abbrev Inv-pages : tie.InvT-pages
 Inv-pages s table pages cells hours base marks₀ code₀ ok₀ p₀ marks code ok p =
-    (p ≤ pages) × (length marks ≡ 1801) × (length code ≡ 240) × (ok ≡ true) × (chainsFit s ≡ pagesOn s pages cells hours p marks)
+    (p ≤ pages) × (length marks ≡ marksLength) × (length code ≡ pageRoom) × (ok ≡ true) × (chainsFit s ≡ pagesOn s pages cells hours p marks)
 
 abbrev μ-pages : tie.MeasureT-pages
 μ-pages s table pages cells hours base marks₀ code₀ ok₀ p₀ marks code ok p = pages - p

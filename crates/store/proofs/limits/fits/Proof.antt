@@ -7,6 +7,7 @@ use lib.ListN.{length}
 use lib.Dec.{eqb, leb}
 use borrow.Author.Tests.{leb-true, not-false, not-true}
 use Rattle.lists.proofs.Tests.{right}
+use Rattle.store.specs.Limits.{maxCells, maxPages}
 use Rattle.store.proofs.LimitLaws.{just-length, wrong-cells, wrong-pages}
 use borrow.Author.Needs.{needs}
 use Rattle.store.proofs.limits.fits.Statement.{statement}
@@ -36,12 +37,15 @@ returns-2 c =
 cells-from-requires : tie.Need-cells-from-requires
 cells-from-requires c κs =
     let d = c .before .before in
-    omega (arith, most (d .before .before .before .args .pages) 1024 (sym (d .before .one-to .ensures) ∙ not-false _ (d .if1 .left)))
+    omega (arith, most (d .before .before .before .args .pages) maxPages (sym (d .before .one-to .ensures) ∙ not-false _ (d .if1 .left)))
 
 mul-result : tie.Need-mul-result
 mul-result c =
     let e = c .before in
-    omega (arith, most (e .before .before .before .before .before .args .cells) 1800 (sym (e .before .one-to2 .ensures) ∙ not-false _ (e .if2 .left)))
+    omega (
+      arith,
+      most (e .before .before .before .before .before .args .cells) maxCells (sym (e .before .one-to2 .ensures) ∙ not-false _ (e .if2 .left)),
+    )
 
 add-result : tie.Need-add-result
 add-result c =
@@ -51,8 +55,8 @@ add-result c =
     omega (
       arith,
       c .cells-from .ensures,
-      most (a .pages) 1024 (sym (d .before .one-to .ensures) ∙ not-false _ (d .if1 .left)),
-      most (a .cells) 1800 (sym (e .before .one-to2 .ensures) ∙ not-false _ (e .if2 .left)),
+      most (a .pages) maxPages (sym (d .before .one-to .ensures) ∙ not-false _ (d .if1 .left)),
+      most (a .cells) maxCells (sym (e .before .one-to2 .ensures) ∙ not-false _ (e .if2 .left)),
     )
 
 returns-3 : tie.Need-returns-3

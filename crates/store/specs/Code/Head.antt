@@ -10,7 +10,7 @@ use Rattle.store.specs.Layout.{Model}
 use Rattle.store.specs.declared.header.Header.{Header}
 
 -- the header that stands in the bytes s
-pub record Heads (s : List ℕ) (h : Header) : Type 0 where
+pub record HeadOf (s : List ℕ) (h : Header) : Type 0 where
   pub pages-is : h .pages ≡ pagesOf s
   pub cells-is : h .cells ≡ cellsOf s
   pub first-is : h .«first_free» ≡ numberAt s 6 2
@@ -23,7 +23,7 @@ pub record Heads (s : List ℕ) (h : Header) : Type 0 where
   pub hours-small : h .hours < 4294967296
 
 -- the header of a model
-pub record HeadOf (m : Model) (h : Header) : Type 0 where
+pub record HeadFor (m : Model) (h : Header) : Type 0 where
   pub pages-is : h .pages ≡ m .plain .pages
   pub cells-is : h .cells ≡ m .plain .cells
   pub first-is : h .«first_free» ≡ first (m .spare)
