@@ -22,7 +22,6 @@ use Rattle.bits.proofs.Little.{stored}
 use Rattle.bits.proofs.Packing.{bits-bytes, pack-bits}
 use Rattle.reserve.specs.Reserve.{digits, reserve}
 use Rattle.tree.specs.Exact.{clear}
-use Rattle.tree.specs.Read.{place}
 use Rattle.tree.specs.Tree.{tree}
 use Rattle.tree.proofs.Exacts.{field-part}
 use Rattle.tree_lowest.specs.Narrow.{narrow, within}

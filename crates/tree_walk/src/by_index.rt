@@ -10,7 +10,7 @@ use tree::node::one_word;
 use tree::node::root_by_shifts;
 ghost use mathlib.Core.List.{List};
 ghost use mathlib.Core.Path.{_≡_};
-ghost use Prim.Native.Nat.{ℕ, _+_, _≤_, _<_, _^_};
+ghost use Prim.Native.Nat.{ℕ, _+_, _≤_, _<_};
 ghost use Rattle.bits.specs.Bits.{bits};
 ghost use Rattle.reserve.specs.Reserve.{reserve};
 ghost use Rattle.tree.specs.Read.{walk as walked};

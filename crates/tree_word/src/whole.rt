@@ -6,7 +6,7 @@ use reserve::power;
 use reserve::reserve_of;
 ghost use mathlib.Core.Bool.{true};
 ghost use mathlib.Core.Path.{_≡_};
-ghost use Prim.Native.Nat.{_+_, _≤_, _<_, _^_};
+ghost use Prim.Native.Nat.{_+_, _≤_, _^_};
 ghost use lib.ListN.{length, replicate};
 ghost use Rattle.lists.specs.Lists.{part, splice};
 ghost use Rattle.bits.specs.Bits.{field};
