@@ -11,7 +11,7 @@ use Rattle.answers.specs.Image.{Verdict, fails, given, holds, refused, told}
 use Rattle.answers.specs.declared.image.Answer.the-variants.{Number, Refused}
 use Rattle.lists.specs.Lists.{pick, same, splice, sum}
 use Rattle.lists.proofs.Tests.{left, right}
-use Rattle.tree_lowest.specs.Narrow.{within}
+use Rattle.tree_lowest.specs.Code.Narrow.{within}
 use Rattle.image.specs.Calls.{put, unwritten}
 use Rattle.image.specs.Check.{accepted, check, headed}
 use Rattle.image.specs.Image.{image, maxTotal}

@@ -15,8 +15,8 @@ use Rattle.bits.specs.Bits.{bits, value}
 use Rattle.reserve.specs.Reserve.{digits, reserve}
 use Rattle.tree.specs.Code.Node.{Lies}
 use Rattle.tree_walk.specs.Code.Answers.{walkAnswer as walked}
-use Rattle.tree.specs.Exact.{clear}
-use Rattle.tree_lowest.specs.Narrow.{narrow, within}
+use Rattle.tree.specs.Code.Exact.{clear}
+use Rattle.tree_lowest.specs.Code.Narrow.{narrow, within}
 use Rattle.tree_lowest.proofs.NarrowLaws.{within-sum}
 use Rattle.tree.specs.Read.{Found, damaged, found}
 use Rattle.image.specs.Check.{accepted, check, headed}

@@ -20,9 +20,9 @@ use Rattle.bits.proofs.Packing.{bits-bytes}
 use Rattle.reserve.specs.Reserve.{reserve}
 use Rattle.tree.specs.Read.{counts, found, later, walk}
 use Rattle.tree.specs.Tree.{tree}
-use Rattle.tree.specs.Exact.{Coded}
+use Rattle.tree.specs.Code.Exact.{Coded}
 use Rattle.tree.proofs.Exacts.{exact-coded}
-use Rattle.tree_lowest.specs.Narrow.{narrow, within}
+use Rattle.tree_lowest.specs.Code.Narrow.{narrow, within}
 use Rattle.tree_lowest.proofs.NarrowLaws.{narrow-exact, narrow-within}
 use Rattle.tree.proofs.Shape.{length-counts}
 use Rattle.tree.proofs.WalkLaws.{shift, walk-tree}

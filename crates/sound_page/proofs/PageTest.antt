@@ -20,13 +20,13 @@ use Rattle.bits.proofs.Packing.{bits-bytes, pack-bits, take-bits}
 use Rattle.bits.proofs.Little.{byte-take}
 use Rattle.reserve.specs.Reserve.{reserve}
 use Rattle.reserve.proofs.Fit.{most}
-use Rattle.tree.specs.Exact.{clear, exact}
 use Rattle.tree.specs.Read.{counts, walk}
+use Rattle.tree.specs.Code.Exact.{clear, exact}
 use Rattle.tree.specs.Tree.{tree}
 use Rattle.tree.specs.Code.Node.{Lies}
 use Rattle.tree_walk.specs.Code.Answers.{walkAnswer}
 use Rattle.tree.proofs.Clearing.{clear-none}
-use Rattle.tree.specs.Exact.{Coded}
+use Rattle.tree.specs.Code.Exact.{Coded}
 use Rattle.tree.proofs.Exacts.{exact-coded, exact-zero, tree-exact}
 use Rattle.tree.proofs.Shape.{counts-tree, length-counts, length-tree}
 use Rattle.tree.proofs.WalkLaws.{walk-tree}

@@ -15,7 +15,7 @@ use Rattle.reserve.proofs.Fit.{fit-all, one-count}
 use Rattle.lists.specs.Lists.{sum, same, part, fill}
 use Rattle.tree.specs.Tree.{tree}
 use Rattle.tree.specs.Read.{leftOf, leftAt, rightAt, counts}
-use Rattle.tree.specs.Exact.{Coded, clear, spareAt, spareLen, exact}
+use Rattle.tree.specs.Code.Exact.{Coded, clear, spareAt, spareLen, exact}
 use Rattle.lists.proofs.Parts.{length-part, part-more, piece}
 use Rattle.lists.proofs.Sums.{sum-append, sum-halves, sum-take-le}
 use Rattle.lists.proofs.Tests.{same-refl, same-is, each, every-of}

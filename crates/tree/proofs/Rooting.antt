@@ -15,7 +15,7 @@ use Rattle.reserve.specs.Reserve.{digits, reserve}
 use Rattle.reserve.proofs.Exact.{digits-le}
 use Rattle.reserve.proofs.Fit.{fit-all}
 use Rattle.tree.specs.Read.{leftOf, leftAt, rightAt}
-use Rattle.tree.specs.Exact.{spareAt}
+use Rattle.tree.specs.Code.Exact.{spareAt}
 use Rattle.tree.specs.Code.Node.{Lies, Parted, Rooted}
 use Rattle.tree.specs.declared.node.Split.{Split}
 

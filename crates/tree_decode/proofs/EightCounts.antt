@@ -9,7 +9,7 @@ use Rattle.lists.specs.Lists.{splice}
 use Rattle.bits.specs.Bits.{bits, field}
 use Rattle.bits_field.specs.Code.Front.{Front}
 use Rattle.tree.specs.Read.{counts}
-use Rattle.tree.specs.Exact.{exact}
+use Rattle.tree.specs.Code.Exact.{exact}
 use Rattle.tree.specs.Code.Node.{Lies, Rooted}
 use Rattle.tree.specs.declared.node.Split.{Split}
 use Rattle.tree.proofs.Rooting.{left-lies, right-lies}

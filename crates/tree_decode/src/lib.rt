@@ -17,7 +17,7 @@ ghost use Rattle.lists.specs.Lists.{part, splice};
 ghost use Rattle.bits.specs.Bits.{bits};
 ghost use Rattle.reserve_table.specs.Code.Tabled.{Fours};
 ghost use Rattle.tree.specs.Read.{counts};
-ghost use Rattle.tree.specs.Exact.{exact};
+ghost use Rattle.tree.specs.Code.Exact.{exact};
 ghost use Rattle.tree.specs.Code.Node.{Lies};
 
 // Puts n zeros into out from index from on.

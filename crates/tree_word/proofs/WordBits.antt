@@ -17,7 +17,7 @@ use Rattle.reserve.proofs.Exact.{digits-le}
 use Rattle.reserve.proofs.Fit.{bound}
 use Rattle.reserve.proofs.Line.{A, B}
 use Rattle.tree.specs.Read.{leftOf, counts}
-use Rattle.tree.specs.Exact.{exact}
+use Rattle.tree.specs.Code.Exact.{exact}
 use Rattle.tree.specs.Code.Node.{Lies}
 use Rattle.tree.proofs.Exacts.{field-part, counts-local}
 use Rattle.tree.proofs.Local.{exact-local}

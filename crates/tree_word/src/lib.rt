@@ -13,7 +13,7 @@ ghost use Rattle.bits.specs.Bits.{field};
 ghost use Rattle.reserve.specs.Reserve.{digits};
 ghost use Rattle.reserve_table.specs.Code.Tabled.{Fours};
 ghost use Rattle.tree.specs.Read.{counts};
-ghost use Rattle.tree.specs.Exact.{exact};
+ghost use Rattle.tree.specs.Code.Exact.{exact};
 ghost use Rattle.tree_word.specs.Code.Whole.{Whole};
 
 // The four counts with sum s. A pair's left count stands in a field of its own, behind the left sum.

@@ -12,7 +12,7 @@ ghost use Rattle.lists.specs.Lists.{part, splice};
 ghost use Rattle.bits.specs.Bits.{field};
 ghost use Rattle.reserve_table.specs.Code.Tabled.{Fours};
 ghost use Rattle.tree.specs.Read.{counts};
-ghost use Rattle.tree.specs.Exact.{exact};
+ghost use Rattle.tree.specs.Code.Exact.{exact};
 ghost use Rattle.tree_word.specs.Code.Whole.{Whole};
 
 // Whether a tree of 2^h counts with sum s is one of 16, 32 or 64 that own 57 bits at most. A sum one higher owns more.

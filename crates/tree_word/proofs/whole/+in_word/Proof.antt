@@ -10,7 +10,7 @@ use Rattle.lists.specs.Lists.{splice}
 use Rattle.bits.specs.Bits.{field}
 use Rattle.reserve.proofs.Exact.{digits-le}
 use Rattle.tree.specs.Read.{counts}
-use Rattle.tree.specs.Exact.{exact}
+use Rattle.tree.specs.Code.Exact.{exact}
 use Rattle.tree_word.specs.Code.Whole.{Whole}
 use Rattle.tree_word.proofs.Decoding.{height-written}
 use Rattle.tree_word.proofs.WordHalves.{Top, short, left-le, room, behind, left-exact, right-exact, word-written}
