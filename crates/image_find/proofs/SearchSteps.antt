@@ -14,7 +14,7 @@ use Rattle.lists.specs.Lists.{pick}
 use Rattle.lists.proofs.Tests.{each}
 use Rattle.bits.specs.Bits.{bits}
 use Rattle.tree_walk.specs.Code.Answers.{spotted}
-use Rattle.tree.specs.Read.{Sought, nowhere, place, seek}
+use Rattle.tree.specs.Read.{Sought, nowhere, at-index, seek}
 use Rattle.image.specs.Check.{accepted, headed}
 use Rattle.image.specs.Image.{IsImage, pages}
 use Rattle.image.specs.Code.Head.{Opened}
@@ -147,7 +147,7 @@ before-small e p m l k em =
 spot : (f n i : ℕ) (d : Sought) → n < 2 ^ 63 → i ≡ spotted f d → (i ≤ n → placed f n d ≡ given i) × (n < i → placed f n d ≡ refused 6)
 unfolding spotted placed pick
 spot f n i nowhere l e = ((λ (k : i ≤ n). absurd (omega (arith, e))), (λ _. refl))
-spot f n i (place j) l e = (
+spot f n i (at-index j) l e = (
   (λ (k : i ≤ n). rw (le-leb (f + j) n (omega (arith, e))) (ap given (sym e))),
   (λ (k : n < i). rw (lt-leb (f + j) n (omega (arith, e)))),
 )

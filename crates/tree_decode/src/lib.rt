@@ -7,8 +7,8 @@ use tree::node::one_word;
 use tree::node::root_by_shifts;
 use tree_word::eight_wide;
 use tree_word::four;
+use tree_word::whole::decode_word;
 use tree_word::whole::fits;
-use tree_word::whole::in_word;
 ghost use mathlib.Core.Bool.{true};
 ghost use mathlib.Core.Path.{_≡_};
 ghost use Prim.Native.Nat.{_+_, _≤_, _<_, _^_};
@@ -54,7 +54,7 @@ fn decode_node(b: &&[u8], row: &[u8; 64], at: usize, h: u32, s: u64, out: &mut [
     ensures { λ _. ⌜ now (out .exit) ≡ splice (now (out .entry)) from (counts h s (bits (now (now (b .entry)))) at) ⌝ }
 {
     if fits(h, s) {
-        in_word(front::load(*b, at), row, h, s, out, from);
+        decode_word(front::load(*b, at), row, h, s, out, from);
         return;
     }
     if h == 3 && s < 524288 {

@@ -9,7 +9,7 @@ use lib.Dec.{leb, ltb}
 use borrow.Author.Tests.{ltb-true, ltb-false}
 use Rattle.lists.specs.Lists.{pick}
 use Rattle.bits.specs.Bits.{bits}
-use Rattle.tree.specs.Read.{leftOf, Sought, nowhere, place, shifted, seek}
+use Rattle.tree.specs.Read.{leftOf, Sought, nowhere, at-index, shifted, seek}
 use Rattle.tree.specs.Code.Node.{Lies, Rooted}
 use Rattle.tree_walk.specs.Code.Answers.{spotted}
 use Rattle.tree.specs.declared.node.Split.{Split}
@@ -20,7 +20,7 @@ use Rattle.tree.proofs.Rooting.{Inner, left-lies, right-lies}
 spotted-shifted : (n m : ℕ) (p : Sought) → spotted (n + m) p ≡ spotted n (shifted m p)
 unfolding spotted shifted
 spotted-shifted n m nowhere = refl
-spotted-shifted n m (place i) = omega arith
+spotted-shifted n m (at-index i) = omega arith
 
 pub seek-damaged : (h s : ℕ) (b : List ℕ) (a q : ℕ) → leb (leftOf s b a) s ≡ false → seek (suc h) s b a q ≡ nowhere
 unfolding seek pick

@@ -21,18 +21,18 @@ use Rattle.tree.specs.Code.Exact.{exact}
 use Rattle.tree.specs.Code.Node.{Lies}
 use Rattle.tree.proofs.Exacts.{field-part, counts-local}
 use Rattle.tree.proofs.Local.{exact-local}
-use Rattle.tree_word.specs.Code.Whole.{Whole}
+use Rattle.tree_word.specs.Code.FitsWord.{FitsWord}
 
 -- ---- what small trees own, and the digits of the sums below s
-pub sixteen : {h s : ℕ} → h ≡ 4 → s < 37 → Whole h s
+pub sixteen : {h s : ℕ} → h ≡ 4 → s < 37 → FitsWord h s
 unfolding A B
 sixteen {h} {s} e l = rw e (omega (arith, bound 4 s 6))
 
-pub thirty-two : {h s : ℕ} → h ≡ 5 → s < 17 → Whole h s
+pub thirty-two : {h s : ℕ} → h ≡ 5 → s < 17 → FitsWord h s
 unfolding A B
 thirty-two {h} {s} e l = rw e (omega (arith, bound 5 s 5))
 
-pub sixty-four : {h s : ℕ} → h ≡ 6 → s < 13 → Whole h s
+pub sixty-four : {h s : ℕ} → h ≡ 6 → s < 13 → FitsWord h s
 unfolding A B
 sixty-four {h} {s} e l = rw e (omega (arith, bound 6 s 4))
 

@@ -12,7 +12,7 @@ use Rattle.reserve.specs.Reserve.{digits}
 use Rattle.tree.specs.Read.{counts}
 use Rattle.tree.proofs.Rooting.{top, halved, left-lies, right-lies}
 use Rattle.tree.proofs.Shape.{length-counts}
-use Rattle.tree_word.specs.Code.Whole.{Whole}
+use Rattle.tree_word.specs.Code.FitsWord.{FitsWord}
 use Rattle.tree_word.proofs.Decoding.{Unfolded, unfolded, one-count, both-halves, OfHeight, of-height, height-written}
 use Rattle.tree.proofs.OneWord.{four-fits}
 use Rattle.tree_word.proofs.WordBits.{HighEnd, loaded, word-exact, word-counts}
@@ -31,7 +31,7 @@ use Rattle.tree.proofs.node.root_by_shifts.Reads as root-by-shifts-reads
 use Rattle.tree_decode.proofs.lowest.Reads as lowest-reads
 use Rattle.tree_word.proofs.whole.fits.Reads as fits-reads
 use Rattle.tree_word.proofs.four.Reads as four-reads
-use Rattle.tree_word.proofs.whole.in_word.Reads as in-word-reads
+use Rattle.tree_word.proofs.whole.decode_word.Reads as decode-word-reads
 use Rattle.tree_decode.proofs.+decode_node.{statement}
 use Rattle.tree_decode.proofs.+decode_node.Tie.{close}
 
@@ -52,8 +52,8 @@ callees t = (
   fits-reads.Learnt,
   load-reads.Asked,
   load-reads.Learnt,
-  in-word-reads.Asked,
-  in-word-reads.Learnt,
+  decode-word-reads.Asked,
+  decode-word-reads.Learnt,
   lowest-reads.Asked,
   lowest-reads.Learnt,
   one-word-reads.Asked,
@@ -73,7 +73,7 @@ module _ (t : ℕ) (c : decode-node-lts.After-load (callees t) (decode-node-at t
   abbrev small : decode-node-lts.Start (callees t) (decode-node-at t) decode-node.Post
   small = c .before .before .before .before .before
 
-  in-one : Whole (small .args .h) (small .args .s)
+  in-one : FitsWord (small .args .h) (small .args .s)
   in-one = c .before .before .before .fits2 .ensures (c .before .before .if1 .taken)
 
   all-held : HighEnd (bits (small .args .b .now .now)) (small .args .at) (small .args .h) (small .args .s) (c .load .result)
@@ -147,8 +147,8 @@ decode-node-fits-requires t c κs = search needs
 decode-node-load-requires : (t : ℕ) → decode-node-lts.Need-load-requires (callees t) (decode-node-at t) decode-node.Post
 decode-node-load-requires t c κs = search needs
 
-decode-node-in-word-requires : (t : ℕ) → decode-node-lts.Need-in-word-requires (callees t) (decode-node-at t) decode-node.Post
-decode-node-in-word-requires t c κs =
+decode-node-decode-word-requires : (t : ℕ) → decode-node-lts.Need-decode-word-requires (callees t) (decode-node-at t) decode-node.Post
+decode-node-decode-word-requires t c κs =
     let d = c .before in
     let p = small t d .pre .1 in
     ((p .1 .0, in-one t d, word-exact (all-held t d) (p .0 .1)), (p .1 .1, p .1 .2))
@@ -160,7 +160,7 @@ decode-node-returns : (t : ℕ) → decode-node-lts.Need-returns (callees t) (de
 decode-node-returns t c =
     let d = c .before .before .before .before in
     let a = small t d .args in
-    c .before .before .in-word .ensures ∙ ap (splice (a .out .now) (a .from)) (word-counts (all-held t d) (small t d .pre .1 .0 .1))
+    c .before .before .decode-word .ensures ∙ ap (splice (a .out .now) (a .from)) (word-counts (all-held t d) (small t d .pre .1 .0 .1))
 
 decode-node-lowest-requires : (t : ℕ) → decode-node-lts.Need-lowest-requires (callees t) (decode-node-at t) decode-node.Post
 decode-node-lowest-requires t c κs =
@@ -286,7 +286,7 @@ pub +decode-node-spec : {M : Type 1} → statement M
     decode-node.Post
     (decode-node-fits-requires t)
     (decode-node-load-requires t)
-    (decode-node-in-word-requires t)
+    (decode-node-decode-word-requires t)
     (decode-node-same-length t)
     (decode-node-returns t)
     (decode-node-lowest-requires t)
