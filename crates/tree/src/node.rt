@@ -1,4 +1,4 @@
-// The root of a tree: its left sum, and where its two subtrees start.
+// The root of a tree: its left sum, and where its two subtrees start; and which small trees one word has.
 use bits_field::front;
 use reserve::digits_of;
 use reserve::reserve_of;
