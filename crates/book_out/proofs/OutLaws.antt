@@ -10,7 +10,7 @@ use lib.Seq.{getD-drop, getD-take, length-take-le, take-add, take-all, take-appe
 use Rattle.lists.specs.Lists.{splice, tabulate, window}
 use Rattle.lists.proofs.Parts.{length-splice, splice-nil, splice-then, take-smaller}
 use Rattle.lists.proofs.Tables.{tabulate-ext, tabulate-getD, take-tabulate}
-use Rattle.tree_lowest.specs.Narrow.{within}
+use Rattle.tree_lowest.specs.Code.Narrow.{within}
 use Rattle.tree_lowest.proofs.NarrowLaws.{within-take}
 use Rattle.image.specs.Check.{accepted}
 use Rattle.image.specs.Code.Head.{HeadOf}

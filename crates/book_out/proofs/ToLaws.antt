@@ -10,7 +10,7 @@ use Rattle.answers.specs.Image.{Verdict, fails, given, holds, refused, told}
 use Rattle.answers.specs.declared.image.Answer.the-variants.{Number, Refused}
 use Rattle.lists.specs.Lists.{pick, splice}
 use Rattle.lists.proofs.Tests.{right}
-use Rattle.tree_lowest.specs.Narrow.{within}
+use Rattle.tree_lowest.specs.Code.Narrow.{within}
 use Rattle.image.specs.Calls.{put, unwritten}
 use Rattle.image.specs.Check.{accepted, check}
 use Rattle.image.specs.Read.{listOf}

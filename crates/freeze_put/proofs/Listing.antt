@@ -15,8 +15,8 @@ use Rattle.lists.proofs.Tables.{concat-each, concat-suc, getD-tabulate, length-
 use Rattle.lists.proofs.Zeros.{splice-zeros, zeros-at}
 use Rattle.store.specs.Plain.{page}
 use Rattle.bits.specs.Bits.{bits}
-use Rattle.tree.specs.Exact.{exact}
 use Rattle.tree.specs.Read.{counts}
+use Rattle.tree.specs.Code.Exact.{exact}
 use Rattle.tree.proofs.Shape.{counts-tree}
 use Rattle.pages.specs.Gathered.{Gathered}
 use Rattle.pages.proofs.Coding.{code-exact, tree-at}

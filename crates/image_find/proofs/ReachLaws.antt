@@ -11,7 +11,7 @@ use Rattle.lists.specs.Lists.{pick, reached, sum, window}
 use Rattle.lists.proofs.Pages.{reached-within}
 use Rattle.lists.proofs.Reach.{reached-le, reached-zero}
 use Rattle.bits.specs.Bits.{bits}
-use Rattle.tree.specs.Read.{Sought, nowhere, place, seek}
+use Rattle.tree.specs.Read.{Sought, nowhere, at-index, seek}
 use Rattle.tree.proofs.SearchLaws.{seek-tree}
 use Rattle.image.specs.Check.{accepted, headed}
 use Rattle.image.specs.Image.{Limits, image, page, pages, root}
@@ -44,7 +44,7 @@ module _ (e : ℕ) (xs : List ℕ) (m : Limits e xs) where
       let y : ℕ = sum (take (2 ^ e * p) xs) in
       let lo : y < q = omega (arith, before-is e xs m p k) in
       let hi : q ≤ root e xs p = omega (arith, root-is e xs m p k) in
-      let d : seek (eOf S) (sumOf S p) (bits S) (treeAt S p) (q - beforeOf S p) ≡ place (reached (q - y) (page e xs p)) =
+      let d : seek (eOf S) (sumOf S p) (bits S) (treeAt S p) (q - beforeOf S p) ≡ at-index (reached (q - y) (page e xs p)) =
       ap₂ (λ (h z : ℕ). seek h z (bits S) (treeAt S p) (q - beforeOf S p)) (e-is e xs) (sum-is e xs m p k)
       ∙ ap (λ (z : ℕ). seek e (sum (page e xs p)) (bits S) (treeAt S p) (q - z)) (before-is e xs m p k)
       ∙ seek-tree e (page e xs p) (bits S) (treeAt S p) (q - y) (length-page e xs p) (omega arith) (omega (arith, page-sum e xs p))
@@ -54,7 +54,7 @@ module _ (e : ℕ) (xs : List ℕ) (m : Limits e xs) where
       (ap (placed (2 ^ eOf S * p) (nOf S)) d ∙ last (2 ^ eOf S * p) (nOf S) (reached (q - y) (page e xs p)) (reached q xs)
       (ap (λ (z : ℕ). 2 ^ z * p + reached (q - y) (page e xs p)) (e-is e xs) ∙ i) (omega (arith, n-is e xs m, reached-le q xs)))
     where
-      last : (f n i j : ℕ) → f + i ≡ j → j ≤ n → placed f n (place i) ≡ given j
+      last : (f n i j : ℕ) → f + i ≡ j → j ≤ n → placed f n (at-index i) ≡ given j
       last f n i j a b = rw (a, le-leb j n b)
 
 accepted-page : (s : List ℕ) (q p : ℕ) → accepted s ≡ true → p < pagesOf s → beforeOf s p < q → q ≤ rootOf s p
@@ -80,7 +80,7 @@ loose s q p h m a = go (pageFine s p) (seek (eOf s) (sumOf s p) (bits s) (treeAt
     go : (b : Bool) (d : Sought) → Reach s q (pick b (placed (2 ^ eOf s * p) (nOf s) d) (refused 6))
     go false d = damage h m a
     go true nowhere = damage h m a
-    go true (place i) = inner (2 ^ eOf s * p + i) (leb (2 ^ eOf s * p + i) (nOf s)) refl
+    go true (at-index i) = inner (2 ^ eOf s * p + i) (leb (2 ^ eOf s * p + i) (nOf s)) refl
 
 -- the answer from a page with its root q or more and the one before it below q is one that reach may give, on any bytes
 pub reach-found : (s : List ℕ) (q p : ℕ) → headed s ≡ true → q ≤ sOf s → p < pagesOf s → beforeOf s p < q → q ≤ rootOf s p

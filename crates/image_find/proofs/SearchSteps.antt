@@ -13,8 +13,8 @@ use borrow.Author.Tests.{le-leb, lt-leb}
 use Rattle.lists.specs.Lists.{pick}
 use Rattle.lists.proofs.Tests.{each}
 use Rattle.bits.specs.Bits.{bits}
-use Rattle.tree_walk.specs.Code.Answers.{spotted}
-use Rattle.tree.specs.Read.{Sought, nowhere, place, seek}
+use Rattle.tree_search.specs.Code.Answers.{searchAnswer}
+use Rattle.tree.specs.Read.{Sought, nowhere, at-index, seek}
 use Rattle.image.specs.Check.{accepted, headed}
 use Rattle.image.specs.Image.{IsImage, pages}
 use Rattle.image.specs.Code.Head.{Opened}
@@ -144,10 +144,10 @@ before-small e p m l k em =
     omega (arith, em, mul-le-mul-right {m = m} {n = 256} p (omega (arith, em)))
 
 -- the index that a search tells
-spot : (f n i : ℕ) (d : Sought) → n < 2 ^ 63 → i ≡ spotted f d → (i ≤ n → placed f n d ≡ given i) × (n < i → placed f n d ≡ refused 6)
-unfolding spotted placed pick
+spot : (f n i : ℕ) (d : Sought) → n < 2 ^ 63 → i ≡ searchAnswer f d → (i ≤ n → placed f n d ≡ given i) × (n < i → placed f n d ≡ refused 6)
+unfolding searchAnswer placed pick
 spot f n i nowhere l e = ((λ (k : i ≤ n). absurd (omega (arith, e))), (λ _. refl))
-spot f n i (place j) l e = (
+spot f n i (at-index j) l e = (
   (λ (k : i ≤ n). rw (le-leb (f + j) n (omega (arith, e))) (ap given (sym e))),
   (λ (k : n < i). rw (lt-leb (f + j) n (omega (arith, e)))),
 )
@@ -219,16 +219,16 @@ module _ {s : List ℕ} {h : Head} {q : ℕ} {at : Span} {r : Page} (g : AtPage 
               ap (beforeOf s) {x = pagesOf s} {y = suc p} (omega (arith, page-in b)),
             )
 
-    module _ {i m : ℕ} (em : m ≡ 2 ^ (h .e)) (ei : i ≡ spotted (m * p) (seek (h .e) (r .sum) (bits s) (r .at) (q - r .before)))
+    module _ {i m : ℕ} (em : m ≡ 2 ^ (h .e)) (ei : i ≡ searchAnswer (m * p) (seek (h .e) (r .sum) (bits s) (r .at) (q - r .before)))
         (k : q ≤ r .before + r .sum) where
       abbrev P : Sought
       P = seek (eOf s) (sumOf s p) (bits s) (treeAt s p) (q - beforeOf s p)
 
-      found-is : i ≡ spotted (2 ^ eOf s * p) P
+      found-is : i ≡ searchAnswer (2 ^ eOf s * p) P
       found-is =
-          ei ∙ ap₂ (λ (z e : ℕ). spotted (z * p) (seek e (r .sum) (bits s) (r .at) (q - r .before))) (em ∙ ap (λ (z : ℕ). 2 ^ z) (o .head .e-is))
+          ei ∙ ap₂ (λ (z e : ℕ). searchAnswer (z * p) (seek e (r .sum) (bits s) (r .at) (q - r .before))) (em ∙ ap (λ (z : ℕ). 2 ^ z) (o .head .e-is))
           (o .head .e-is)
-          ∙ (λ j. spotted (2 ^ eOf s * p) (seek (eOf s) (pr .sum-is ok j) (bits s) (pr .at-is ok j) (q - pr .before-is ok j)))
+          ∙ (λ j. searchAnswer (2 ^ eOf s * p) (seek (eOf s) (pr .sum-is ok j) (bits s) (pr .at-is ok j) (q - pr .before-is ok j)))
 
       from-is : reachFrom s q p ≡ placed (2 ^ eOf s * p) (nOf s) P
       unfolding reachFrom pick

@@ -10,8 +10,8 @@ use Rattle.lists.specs.Lists.{part, splice, sum}
 use Rattle.bits.specs.Bits.{bits}
 use Rattle.reserve.specs.Reserve.{digits, reserve}
 use Rattle.tree.specs.Code.Node.{Lies}
-use Rattle.tree.specs.Exact.{exact}
 use Rattle.tree.specs.Read.{counts}
+use Rattle.tree.specs.Code.Exact.{exact}
 use Rattle.tree.specs.Tree.{tree}
 use Rattle.tree.proofs.Exacts.{tree-exact}
 use Rattle.tree.proofs.Shape.{counts-tree}

@@ -7,7 +7,7 @@ use native.Mathlib.Omega.{arith}
 use borrow.Author.Tests.{le-leb, lt-leb, lt-ltb, le-ltb, ne-eqb}
 use Rattle.lists.specs.Lists.{pick}
 use Rattle.bits.specs.Bits.{bits}
-use Rattle.tree_walk.specs.Code.Answers.{walkAnswer as walked}
+use Rattle.tree_walk.specs.Code.Answers.{damageWord, walkAnswer as walked}
 use Rattle.tree.specs.Read.{Found, damaged, found, later, walk}
 use Rattle.image.specs.Check.{headed}
 use Rattle.image.specs.Code.Head.{Opened}
@@ -42,7 +42,7 @@ module _ (s : List ℕ) (h : Head) (o : Opened s h) (i k : ℕ) where
   look-between {p} {t} {x} {r} e own last f =
       subst (λ (q : ℕ). PageAt s q r) e (f (record { s = s; p = p; opened = o; own-at = own; last-at = last }))
 
-  pub look-bad : (r : Page) → PageAt s (i / 2 ^ (h .e)) r → r .ok ≡ false → 2 ^ 63 ≡ walked 0 k (look s i)
+  pub look-bad : (r : Page) → PageAt s (i / 2 ^ (h .e)) r → r .ok ≡ false → damageWord ≡ walked 0 k (look s i)
   unfolding look lookIn pick walked
   look-bad r p e = sym (rw (← same, sym (p .ok-is) ∙ e))
 
@@ -65,13 +65,13 @@ count-seven {s} o i l = rw (o .passed, le-leb (nOf s) i (omega (arith, o .head .
 answer-count : (t : ℕ) (f : Found) → t < 2 ^ 63 → Most t f → answered (walked 0 0 f) ≡ theCount f
 unfolding answered walked theCount pick
 answer-count t damaged l m = refl
-answer-count t (found x c) l m = rw (ne-eqb (0 + 0 * x + c) (2 ^ 63) (λ e. omega (arith, e))) (ap given {x = 0 + 0 * x + c} {y = c} (omega arith))
+answer-count t (found x c) l m = rw (ne-eqb (0 + 0 * x + c) damageWord (λ e. omega (arith, e))) (ap given {x = 0 + 0 * x + c} {y = c} (omega arith))
 
 answer-reading : (t : ℕ) (f : Found) → t < 2 ^ 63 → Most t f → answered (walked 0 1 f) ≡ theReading f
 unfolding answered walked theReading pick
 answer-reading t damaged l m = refl
 answer-reading t (found x c) l m =
-    rw (ne-eqb (0 + 1 * x + c) (2 ^ 63) (λ e. omega (arith, e))) (ap given {x = 0 + 1 * x + c} {y = x + c} (omega arith))
+    rw (ne-eqb (0 + 1 * x + c) damageWord (λ e. omega (arith, e))) (ap given {x = 0 + 1 * x + c} {y = x + c} (omega arith))
 
 pub count-found : {s : List ℕ} {h : Head} → Opened s h → (i : ℕ) {r : ℕ} → i < h .hours → r ≡ walked 0 0 (look s i) → answered r ≡ count s i
 unfolding count pick

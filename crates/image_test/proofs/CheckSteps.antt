@@ -14,9 +14,9 @@ use Rattle.lists.proofs.Tests.{every-last, every-no, every-of}
 use Rattle.bits.specs.Bits.{bits}
 use Rattle.reserve.specs.Reserve.{digits, reserve}
 use Rattle.tree.specs.Code.Node.{Lies}
-use Rattle.tree_walk.specs.Code.Answers.{walkAnswer as walked}
-use Rattle.tree.specs.Exact.{clear}
-use Rattle.tree_lowest.specs.Narrow.{narrow, within}
+use Rattle.tree_walk.specs.Code.Answers.{damageWord, walkAnswer as walked}
+use Rattle.tree.specs.Code.Exact.{clear}
+use Rattle.tree_lowest.specs.Code.Narrow.{narrow, within}
 use Rattle.tree_lowest.proofs.NarrowLaws.{within-each}
 use Rattle.tree.specs.Read.{Found, damaged, found}
 use Rattle.image.specs.Check.{accepted, check}
@@ -208,7 +208,7 @@ rest-none s h o e =
 
 says-told : (f : Found) (t : ℕ) → t < 2 ^ 63 → eqb (walked 0 1 f) t ≡ says (theReading f) t
 unfolding walked theReading says
-says-told damaged t l = ne-eqb (2 ^ 63) t (λ e. omega (arith, e))
+says-told damaged t l = ne-eqb damageWord t (λ e. omega (arith, e))
 says-told (found x c) t l = ap (λ (z : ℕ). eqb z t) {x = 0 + 1 * x + c} {y = x + c} (omega arith)
 
 pub rest-some : (s : List ℕ) (h : Head) → Opened s h → (r : ℕ) → (h .hours ≡ 0 → ⊥) → r ≡ walked 0 1 (look s (h .hours - 1))

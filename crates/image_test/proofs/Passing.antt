@@ -20,9 +20,9 @@ use Rattle.bits.proofs.Packing.{bits-bytes}
 use Rattle.reserve.specs.Reserve.{reserve}
 use Rattle.tree.specs.Read.{counts, found, later, walk}
 use Rattle.tree.specs.Tree.{tree}
-use Rattle.tree.specs.Exact.{Coded}
+use Rattle.tree.specs.Code.Exact.{CodeOfCounts}
 use Rattle.tree.proofs.Exacts.{exact-coded}
-use Rattle.tree_lowest.specs.Narrow.{narrow, within}
+use Rattle.tree_lowest.specs.Code.Narrow.{narrow, within}
 use Rattle.tree_lowest.proofs.NarrowLaws.{narrow-exact, narrow-within}
 use Rattle.tree.proofs.Shape.{length-counts}
 use Rattle.tree.proofs.WalkLaws.{shift, walk-tree}
@@ -167,7 +167,7 @@ module _ {most : ℕ} (s : List ℕ) (hd : headed s ≡ true) (all : All most s 
   unfolding bytesFor
   code-fits = omega (arith, bits-long)
 
-  pub coded : (p : ℕ) → p < K → Coded e (sumOf s p) b (c + placeOf s p + w)
+  pub coded : (p : ℕ) → p < K → CodeOfCounts e (sumOf s p) b (c + placeOf s p + w)
   unfolding placeOf
   coded p l = exact-coded e (sumOf s p) b (c + placeOf s p + w) (bits-bytes s) (omega (arith, passes p l .fits, code-fits))
       (narrow-exact most e (sumOf s p) b (c + placeOf s p + w) (passes p l .tree))

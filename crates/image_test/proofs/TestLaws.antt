@@ -21,11 +21,10 @@ use Rattle.bits.specs.Pack.{pack}
 use Rattle.bits.proofs.Little.{stored}
 use Rattle.bits.proofs.Packing.{bits-bytes, pack-bits}
 use Rattle.reserve.specs.Reserve.{digits, reserve}
-use Rattle.tree.specs.Exact.{clear}
-use Rattle.tree.specs.Read.{place}
+use Rattle.tree.specs.Code.Exact.{clear}
 use Rattle.tree.specs.Tree.{tree}
 use Rattle.tree.proofs.Exacts.{field-part}
-use Rattle.tree_lowest.specs.Narrow.{narrow, within}
+use Rattle.tree_lowest.specs.Code.Narrow.{narrow, within}
 use Rattle.tree_lowest.proofs.NarrowLaws.{tree-narrow, within-at, within-concat, within-each, within-take}
 use Rattle.image.specs.Check.{accepted, headed}
 use Rattle.image.specs.Image.{Limits, bytesFor, code, header, headerLength, image, maxTotal, packed, page, pageCode, pages, root, size, start, table}

@@ -17,7 +17,7 @@ use Rattle.reserve.specs.Reserve.{reserve}
 use Rattle.tree.specs.Tree.{tree}
 use Rattle.tree.specs.Code.Node.{Lies}
 use Rattle.tree.specs.Read.{counts}
-use Rattle.tree.specs.Exact.{exact}
+use Rattle.tree.specs.Code.Exact.{exact}
 use Rattle.tree.proofs.Shape.{counts-tree, length-tree}
 use Rattle.tree.proofs.Exacts.{tree-exact}
 use Rattle.store.specs.PageCode.{cells, pageBytes}

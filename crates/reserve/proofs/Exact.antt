@@ -11,7 +11,8 @@ use lib.Arith.{half-le}
 use lib.Dec.{leb}
 use lib.Pow.{pow-mono, pow-pos}
 use borrow.Author.Tests.{le-leb, leb-false, leb-true, lt-leb}
-use Rattle.reserve.specs.Reserve.{digitsIn, digits, pick, ceil, dense, sparse, reserve}
+use Rattle.lists.specs.Lists.{pick}
+use Rattle.reserve.specs.Reserve.{digitsIn, digits, ceil, dense, sparse, reserve}
 use Rattle.reserve.proofs.Line.{line, Under, A-zero, A-dense, B-dense, A-sparse, B-sparse, lt-two-pow}
 
 pub suc-sub-one : (k : ℕ) → suc k - 1 ≡ k
@@ -119,6 +120,7 @@ sparse-is h k s d i =
 -- either formula, where a test picks the dense one just where 2 ^ h ≤ 2 * s
 picked : (h k s : ℕ) → digits s ≡ suc k → (b : Bool) → leb (2 ^ h) (2 * s) ≡ b
     → Just h (suc k) s (pick b (dense h (suc k) s) (sparse h (suc k) s))
+unfolding pick
 picked h k s e true q =
     dense-is h k s (suc k - h) (omega (arith, digits-ge s h (omega (arith, leb-true (2 ^ h) (2 * s) q))))
 picked h k s e false q =

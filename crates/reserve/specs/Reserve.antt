@@ -1,8 +1,8 @@
 -- Document 01, 'What a subtree reserves': the definition, both cases, as printed. Assumes nothing.
 use Prim.Native.Nat.{ℕ, zero, suc, _+_, _-_, _*_, _/_, _^_}
-use mathlib.Core.Bool.{Bool, true, false}
 use mathlib.Core.Path.{_≡_, refl}
 use lib.Dec.{leb}
+use Rattle.lists.specs.Lists.{pick}
 
 -- how many binary digits n has, of which at most k are looked at: halved until nothing is left
 unfoldable pub digitsIn : ℕ → ℕ → ℕ
@@ -14,10 +14,6 @@ digitsIn (suc k) (suc n) = suc (digitsIn k (suc n / 2))
 unfoldable pub digits : ℕ → ℕ
 unfolding digitsIn
 digits n = digitsIn n n
-
-abbrev pub pick : Bool → ℕ → ℕ → ℕ
-pick true a b = a
-pick false a b = b
 
 -- floor (s / u) is s / u; ceil (s / u)
 unfoldable pub ceil : ℕ → ℕ → ℕ
@@ -35,7 +31,7 @@ sparse h t s = 2 ^ t + 2 * s + s * (h - t) - (ceil s (2 ^ (t - 1)) + t + 1)
 
 -- R(2^h, s)
 unfoldable pub reserve : ℕ → ℕ → ℕ
-unfolding digits dense sparse
+unfolding digits dense sparse pick
 reserve h zero = zero
 reserve h (suc k) = pick (leb (2 ^ h) (2 * suc k)) (dense h (digits (suc k)) (suc k)) (sparse h (digits (suc k)) (suc k))
 

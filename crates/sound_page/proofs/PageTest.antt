@@ -20,13 +20,13 @@ use Rattle.bits.proofs.Packing.{bits-bytes, pack-bits, take-bits}
 use Rattle.bits.proofs.Little.{byte-take}
 use Rattle.reserve.specs.Reserve.{reserve}
 use Rattle.reserve.proofs.Fit.{most}
-use Rattle.tree.specs.Exact.{clear, exact}
 use Rattle.tree.specs.Read.{counts, walk}
+use Rattle.tree.specs.Code.Exact.{clear, exact}
 use Rattle.tree.specs.Tree.{tree}
 use Rattle.tree.specs.Code.Node.{Lies}
 use Rattle.tree_walk.specs.Code.Answers.{walkAnswer}
 use Rattle.tree.proofs.Clearing.{clear-none}
-use Rattle.tree.specs.Exact.{Coded}
+use Rattle.tree.specs.Code.Exact.{CodeOfCounts}
 use Rattle.tree.proofs.Exacts.{exact-coded, exact-zero, tree-exact}
 use Rattle.tree.proofs.Shape.{counts-tree, length-counts, length-tree}
 use Rattle.tree.proofs.WalkLaws.{walk-tree}
@@ -62,7 +62,7 @@ module _ {code : List ℕ} {s p N : ℕ} (g : HandedPage code s p N) where
 
   -- ---- its hours, where it is the code of some list
   module _ (i : exact 6 s (bits code) 0 ≡ true) where
-    found : Coded 6 s (bits code) 0
+    found : CodeOfCounts 6 s (bits code) 0
     found = exact-coded 6 s (bits code) 0 (bits-bytes code) (omega (arith, page-lies .inside, length-bits code)) i
 
     -- the walk to hour j of the page tells the prefix sum to it

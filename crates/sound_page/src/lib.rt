@@ -8,7 +8,7 @@ ghost use Rattle.lists.specs.Lists.{same};
 ghost use Rattle.bits.specs.Bits.{bits};
 ghost use Rattle.reserve_table.specs.Code.Tabled.{Tabled};
 ghost use Rattle.tree.specs.Read.{counts};
-ghost use Rattle.tree.specs.Exact.{exact};
+ghost use Rattle.tree.specs.Code.Exact.{exact};
 ghost use Rattle.store.specs.PageCode.{cells};
 ghost use Rattle.store.specs.Code.Checked.{quiet};
 ghost use Rattle.sound_page.specs.Code.Page.{HandedPage, pageFits};

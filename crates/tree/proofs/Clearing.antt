@@ -14,7 +14,7 @@ use Rattle.bits.specs.Bits.{field, valueFrom, value, bits}
 use Rattle.bits.proofs.Laws.{length-bits}
 use Rattle.bits.proofs.Packing.{Bits, bits-bytes}
 use Rattle.bits.proofs.Zeros.{field-zero}
-use Rattle.tree.specs.Exact.{clear}
+use Rattle.tree.specs.Code.Exact.{clear}
 use Rattle.tree.proofs.Exacts.{field-part}
 
 pub value-zeros : (n : ℕ) → value (replicate n 0) ≡ 0

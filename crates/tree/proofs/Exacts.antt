@@ -15,7 +15,7 @@ use Rattle.reserve.proofs.Fit.{fit-all, one-count}
 use Rattle.lists.specs.Lists.{sum, same, part, fill}
 use Rattle.tree.specs.Tree.{tree}
 use Rattle.tree.specs.Read.{leftOf, leftAt, rightAt, counts}
-use Rattle.tree.specs.Exact.{Coded, clear, spareAt, spareLen, exact}
+use Rattle.tree.specs.Code.Exact.{CodeOfCounts, clear, spareAt, spareLen, exact}
 use Rattle.lists.proofs.Parts.{length-part, part-more, piece}
 use Rattle.lists.proofs.Sums.{sum-append, sum-halves, sum-take-le}
 use Rattle.lists.proofs.Tests.{same-refl, same-is, each, every-of}
@@ -75,7 +75,7 @@ node-coded h s l b a X Y bb fits el le nX sX sY cX cY cZ =
           ∙ sym (tree-join h X Y nX ∙ ap₂ (λ (z y : ℕ). fill (reserve (suc h) z) (field (digits z) y ++ (tree h X ++ tree h Y))) tot sX),
     )
 
-pub exact-coded : (h s : ℕ) (b : List ℕ) (a : ℕ) → Bits b → a + reserve h s ≤ length b → exact h s b a ≡ true → Coded h s b a
+pub exact-coded : (h s : ℕ) (b : List ℕ) (a : ℕ) → Bits b → a + reserve h s ≤ length b → exact h s b a ≡ true → CodeOfCounts h s b a
 unfolding exact counts tree sum clear leftOf
 exact-coded zero s b a bb fits e = record { total = omega arith; code = ap (part b a) (one-count s) }
 exact-coded (suc h) s b a bb fits e =
@@ -83,8 +83,8 @@ exact-coded (suc h) s b a bb fits e =
     let w = each (leb l s ∷ exact h l b (leftAt s a) ∷ exact h (s - l) b (rightAt h s l a) ∷ clear b (spareAt h s l a) (spareLen h s l) ∷ []) e in
     let le : l ≤ s = leb-true l s (w .0) in
     let fit : digits s + reserve h l + reserve h (s - l) ≤ reserve (suc h) s = fit-all h s l (s - l) (omega arith) in
-    let p : Coded h l b (leftAt s a) = exact-coded h l b (leftAt s a) bb (omega arith) (w .1 .0) in
-    let q : Coded h (s - l) b (rightAt h s l a) = exact-coded h (s - l) b (rightAt h s l a) bb (omega arith) (w .1 .1 .0) in
+    let p : CodeOfCounts h l b (leftAt s a) = exact-coded h l b (leftAt s a) bb (omega arith) (w .1 .0) in
+    let q : CodeOfCounts h (s - l) b (rightAt h s l a) = exact-coded h (s - l) b (rightAt h s l a) bb (omega arith) (w .1 .1 .0) in
     let r = node-coded h s l b a (counts h l b (leftAt s a)) (counts h (s - l) b (rightAt h s l a)) bb fits refl le
     (length-counts h l b (leftAt s a)) (p .total) (q .total) (p .code) (q .code)
     (same-is (part b (spareAt h s l a) (spareLen h s l)) (replicate (spareLen h s l) 0) (w .1 .1 .1 .0)) in
@@ -95,7 +95,7 @@ pub counts-local : (h s : ℕ) (b c : List ℕ) (a d : ℕ) → Bits b → a + r
     → exact h s b a ≡ true → counts h s c d ≡ counts h s b a
 counts-local h s b c a d bb i q e =
     let xs : List ℕ = counts h s b a in
-    let k : Coded h s b a = exact-coded h s b a bb i e in
+    let k : CodeOfCounts h s b a = exact-coded h s b a bb i e in
     ap (λ (z : ℕ). counts h z c d) (sym (k .total))
     ∙ counts-tree h xs c d (length-counts h s b a) (ap (λ (z : ℕ). part c d (reserve h z)) (k .total) ∙ sym q ∙ k .code)
 

@@ -15,7 +15,7 @@ use Rattle.bits.specs.Bits.{value}
 use Rattle.reserve.specs.Reserve.{digits, reserve}
 use Rattle.reserve.proofs.Fit.{fit-all}
 use Rattle.tree.specs.Read.{leftOf, leftAt, rightAt}
-use Rattle.tree.specs.Exact.{clear, spareAt, spareLen, exact}
+use Rattle.tree.specs.Code.Exact.{clear, spareAt, spareLen, exact}
 
 -- a piece of equal parts
 sub-part : (b c : List ℕ) (a d r i n : ℕ) → part b a r ≡ part c d r → i + n ≤ r → part b (a + i) n ≡ part c (d + i) n

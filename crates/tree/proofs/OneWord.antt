@@ -15,12 +15,15 @@ use Rattle.reserve.proofs.Exact.{digits-is, digits-le}
 use Rattle.reserve.proofs.Fit.{bound, fit-all}
 use Rattle.tree.specs.Read.{leftOf, leftAt, rightAt}
 use Rattle.tree.specs.Code.Node.{Lies}
-use Rattle.tree.specs.Code.InWord.{InWord}
+use Rattle.tree.specs.Code.InWord.{InWord, eightLimit}
 use Rattle.tree.proofs.TwoCounts.{reserve-pair}
 
 -- no sum within s has more digits than s
 pub fewer-digits : {s k : ℕ} → digits s ≤ k → (x : ℕ) → x ≤ s → digits x ≤ k
 fewer-digits {s} {k} few x l = omega (arith, few, digits-le x (digits s) (omega (arith, digits-is s)))
+
+pub few-digits : {s : ℕ} → s < 2 ^ 19 → (x : ℕ) → x ≤ s → digits x ≤ 19
+few-digits l x k = digits-le x 19 (omega arith)
 
 -- ---- what trees own that are read out of one word
 pub four-fits : (s : ℕ) → digits s ≤ 19 → reserve 2 s ≤ 57
@@ -29,7 +32,7 @@ four-fits s l =
     let small : s < 2 ^ 19 = lt-of-lt-of-le (digits-is s .0) (pow-mono {i = digits s} {j = 19} l) in
     omega (arith, bound 2 s 19)
 
-pub eight-fits : (s : ℕ) → s < 439 → reserve 3 s ≤ 57
+pub eight-fits : (s : ℕ) → s < eightLimit → reserve 3 s ≤ 57
 unfolding A B
 eight-fits s l = omega (arith, bound 3 s 9)
 

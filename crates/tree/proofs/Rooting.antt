@@ -2,7 +2,7 @@
 use mathlib.Core.Path.{_≡_, sym, ap, _∙_}
 use mathlib.Core.Bool.{true}
 use mathlib.Core.List.{List}
-use Prim.Native.Nat.{ℕ, suc, _+_, _-_, _/_, _%_, _^_, _≤_, _<_}
+use Prim.Native.Nat.{ℕ, suc, _+_, _-_, _/_, _%_, _^_, _≤_}
 use native.Mathlib.Nat.{pow-succ', add-zero}
 use native.Mathlib.Numerals.{add-one}
 use native.Mathlib.Omega.{arith}
@@ -15,7 +15,7 @@ use Rattle.reserve.specs.Reserve.{digits, reserve}
 use Rattle.reserve.proofs.Exact.{digits-le}
 use Rattle.reserve.proofs.Fit.{fit-all}
 use Rattle.tree.specs.Read.{leftOf, leftAt, rightAt}
-use Rattle.tree.specs.Exact.{spareAt}
+use Rattle.tree.specs.Code.Exact.{spareAt}
 use Rattle.tree.specs.Code.Node.{Lies, Parted, Rooted}
 use Rattle.tree.specs.declared.node.Split.{Split}
 

@@ -9,12 +9,12 @@ use borrow.Author.Tests.{le-leb, lt-leb}
 use Rattle.reserve.specs.Reserve.{reserve}
 use Rattle.lists.specs.Lists.{sum, pick, part, reached}
 use Rattle.tree.specs.Tree.{tree}
-use Rattle.tree.specs.Read.{leftOf, leftAt, rightAt, place, shifted, seek}
+use Rattle.tree.specs.Read.{leftOf, leftAt, rightAt, at-index, shifted, seek}
 use Rattle.lists.proofs.Sums.{sum-halves, sum-take-le}
 use Rattle.lists.proofs.Reach.{reached-suc, reached-nil, reached-left, reached-right}
 use Rattle.tree.proofs.Shape.{left-read, left-region, right-region, rest-is, left-long, right-long}
 
-moved : (n i : ℕ) → shifted n (place i) ≡ place (n + i)
+moved : (n i : ℕ) → shifted n (at-index i) ≡ at-index (n + i)
 unfolding shifted
 moved n i = refl
 
@@ -27,14 +27,14 @@ pub seek-right : (h s l : ℕ) (b : List ℕ) (a q : ℕ) → leftOf s b a ≡ l
 unfolding seek pick
 seek-right h s l b a q e i k = rw (e, le-leb l s i, lt-leb q l k)
 
-lone : (l : List ℕ) (q : ℕ) → length l ≡ 1 → 1 ≤ q → place 1 ≡ place (reached q l)
+lone : (l : List ℕ) (q : ℕ) → length l ≡ 1 → 1 ≤ q → at-index 1 ≡ at-index (reached q l)
 unfolding reached
 lone [] q e k = absurd (omega (arith, e))
-lone (x ∷ []) q e k = ap place (sym (reached-suc q x [] k ∙ ap suc (reached-nil (q - x))))
+lone (x ∷ []) q e k = ap at-index (sym (reached-suc q x [] k ∙ ap suc (reached-nil (q - x))))
 lone (x ∷ y ∷ l) q e k = absurd (omega (arith, e))
 
 pub seek-tree : (h : ℕ) (xs b : List ℕ) (a q : ℕ) → length xs ≡ 2 ^ h → 1 ≤ q → q ≤ sum xs → part b a (reserve h (sum xs)) ≡ tree h xs
-    → seek h (sum xs) b a q ≡ place (reached q xs)
+    → seek h (sum xs) b a q ≡ at-index (reached q xs)
 unfolding seek
 seek-tree zero xs b a q n k m e = lone xs q n k
 seek-tree (suc h) xs b a q n k m e =
@@ -46,18 +46,18 @@ seek-tree (suc h) xs b a q n k m e =
     whole r = ap (reached r) (take-append-drop (2 ^ h) xs)
 
     go : Dec (q ≤ sum (take (2 ^ h) xs)) → (q ≤ sum (take (2 ^ h) xs)
-        → seek h (sum (take (2 ^ h) xs)) b (leftAt (sum xs) a) q ≡ place (reached q (take (2 ^ h) xs)))
+        → seek h (sum (take (2 ^ h) xs)) b (leftAt (sum xs) a) q ≡ at-index (reached q (take (2 ^ h) xs)))
         → (1 ≤ q - sum (take (2 ^ h) xs) → q - sum (take (2 ^ h) xs) ≤ sum (drop (2 ^ h) xs)
-        → seek h (sum (drop (2 ^ h) xs)) b (rightAt h (sum xs) (sum (take (2 ^ h) xs)) a) (q - sum (take (2 ^ h) xs)) ≡ place
+        → seek h (sum (drop (2 ^ h) xs)) b (rightAt h (sum xs) (sum (take (2 ^ h) xs)) a) (q - sum (take (2 ^ h) xs)) ≡ at-index
         (reached (q - sum (take (2 ^ h) xs)) (drop (2 ^ h) xs)))
-        → seek (suc h) (sum xs) b a q ≡ place (reached q xs)
+        → seek (suc h) (sum xs) b a q ≡ at-index (reached q xs)
     go (yes i) p r =
         seek-left h (sum xs) (sum (take (2 ^ h) xs)) b a q (left-read h xs b a e) (sum-take-le (2 ^ h) xs) i ∙ p i
-        ∙ ap place (sym (reached-left q (take (2 ^ h) xs) (drop (2 ^ h) xs) i) ∙ whole q)
+        ∙ ap at-index (sym (reached-left q (take (2 ^ h) xs) (drop (2 ^ h) xs) i) ∙ whole q)
     go (no i) p r =
         seek-right h (sum xs) (sum (take (2 ^ h) xs)) b a q (left-read h xs b a e) (sum-take-le (2 ^ h) xs) (omega arith)
         ∙ ap (λ (z : ℕ). shifted (2 ^ h) (seek h z b (rightAt h (sum xs) (sum (take (2 ^ h) xs)) a) (q - sum (take (2 ^ h) xs)))) (rest-is h xs b a e)
         ∙ ap (shifted (2 ^ h)) (r (omega arith) (omega (arith, sum-halves (2 ^ h) xs)))
         ∙ moved (2 ^ h) (reached (q - sum (take (2 ^ h) xs)) (drop (2 ^ h) xs))
-        ∙ ap place (ap (λ (z : ℕ). z + reached (q - sum (take (2 ^ h) xs)) (drop (2 ^ h) xs)) (sym (left-long h xs n))
+        ∙ ap at-index (ap (λ (z : ℕ). z + reached (q - sum (take (2 ^ h) xs)) (drop (2 ^ h) xs)) (sym (left-long h xs n))
         ∙ sym (reached-right q (take (2 ^ h) xs) (drop (2 ^ h) xs) (omega arith)) ∙ whole q)

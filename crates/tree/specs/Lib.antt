@@ -1,6 +1,5 @@
 -- Definitions of the crate.
 pub mod Tree
 pub mod Read
-pub mod Exact
 pub mod Ranges
 pub mod Code

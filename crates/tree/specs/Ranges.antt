@@ -1,7 +1,7 @@
 -- Demand 2's ranges: those of the nodes of a tree, as numbers. Assumes nothing.
 use mathlib.Core.List.{List, [], _∷_}
 use mathlib.Core.Path.{_≡_}
-use Prim.Native.Nat.{ℕ, zero, suc, _+_, _-_, _^_, _≤_}
+use Prim.Native.Nat.{ℕ, zero, suc, _+_, _^_, _≤_}
 use lib.ListN.{take, drop}
 use Rattle.reserve.specs.Reserve.{digits, reserve}
 use Rattle.lists.specs.Lists.{sum}

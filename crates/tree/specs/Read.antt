@@ -46,16 +46,16 @@ walk (suc h) s b a j =
 -- what a search by prefix sum finds: damage, or an index
 pub data Sought : Type 0 where
   nowhere : Sought
-  place : ℕ → Sought
+  at-index : ℕ → Sought
 
 -- the same with n more counts before it
 unfoldable pub shifted : ℕ → Sought → Sought
 shifted n nowhere = nowhere
-shifted n (place i) = place (n + i)
+shifted n (at-index i) = at-index (n + i)
 
 -- the search for the least index whose prefix sum is q or more, 1 ≤ q ≤ s: left where the left sum is q or more
 unfoldable pub seek : ℕ → ℕ → List ℕ → ℕ → ℕ → Sought
-seek zero s b a q = place 1
+seek zero s b a q = at-index 1
 seek (suc h) s b a q =
     let l = leftOf s b a in
     let down = pick (leb q l) (seek h l b (leftAt s a) q) (shifted (2 ^ h) (seek h (s - l) b (rightAt h s l a) (q - l))) in

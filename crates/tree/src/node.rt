@@ -1,4 +1,4 @@
-// The root of a tree: its left sum, and where its two subtrees start.
+// The root of a tree: its left sum, and where its two subtrees start; and which small trees one word has.
 use bits_field::front;
 use reserve::digits_of;
 use reserve::reserve_of;
@@ -8,6 +8,7 @@ ghost use Prim.Native.Nat.{_+_, _≤_, _<_, _^_};
 ghost use Rattle.bits.specs.Bits.{bits};
 ghost use Rattle.reserve.specs.Reserve.{digits, reserve as reserved};
 ghost use Rattle.tree.specs.Code.Node.{Lies, Parted, Rooted};
+ghost use Rattle.tree.specs.Code.InWord.{eightLimit};
 
 // A node that was read. Where its left sum is above its sum, ok is false and the rest says nothing.
 pub struct Split {
@@ -69,9 +70,20 @@ pub fn one_word(h: u32, s: u64) -> bool
     digits_of(s) <= 19
 }
 
+// Whether a tree of 2^h counts with sum s is one of eight counts of which each four are such a tree. A sum below 2^19 has 19 digits at most,
+// and so have the sums of both fours.
+pub fn fours_in_words(h: u32, s: u64) -> bool
+    ensures { λ r. ⌜ (r ≡ true → (h ≡ 3) × (digits s ≤ 19)) ⌝ }
+{
+    if h != 3 {
+        return false;
+    }
+    s < 524288
+}
+
 // Whether a tree of 2^h counts with sum s is one of eight counts that own 57 bits at most. A sum of 439 owns 58.
 pub fn eight_in_word(h: u32, s: u64) -> bool
-    ensures { λ r. ⌜ (r ≡ true → (h ≡ 3) × (s < 439)) ⌝ }
+    ensures { λ r. ⌜ (r ≡ true → (h ≡ 3) × (s < eightLimit)) ⌝ }
 {
     if h != 3 {
         return false;

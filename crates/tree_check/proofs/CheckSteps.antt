@@ -10,7 +10,7 @@ use Rattle.lists.specs.Lists.{every}
 use Rattle.reserve.specs.Reserve.{digits, reserve}
 use Rattle.reserve.proofs.Exact.{digits-le}
 use Rattle.tree.specs.Read.{leftOf, leftAt, rightAt}
-use Rattle.tree.specs.Exact.{clear, spareAt, spareLen, exact}
+use Rattle.tree.specs.Code.Exact.{clear, spareAt, spareLen, exact}
 use Rattle.tree.specs.Code.Node.{Lies}
 use Rattle.tree.specs.declared.node.Split.{Split}
 use Rattle.tree.proofs.Exacts.{exact-zero}

@@ -12,7 +12,7 @@ ghost use Rattle.bits.specs.Bits.{bits};
 ghost use Rattle.reserve.specs.Reserve.{digits, reserve as reserved};
 ghost use Rattle.reserve_table.specs.Code.Tabled.{Tabled};
 ghost use Rattle.tree.specs.Read.{leftOf};
-ghost use Rattle.tree.specs.Exact.{exact};
+ghost use Rattle.tree.specs.Code.Exact.{exact};
 ghost use Rattle.tree.specs.Code.Node.{Lies};
 
 // The left sum of a node at bit at, whose sum s has t digits.

@@ -2,26 +2,27 @@
 use mathlib.Core.Path.{_≡_, refl, ap, _∙_}
 use mathlib.Core.Bool.{true}
 use mathlib.Core.List.{List}
-use Prim.Native.Nat.{ℕ, _+_, _-_, _≤_, _<_}
+use Prim.Native.Nat.{ℕ, _+_, _-_, _≤_}
 use native.Mathlib.Omega.{arith}
 use lib.ListN.{length}
 use Rattle.lists.specs.Lists.{splice}
 use Rattle.bits.specs.Bits.{bits, field}
 use Rattle.bits_field.specs.Code.Front.{Front}
+use Rattle.reserve.specs.Reserve.{digits}
 use Rattle.tree.specs.Read.{counts}
-use Rattle.tree.specs.Exact.{exact}
+use Rattle.tree.specs.Code.Exact.{exact}
 use Rattle.tree.specs.Code.Node.{Lies, Rooted}
 use Rattle.tree.specs.declared.node.Split.{Split}
 use Rattle.tree.proofs.Rooting.{left-lies, right-lies}
 use Rattle.tree_word.proofs.Decoding.{Unfolded, unfolded, both-halves}
-use Rattle.tree.proofs.OneWord.{four-fits}
-use Rattle.tree_word.proofs.WordBits.{HighEnd, loaded, word-exact, word-counts, few-digits}
+use Rattle.tree.proofs.OneWord.{fewer-digits, four-fits}
+use Rattle.tree_word.proofs.WordBits.{HighEnd, loaded, word-exact, word-counts}
 
 -- the words v and w are each loaded where a half starts
 pub record InHalves (b : List ℕ) (a s : ℕ) (r : Split) : Type 0 where
   pub lies : Lies b a 3 s
   pub code : exact 3 s (bits b) a ≡ true
-  pub few : s < 524288
+  pub few : digits s ≤ 19
   pub root : Rooted (bits b) a 2 s r
 
 module _ {b : List ℕ} {a s : ℕ} {r : Split} (q : InHalves b a s r) where
@@ -39,14 +40,14 @@ module _ {b : List ℕ} {a s : ℕ} {r : Split} (q : InHalves b a s r) where
 
   module _ (v : ℕ) (f : Front (bits b) (r .first) v) where
     first-held : HighEnd (bits b) (r .first) 2 (r .left) v
-    first-held = loaded v first-lies (four-fits (r .left) (few-digits (q .few) (r .left) root-le)) f
+    first-held = loaded v first-lies (four-fits (r .left) (fewer-digits (q .few) (r .left) root-le)) f
 
     pub first-exact : exact 2 (r .left) (field 64 v) 0 ≡ true
     first-exact = word-exact first-held (node .left-exact)
 
     module _ (w : ℕ) (g : Front (bits b) (r .second) w) where
       second-held : HighEnd (bits b) (r .second) 2 (s - r .left) w
-      second-held = loaded w second-lies (four-fits (s - r .left) (few-digits (q .few) (s - r .left) (omega arith))) g
+      second-held = loaded w second-lies (four-fits (s - r .left) (fewer-digits (q .few) (s - r .left) (omega arith))) g
 
       pub second-exact : exact 2 (s - r .left) (field 64 w) 0 ≡ true
       second-exact = word-exact second-held (node .right-exact)

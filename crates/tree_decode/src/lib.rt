@@ -3,21 +3,23 @@
 // one, or at one count where these do not fit a word. It reads over `&&[u8]`, a thin pointer.
 use bits_field::front;
 use tree::node::eight_in_word;
+use tree::node::fours_in_words;
 use tree::node::one_word;
 use tree::node::root_by_shifts;
 use tree_word::eight_wide;
 use tree_word::four;
+use tree_word::whole::decode_word;
 use tree_word::whole::fits;
-use tree_word::whole::in_word;
 ghost use mathlib.Core.Bool.{true};
 ghost use mathlib.Core.Path.{_≡_};
 ghost use Prim.Native.Nat.{_+_, _≤_, _<_, _^_};
 ghost use lib.ListN.{length, replicate};
 ghost use Rattle.lists.specs.Lists.{part, splice};
 ghost use Rattle.bits.specs.Bits.{bits};
+ghost use Rattle.reserve.specs.Reserve.{digits};
 ghost use Rattle.reserve_table.specs.Code.Tabled.{Fours};
 ghost use Rattle.tree.specs.Read.{counts};
-ghost use Rattle.tree.specs.Exact.{exact};
+ghost use Rattle.tree.specs.Code.Exact.{exact};
 ghost use Rattle.tree.specs.Code.Node.{Lies};
 
 // Puts n zeros into out from index from on.
@@ -35,7 +37,7 @@ fn zeros(out: &mut [u32], from: usize, n: usize)
 // The lowest three levels: the eight counts with sum s at bit at. They come out of one word where it has all their bits, else each four
 // out of a word of their own.
 fn lowest(b: &[u8], at: usize, s: u64, out: &mut [u32], from: usize)
-    requires { ⌜ Lies (now b) at 3 s × (exact 3 s (bits (now b)) at ≡ true) × (s < 524288) × (from + 8 ≤ length (now out)) ⌝ }
+    requires { ⌜ Lies (now b) at 3 s × (exact 3 s (bits (now b)) at ≡ true) × (digits s ≤ 19) × (from + 8 ≤ length (now out)) ⌝ }
     ensures { λ _. ⌜ now (out .exit) ≡ splice (now (out .entry)) from (counts 3 s (bits (now (b .entry))) at) ⌝ }
 {
     if eight_in_word(3, s) {
@@ -54,10 +56,10 @@ fn decode_node(b: &&[u8], row: &[u8; 64], at: usize, h: u32, s: u64, out: &mut [
     ensures { λ _. ⌜ now (out .exit) ≡ splice (now (out .entry)) from (counts h s (bits (now (now (b .entry)))) at) ⌝ }
 {
     if fits(h, s) {
-        in_word(front::load(*b, at), row, h, s, out, from);
+        decode_word(front::load(*b, at), row, h, s, out, from);
         return;
     }
-    if h == 3 && s < 524288 {
+    if fours_in_words(h, s) {
         lowest(*b, at, s, out, from);
         return;
     }

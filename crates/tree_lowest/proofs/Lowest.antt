@@ -2,7 +2,7 @@
 use mathlib.Core.Path.{_≡_, refl, sym, ap, ap₂, _∙_}
 use mathlib.Core.Bool.{Bool, true, false, _&&_, and-true}
 use mathlib.Core.List.{List, [], _∷_}
-use Prim.Native.Nat.{ℕ, zero, suc, _+_, _-_, _*_, _/_, _%_, _^_, _≤_, _<_}
+use Prim.Native.Nat.{ℕ, zero, suc, _+_, _-_, _/_, _%_, _^_, _≤_, _<_}
 use native.Mathlib.Nat.{mod-eq-of-lt}
 use native.Mathlib.Omega.{arith}
 use lib.ListN.{length, drop}
@@ -19,14 +19,14 @@ use Rattle.reserve.specs.Reserve.{digits, reserve}
 use Rattle.reserve.proofs.Exact.{digits-le}
 use Rattle.reserve.proofs.Fit.{fit-all, one-count}
 use Rattle.tree.specs.Read.{counts, leftOf, leftAt, rightAt}
-use Rattle.tree.specs.Exact.{clear, spareAt, spareLen, exact}
+use Rattle.tree.specs.Code.Exact.{clear, spareAt, spareLen, exact}
 use Rattle.tree.proofs.Clearing.{clear-value}
 use Rattle.tree.specs.Code.Node.{Lies}
 use Rattle.tree.proofs.Exacts.{counts-local, field-part}
 use Rattle.tree.proofs.TwoCounts.{reserve-pair}
 use Rattle.tree.proofs.Local.{tests, exact-tests, exact-local}
 use Rattle.tree_lowest.specs.Code.Four.{FourIn}
-use Rattle.tree_lowest.specs.Narrow.{narrow, within}
+use Rattle.tree_lowest.specs.Code.Narrow.{narrow, within}
 use Rattle.tree_lowest.specs.declared.four.Four.{Four}
 use Rattle.tree_lowest.proofs.NarrowLaws.{narrow-is, narrow-not, never, within-append}
 

@@ -11,12 +11,12 @@ use Rattle.lists.specs.Lists.{concat, every, part, sum, tabulate}
 use Rattle.lists.proofs.Tests.{both, left, right}
 use Rattle.bits.proofs.Packing.{Bits}
 use Rattle.reserve.specs.Reserve.{reserve}
-use Rattle.tree.specs.Exact.{exact}
 use Rattle.tree.specs.Read.{counts}
+use Rattle.tree.specs.Code.Exact.{exact}
 use Rattle.tree.specs.Tree.{tree}
 use Rattle.tree.proofs.Exacts.{exact-coded, tree-exact}
 use Rattle.tree.proofs.Shape.{counts-tree}
-use Rattle.tree_lowest.specs.Narrow.{narrow, within}
+use Rattle.tree_lowest.specs.Code.Narrow.{narrow, within}
 
 pub never : false ≡ true → ⊥
 never e = let z : _≡_ {A = ℕ} 0 1 = cc in omega arith

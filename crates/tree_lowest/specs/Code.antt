@@ -1,2 +1,3 @@
 -- What one function of src/ hands the next.
+pub mod Narrow
 pub mod Four

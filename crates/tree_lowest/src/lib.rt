@@ -10,9 +10,9 @@ ghost use Prim.Native.Nat.{_+_, _*_, _≤_, _<_, _^_};
 ghost use lib.ListN.{length};
 ghost use Rattle.bits.specs.Bits.{bits};
 ghost use Rattle.reserve.specs.Reserve.{reserve as reserved};
-ghost use Rattle.tree.specs.Exact.{clear, exact};
+ghost use Rattle.tree.specs.Code.Exact.{clear, exact};
 ghost use Rattle.tree.specs.Code.Node.{Lies};
-ghost use Rattle.tree_lowest.specs.Narrow.{narrow, within};
+ghost use Rattle.tree_lowest.specs.Code.Narrow.{narrow, within};
 
 // Whether n bits from bit at on are 0.
 pub fn zero_bits(b: &[u8], at: usize, n: usize) -> bool

@@ -8,17 +8,16 @@ use native.Mathlib.Omega.{arith}
 use lib.Dec.{leb}
 use borrow.Author.Tests.{le-leb, lt-leb}
 use Rattle.lists.specs.Lists.{every}
-use Rattle.lists.proofs.Tests.{right}
 use Rattle.bits.specs.Bits.{bits}
 use Rattle.bits.proofs.Laws.{length-bits}
 use Rattle.bits.proofs.Packing.{bits-bytes}
 use Rattle.reserve.specs.Reserve.{digits, reserve}
-use Rattle.tree.specs.Exact.{clear, exact, spareAt, spareLen}
 use Rattle.tree.specs.Read.{counts, leftAt, leftOf, rightAt}
+use Rattle.tree.specs.Code.Exact.{clear, exact, spareAt, spareLen}
 use Rattle.tree.specs.Code.Node.{Lies}
 use Rattle.tree.proofs.Rooting.{Halves as Below, halves, top}
 use Rattle.tree_check.proofs.CheckSteps.{not-zero}
-use Rattle.tree_lowest.specs.Narrow.{narrow, within}
+use Rattle.tree_lowest.specs.Code.Narrow.{narrow, within}
 use Rattle.tree_lowest.proofs.NarrowLaws.{narrow-few, never, within-append}
 use Rattle.tree_narrow.specs.Code.Halves.{Halved}
 use Rattle.tree_narrow.specs.declared.Halves.{Halves}

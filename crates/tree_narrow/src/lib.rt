@@ -13,7 +13,7 @@ ghost use Rattle.bits.specs.Bits.{bits};
 ghost use Rattle.reserve.specs.Reserve.{reserve as reserved};
 ghost use Rattle.reserve_table.specs.Code.Tabled.{Tabled};
 ghost use Rattle.tree.specs.Code.Node.{Lies};
-ghost use Rattle.tree_lowest.specs.Narrow.{narrow};
+ghost use Rattle.tree_lowest.specs.Code.Narrow.{narrow};
 ghost use Rattle.tree_narrow.specs.Code.Halves.{Halved};
 
 // A node that was read: its left sum, where its halves start, and how many bits each owns. Where the node is damaged, ok is false and the

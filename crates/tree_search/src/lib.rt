@@ -12,12 +12,13 @@ ghost use Rattle.bits.specs.Bits.{bits};
 ghost use Rattle.reserve.specs.Reserve.{digits};
 ghost use Rattle.tree.specs.Read.{seek as sought};
 ghost use Rattle.tree.specs.Code.Node.{Lies};
-ghost use Rattle.tree_walk.specs.Code.Answers.{spotted};
+ghost use Rattle.tree_walk.specs.Code.Answers.{damageWord};
+ghost use Rattle.tree_search.specs.Code.Answers.{searchAnswer};
 
 // The index that `search` is to find in the four counts with sum s at bit at.
 fn search_four(b: &[u8], at: usize, s: u64, q: u64, n: u64) -> u64
-    requires { ⌜ Lies (now b) at 2 s × (digits s ≤ 19) × (n + 4 < 2 ^ 63) ⌝ }
-    ensures { λ r. ⌜ r ≡ spotted n (sought 2 s (bits (now (b .entry))) at q) ⌝ }
+    requires { ⌜ Lies (now b) at 2 s × (digits s ≤ 19) × (n + 4 < damageWord) ⌝ }
+    ensures { λ r. ⌜ r ≡ searchAnswer n (sought 2 s (bits (now (b .entry))) at q) ⌝ }
 {
     let w = front::load(b, at);
     let left = front::part(w, 0, digits_of(s));
@@ -33,8 +34,8 @@ fn search_four(b: &[u8], at: usize, s: u64, q: u64, n: u64) -> u64
 
 // The search from the node at bit at down. Which half it goes to nothing can foretell, so there is no jump on it.
 fn search_node(b: &&[u8], at: usize, h: u32, s: u64, q: u64, n: u64) -> u64
-    requires { ⌜ Lies (now (now b)) at h s × (n + 2 ^ h < 2 ^ 63) ⌝ }
-    ensures { λ r. ⌜ r ≡ spotted n (sought h s (bits (now (now (b .entry)))) at q) ⌝ }
+    requires { ⌜ Lies (now (now b)) at h s × (n + 2 ^ h < damageWord) ⌝ }
+    ensures { λ r. ⌜ r ≡ searchAnswer n (sought h s (bits (now (now (b .entry)))) at q) ⌝ }
 {
     if one_word(h, s) {
         return search_four(*b, at, s, q, n);
@@ -58,8 +59,8 @@ fn search_node(b: &&[u8], at: usize, h: u32, s: u64, q: u64, n: u64) -> u64
 // Searches for the least index whose prefix sum in the tree is q or more, where 1 ≤ q ≤ s; n counts stand before the tree. A left sum
 // that equals q is reached in the left half.
 pub fn search(b: &[u8], at: usize, h: u32, s: u64, q: u64, n: u64) -> u64
-    requires { ⌜ Lies (now b) at h s × (n + 2 ^ h < 2 ^ 63) ⌝ }
-    ensures { λ r. ⌜ r ≡ spotted n (sought h s (bits (now (b .entry))) at q) ⌝ }
+    requires { ⌜ Lies (now b) at h s × (n + 2 ^ h < damageWord) ⌝ }
+    ensures { λ r. ⌜ r ≡ searchAnswer n (sought h s (bits (now (b .entry))) at q) ⌝ }
 {
     search_node(&b, at, h, s, q, n)
 }

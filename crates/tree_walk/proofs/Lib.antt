@@ -1,4 +1,3 @@
--- Laws of the steps of walk and search.
+-- Laws of the steps of the walk, and of four counts on its way.
 pub mod WalkSteps
-pub mod SeekSteps
 pub mod LowPairs

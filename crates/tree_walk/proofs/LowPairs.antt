@@ -5,24 +5,21 @@ use mathlib.Core.List.{List}
 use Prim.Native.Nat.{ℕ, zero, suc, _+_, _-_, _*_, _/_, _%_, _^_, _≤_, _<_}
 use native.Mathlib.Nat.{add-zero}
 use native.Mathlib.Omega.{arith}
-use lib.Dec.{leb, ltb, eqb, eqb·suc-zero}
-use borrow.Author.Tests.{leb-true, leb-false, ltb-true, ltb-false, le-leb, lt-leb}
+use lib.Dec.{leb, eqb, eqb·suc-zero}
+use borrow.Author.Tests.{leb-true, leb-false, le-leb, lt-leb}
 use Rattle.lists.specs.Lists.{pick}
-use Rattle.bits.specs.Bits.{bits}
 use Rattle.reserve.specs.Reserve.{digits, reserve}
-use Rattle.tree.specs.Read.{leftOf, leftAt, rightAt, later, walk, shifted, seek}
+use Rattle.tree.specs.Read.{leftOf, leftAt, rightAt, later, walk}
 use Rattle.tree.specs.Code.Node.{Lies}
 use Rattle.tree.specs.Code.InWord.{InWord}
 use Rattle.tree_walk.specs.Code.Pairs.{Entered}
-use Rattle.tree_walk.specs.Code.Answers.{walkAnswer, spotted}
+use Rattle.tree_walk.specs.Code.Answers.{damageWord, walkAnswer}
 use Rattle.tree.specs.declared.node.Split.{Split}
 use Rattle.tree_walk.specs.declared.pairs.Pair.{Pair}
 use Rattle.tree.proofs.Rooting.{Inner}
 use Rattle.tree.proofs.OneWord.{three-fields, left-pair, right-pair}
 use Rattle.tree.proofs.WalkLaws.{walk-left, walk-right}
-use Rattle.tree.proofs.SearchLaws.{seek-left, seek-right}
 use Rattle.tree_walk.proofs.WalkSteps.{walk-damaged, walk-low, walk-high}
-use Rattle.tree_walk.proofs.SeekSteps.{seek-damaged, Goes, goes-on}
 
 pub pick-le : (c : Bool) {x y s : ℕ} → x ≤ s → y ≤ s → pick c x y ≤ s
 unfolding pick
@@ -58,52 +55,26 @@ count-of w k s passed sum x t f g et ef eg ex = ex ∙ rw (et, ef, eg)
 
 -- ---- a pair: its left count x, and the other one
 module _ (sum x : ℕ) (b : List ℕ) (a : ℕ) (e : leftOf sum b a ≡ x) where
-  walk-pair-bad : (acc k j : ℕ) → sum < x → 2 ^ 63 ≡ walkAnswer acc k (walk 1 sum b a j)
-  unfolding walkAnswer
-  walk-pair-bad acc k j l = rw (walk-damaged 0 sum b a j (ap (λ (z : ℕ). leb z sum) e ∙ lt-leb x sum l))
-
   walk-pair : (acc k j : ℕ) → x ≤ sum → acc + pick (eqb j 0) x (sum - x + k * x) ≡ walkAnswer acc k (walk 1 sum b a j)
   unfolding walkAnswer walk later pick
   walk-pair acc k zero l = rw (walk-left 0 sum x b a 0 e l (omega arith)) (omega arith)
   walk-pair acc k (suc j) l = rw (walk-right 0 sum x b a (suc j) e l (omega arith), eqb·suc-zero, add-zero) (omega arith)
 
-  seek-pair-bad : (n q : ℕ) → sum < x → 2 ^ 63 ≡ spotted n (seek 1 sum b a q)
-  unfolding spotted
-  seek-pair-bad n q l = rw (seek-damaged 0 sum b a q (ap (λ (z : ℕ). leb z sum) e ∙ lt-leb x sum l))
-
-  seek-pair : (n q : ℕ) → x ≤ sum → n + pick (ltb x q) 2 1 ≡ spotted n (seek 1 sum b a q)
-  unfolding pick spotted seek shifted
-  seek-pair n q l = go (ltb x q) refl
-    where
-      go : (c : Bool) → ltb x q ≡ c → n + pick (ltb x q) 2 1 ≡ spotted n (seek 1 sum b a q)
-      go true f = rw (f, seek-right 0 sum x b a q e l (ltb-true x q f))
-      go false f = rw (f, seek-left 0 sum x b a q e l (ltb-false x q f))
-
 -- ---- a height, as it was tested
 pub of-height : {b : List ℕ} {a h g s : ℕ} → h ≡ g → Lies b a h s → Lies b a g s
 of-height {b} {a} {h} {g} {s} e y = subst (λ (k : ℕ). Lies b a k s) e y
 
-pub room-for-four : {h : ℕ} (n : ℕ) → h ≡ 2 → n + 2 ^ h < 2 ^ 63 → n + 4 < 2 ^ 63
-room-for-four {h} n e l = subst (λ (k : ℕ). n + 2 ^ k < 2 ^ 63) e l
-
 pub walk-height : {h g : ℕ} (acc k s : ℕ) (b : List ℕ) (a j : ℕ) → h ≡ g → walkAnswer acc k (walk g s b a j) ≡ walkAnswer acc k (walk h s b a j)
 walk-height acc k s b a j e = ap (λ (z : ℕ). walkAnswer acc k (walk z s b a j)) (sym e)
 
-pub seek-two-high : {h : ℕ} (n s : ℕ) (b : List ℕ) (a q : ℕ) → h ≡ 2 → spotted n (seek 2 s b a q) ≡ spotted n (seek h s b a q)
-seek-two-high n s b a q e = ap (λ (z : ℕ). spotted n (seek z s b a q)) (sym e)
-
 -- ---- a left sum l above its node's sum s
 module _ (h s l : ℕ) (b : List ℕ) (a : ℕ) (el : leftOf s b a ≡ l) (i : s < l) where
-  above : leb (leftOf s b a) s ≡ false
+  pub above : leb (leftOf s b a) s ≡ false
   above = ap (λ (z : ℕ). leb z s) el ∙ lt-leb l s i
 
-  pub walk-above : (acc keep j : ℕ) → 2 ^ 63 ≡ walkAnswer acc keep (walk (suc h) s b a j)
+  pub walk-above : (acc keep j : ℕ) → damageWord ≡ walkAnswer acc keep (walk (suc h) s b a j)
   unfolding walkAnswer
   walk-above acc keep j = rw (walk-damaged h s b a j above)
-
-  pub seek-above : (n q : ℕ) → 2 ^ 63 ≡ spotted n (seek (suc h) s b a q)
-  unfolding spotted
-  seek-above n q = rw (seek-damaged h s b a q above)
 
 -- ---- a node with left sum l, as one that was read
 module _ (h s l : ℕ) (b : List ℕ) (a : ℕ) (el : leftOf s b a ≡ l) (le : l ≤ s) where
@@ -128,7 +99,7 @@ module _ (h s l : ℕ) (b : List ℕ) (a : ℕ) (el : leftOf s b a ≡ l) (le : 
 -- ---- four counts with sum s and left sum l at bit a, whose bits stand in w behind its k high ones
 module _ {b : List ℕ} {a s w k : ℕ} (o : InWord b a 2 s w k) (l : ℕ) (el : leftOf s b a ≡ l) (le : l ≤ s) where
   -- where the pair starts
-  abbrev start : Bool → ℕ
+  abbrev pub start : Bool → ℕ
   start c = pick c (rightAt 1 s l a) (leftAt s a)
 
   -- its left count, as it is read there
@@ -140,7 +111,7 @@ module _ {b : List ℕ} {a s w k : ℕ} (o : InWord b a 2 s w k) (l : ℕ) (el :
       let e : k + digits s + digits 0 + digits l ≡ k + digits s + digits l = omega arith in
       ap (λ (z : ℕ). leftOf z b (leftAt s a)) es ∙ left-pair o l le ∙ sym (ex ∙ rw (ep, es) (ap (λ (i : ℕ). w / 2 ^ (64 - i) % 2 ^ digits l) e))
 
-  count-is : (c : Bool) {p : Pair} → Entered w k s l c p → leftOf (p .sum) b (start c) ≡ p .count
+  pub count-is : (c : Bool) {p : Pair} → Entered w k s l c p → leftOf (p .sum) b (start c) ≡ p .count
   count-is c {p} e = count-at c (p .passed) (p .sum) (p .count) (e .passed-is) (e .sum-is) (e .count-is)
 
   module _ (acc keep j : ℕ) where
@@ -154,9 +125,9 @@ module _ {b : List ℕ} {a s w k : ℕ} (o : InWord b a 2 s w k) (l : ℕ) (el :
         ∙ walk-low (inner 1 s l b a el le) j acc keep {m = 2} refl (leb-false 2 j e))
 
     module _ {p : Pair} (e : Entered w k s l (leb 2 j) p) where
-      pub walk-two-bad : p .sum < p .count → 2 ^ 63 ≡ walkAnswer acc keep (walk 2 s b a j)
+      pub walk-two-bad : p .sum < p .count → damageWord ≡ walkAnswer acc keep (walk 2 s b a j)
       walk-two-bad i =
-          walk-pair-bad (p .sum) (p .count) b (start (leb 2 j)) (count-is (leb 2 j) e) (acc + keep * p .passed) keep (j - pick (leb 2 j) 2 0) i
+          walk-above 0 (p .sum) (p .count) b (start (leb 2 j)) (count-is (leb 2 j) e) i (acc + keep * p .passed) keep (j - pick (leb 2 j) 2 0)
           ∙ chosen (leb 2 j) refl (p .passed) (p .sum) (e .passed-is) (e .sum-is)
 
       -- d counts are passed over, and z is the answer within the pair
@@ -166,29 +137,3 @@ module _ {b : List ℕ} {a s w k : ℕ} (o : InWord b a 2 s w k) (l : ℕ) (el :
           ap (λ (x : ℕ). acc + keep * p .passed + x) (ez ∙ ap (λ (x : ℕ). pick (eqb (j - x) 0) (p .count) (p .sum - p .count + keep * p .count)) ed)
           ∙ walk-pair (p .sum) (p .count) b (start (leb 2 j)) (count-is (leb 2 j) e) (acc + keep * p .passed) keep (j - pick (leb 2 j) 2 0) i
           ∙ chosen (leb 2 j) refl (p .passed) (p .sum) (e .passed-is) (e .sum-is)
-
--- the same four counts, in bytes b
-module _ {b : List ℕ} {a s w k : ℕ} (y : Lies b a 2 s) (o : InWord (bits b) a 2 s w k) (l : ℕ) (el : leftOf s (bits b) a ≡ l) (le : l ≤ s)
-    (q n : ℕ) {p : Pair} (e : Entered w k s l (ltb l q) p) where
-  abbrev from : ℕ
-  from = start o l el le (ltb l q)
-
-  onward : (hours : ℕ) → hours ≡ pick (ltb l q) 2 0
-      → Goes b 1 q n (spotted n (seek 2 s (bits b) a q)) (p .passed) hours (p .sum) from
-  onward hours eh =
-      goes-on y (inner 1 s l (bits b) a el le) q n {m = 2} refl record { passed-is = e .passed-is; hours-is = eh; sum-is = e .sum-is; start-is = refl }
-
-  pub passed-le : p .passed ≤ q
-  passed-le = onward _ refl .few
-
-  pub seek-two-bad : p .sum < p .count → 2 ^ 63 ≡ spotted n (seek 2 s (bits b) a q)
-  seek-two-bad i =
-      seek-pair-bad (p .sum) (p .count) (bits b) from (count-is o l el le (ltb l q) e) (n + pick (ltb l q) 2 0) (q - p .passed) i
-      ∙ onward _ refl .same
-
-  pub seek-two : p .count ≤ p .sum → (d z : ℕ) → d ≡ pick (ltb l q) 2 0 → z ≡ pick (ltb (p .count) (q - p .passed)) 2 1
-      → n + d + z ≡ spotted n (seek 2 s (bits b) a q)
-  seek-two i d z ed ez =
-      ap (λ (x : ℕ). n + d + x) ez
-      ∙ seek-pair (p .sum) (p .count) (bits b) from (count-is o l el le (ltb l q) e) (n + d) (q - p .passed) i
-      ∙ onward d ed .same

@@ -11,7 +11,7 @@ use Rattle.bits.specs.Bits.{valueFrom}
 use Rattle.reserve.specs.Reserve.{digits}
 use Rattle.tree.specs.Read.{leftOf, leftAt, rightAt, Found, damaged, found, later, walk}
 use Rattle.tree.specs.Code.Node.{Rooted}
-use Rattle.tree_walk.specs.Code.Answers.{walkAnswer}
+use Rattle.tree_walk.specs.Code.Answers.{damageWord, walkAnswer}
 use Rattle.tree.specs.declared.node.Split.{Split}
 use Rattle.tree.proofs.WalkLaws.{walk-left, walk-right}
 use Rattle.tree.proofs.Rooting.{Inner}
@@ -54,7 +54,7 @@ module _ (h s : ℕ) (b : List ℕ) (a j acc k : ℕ) where
   up : (h ≡ 0 → ⊥) → walkAnswer acc k (walk h s b a j) ≡ walkAnswer acc k (walk (suc (h - 1)) s b a j)
   up p = ap (λ (i : ℕ). walkAnswer acc k (walk i s b a j)) {x = h} {y = suc (h - 1)} (omega (arith, p))
 
-  pub walk-bad : (h ≡ 0 → ⊥) → {r : Split} → Rooted b a (h - 1) s r → r .ok ≡ false → 2 ^ 63 ≡ walkAnswer acc k (walk h s b a j)
+  pub walk-bad : (h ≡ 0 → ⊥) → {r : Split} → Rooted b a (h - 1) s r → r .ok ≡ false → damageWord ≡ walkAnswer acc k (walk h s b a j)
   unfolding walkAnswer
   walk-bad p n e = rw (up p, walk-damaged (h - 1) s b a j (sym (n .ok-is) ∙ e))
 

@@ -13,7 +13,7 @@ use Rattle.lists.specs.Lists.{splice}
 use Rattle.lists.proofs.Tests.{each}
 use Rattle.bits.specs.Bits.{bits}
 use Rattle.tree.specs.Read.{leftOf, leftAt, rightAt, counts}
-use Rattle.tree.specs.Exact.{clear, spareAt, spareLen, exact}
+use Rattle.tree.specs.Code.Exact.{clear, spareAt, spareLen, exact}
 use Rattle.tree.specs.Code.Node.{Lies, Rooted}
 use Rattle.tree.specs.declared.node.Split.{Split}
 use Rattle.tree.proofs.Shape.{length-counts}

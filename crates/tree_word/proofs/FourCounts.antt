@@ -15,7 +15,7 @@ use Rattle.bits.specs.Bits.{field}
 use Rattle.reserve.specs.Reserve.{digits}
 use Rattle.reserve.proofs.Exact.{digits-is}
 use Rattle.tree.specs.Read.{leftOf, leftAt, rightAt, counts}
-use Rattle.tree.specs.Exact.{exact}
+use Rattle.tree.specs.Code.Exact.{exact}
 use Rattle.tree.proofs.OneWord.{fewer-digits}
 use Rattle.tree.proofs.TwoCounts.{reserve-pair}
 use Rattle.tree_word.proofs.Decoding.{BothExact, both-exact}

@@ -11,7 +11,7 @@ use Rattle.bits.specs.Bits.{field}
 use Rattle.reserve.specs.Reserve.{digits, reserve}
 use Rattle.reserve.proofs.Fit.{fit-all, grows}
 use Rattle.tree.specs.Read.{leftOf, leftAt, rightAt, counts}
-use Rattle.tree.specs.Exact.{exact}
+use Rattle.tree.specs.Code.Exact.{exact}
 use Rattle.tree_word.proofs.Decoding.{BothExact, both-exact, halves-written}
 use Rattle.tree_word.proofs.WordBits.{HighEnd, raised, word-exact, word-counts, left-at}
 

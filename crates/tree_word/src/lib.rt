@@ -13,8 +13,9 @@ ghost use Rattle.bits.specs.Bits.{field};
 ghost use Rattle.reserve.specs.Reserve.{digits};
 ghost use Rattle.reserve_table.specs.Code.Tabled.{Fours};
 ghost use Rattle.tree.specs.Read.{counts};
-ghost use Rattle.tree.specs.Exact.{exact};
-ghost use Rattle.tree_word.specs.Code.Whole.{Whole};
+ghost use Rattle.tree.specs.Code.Exact.{exact};
+ghost use Rattle.tree.specs.Code.InWord.{eightLimit};
+ghost use Rattle.tree_word.specs.Code.FitsWord.{FitsWord};
 
 // The four counts with sum s. A pair's left count stands in a field of its own, behind the left sum.
 pub fn four(w: u64, s: u64, out: &mut [u32], from: usize)
@@ -52,7 +53,7 @@ fn eight(w: u64, row: &[u8; 64], s: u64, out: &mut [u32], from: usize)
 
 // The eight counts with sum s up to 438, which own 57 bits at most. The left four's reserve is worked out: the row ends at 63.
 pub fn eight_wide(w: u64, s: u64, out: &mut [u32], from: usize)
-    requires { ⌜ (exact 3 s (field 64 w) 0 ≡ true) × (s < 439) × (from + 8 ≤ length (now out)) ⌝ }
+    requires { ⌜ (exact 3 s (field 64 w) 0 ≡ true) × (s < eightLimit) × (from + 8 ≤ length (now out)) ⌝ }
     ensures { λ _. ⌜ now (out .exit) ≡ splice (now (out .entry)) from (counts 3 s (field 64 w) 0) ⌝ }
 {
     let t = digits_of(s);
@@ -64,7 +65,7 @@ pub fn eight_wide(w: u64, s: u64, out: &mut [u32], from: usize)
 
 // The sixteen counts with sum s, which own 57 bits at most, into zeros. An empty half is not called.
 pub(crate) fn sixteen(w: u64, row: &[u8; 64], s: u64, out: &mut [u32], from: usize)
-    requires { ⌜ Fours (now row) × Whole 4 s × (exact 4 s (field 64 w) 0 ≡ true) ⌝ }
+    requires { ⌜ Fours (now row) × FitsWord 4 s × (exact 4 s (field 64 w) 0 ≡ true) ⌝ }
     requires { ⌜ (from + 16 ≤ length (now out)) × (part (now out) from 16 ≡ replicate 16 0) ⌝ }
     ensures { λ _. ⌜ now (out .exit) ≡ splice (now (out .entry)) from (counts 4 s (field 64 w) 0) ⌝ }
 {

@@ -9,8 +9,8 @@ use lib.Dec.{leb, eqb}
 use Rattle.lists.specs.Lists.{every}
 use Rattle.bits.specs.Bits.{bits}
 use Rattle.reserve.specs.Reserve.{reserve}
-use Rattle.tree.specs.Exact.{clear}
-use Rattle.tree_lowest.specs.Narrow.{narrow}
+use Rattle.tree.specs.Code.Exact.{clear}
+use Rattle.tree_lowest.specs.Code.Narrow.{narrow}
 use Rattle.image.specs.Image.{bytesFor}
 use Rattle.answers.specs.Image.{Reply, given, refused}
 use Rattle.image.specs.Read.{eOf, nOf, sOf, lOf, pagesOf, widthOf, startOf, codeAt, rootOf}

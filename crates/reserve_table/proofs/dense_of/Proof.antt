@@ -1,5 +1,4 @@
 -- `reserve_table::dense_of` meets its contract. Assumes nothing.
-use mathlib.Core.Path.{_∙_}
 use Prim.Native.Nat.{_-_, _*_, _≤_}
 use native.Mathlib.Omega.{arith}
 use lib.Pow.{shr-le}

@@ -5,7 +5,7 @@ use native.Mathlib.Omega.{arith}
 use borrow.Author.Needs.{needs}
 use borrow.Author.Tests.{not-false}
 use Rattle.bits.specs.Bits.{bits}
-use Rattle.tree.specs.Exact.{exact}
+use Rattle.tree.specs.Code.Exact.{exact}
 use Rattle.sound_page.proofs.PageTest.{few, fits-hours, fits-no-rest, fits-no-tree, fits-none, holds, page-lies}
 use Rattle.sound_page.proofs.page_fits.Statement.{statement}
 use Rattle.sound_page.proofs.page_fits.Tie as tie

@@ -10,3 +10,7 @@ use Rattle.reserve.specs.Reserve.{reserve}
 -- i bits on
 pub record InWord (b : List ℕ) (a h s w k : ℕ) : Type 0 where
   pub piece : (i n : ℕ) → i + n ≤ reserve h s → value (part b (a + i) n) ≡ w / 2 ^ (64 - (k + i + n)) % 2 ^ n
+
+-- eight counts with a sum below this own 57 bits at most, which one load has (`eight-fits`)
+abbrev pub eightLimit : ℕ
+eightLimit = 439

@@ -4,7 +4,6 @@ use mathlib.Core.Path.{_≡_, ap, _∙_}
 use mathlib.Core.Logic.{⊎-elim}
 use Prim.Native.Nat.{_+_, _-_, _^_, _≤_}
 use native.Mathlib.Omega.{arith}
-use borrow.Author.Tests.{ltb-true}
 use lib.ListN.{length, replicate}
 use Rattle.lists.specs.Lists.{part, splice}
 use Rattle.bits.specs.Bits.{bits}
@@ -12,7 +11,7 @@ use Rattle.reserve.specs.Reserve.{digits}
 use Rattle.tree.specs.Read.{counts}
 use Rattle.tree.proofs.Rooting.{top, halved, left-lies, right-lies}
 use Rattle.tree.proofs.Shape.{length-counts}
-use Rattle.tree_word.specs.Code.Whole.{Whole}
+use Rattle.tree_word.specs.Code.FitsWord.{FitsWord}
 use Rattle.tree_word.proofs.Decoding.{Unfolded, unfolded, one-count, both-halves, OfHeight, of-height, height-written}
 use Rattle.tree.proofs.OneWord.{four-fits}
 use Rattle.tree_word.proofs.WordBits.{HighEnd, loaded, word-exact, word-counts}
@@ -26,12 +25,13 @@ use Rattle.tree_decode.proofs.decode_node.Kinds as decode-node-kinds
 use Rattle.tree_decode.proofs.+decode_node.Lts-decode_node as decode-node-lts
 use Rattle.bits_field.proofs.front.load.Reads as load-reads
 use Rattle.reserve.proofs.power.Reads as power-reads
+use Rattle.tree.proofs.node.fours_in_words.Reads as fours-in-words-reads
 use Rattle.tree.proofs.node.one_word.Reads as one-word-reads
 use Rattle.tree.proofs.node.root_by_shifts.Reads as root-by-shifts-reads
 use Rattle.tree_decode.proofs.lowest.Reads as lowest-reads
 use Rattle.tree_word.proofs.whole.fits.Reads as fits-reads
 use Rattle.tree_word.proofs.four.Reads as four-reads
-use Rattle.tree_word.proofs.whole.in_word.Reads as in-word-reads
+use Rattle.tree_word.proofs.whole.decode_word.Reads as decode-word-reads
 use Rattle.tree_decode.proofs.+decode_node.{statement}
 use Rattle.tree_decode.proofs.+decode_node.Tie.{close}
 
@@ -52,8 +52,10 @@ callees t = (
   fits-reads.Learnt,
   load-reads.Asked,
   load-reads.Learnt,
-  in-word-reads.Asked,
-  in-word-reads.Learnt,
+  decode-word-reads.Asked,
+  decode-word-reads.Learnt,
+  fours-in-words-reads.Asked,
+  fours-in-words-reads.Learnt,
   lowest-reads.Asked,
   lowest-reads.Learnt,
   one-word-reads.Asked,
@@ -73,27 +75,30 @@ module _ (t : ℕ) (c : decode-node-lts.After-load (callees t) (decode-node-at t
   abbrev small : decode-node-lts.Start (callees t) (decode-node-at t) decode-node.Post
   small = c .before .before .before .before .before
 
-  in-one : Whole (small .args .h) (small .args .s)
+  in-one : FitsWord (small .args .h) (small .args .s)
   in-one = c .before .before .before .fits2 .ensures (c .before .before .if1 .taken)
 
   all-held : HighEnd (bits (small .args .b .now .now)) (small .args .at) (small .args .h) (small .args .s) (c .load .result)
   all-held = loaded _ (small .pre .1 .0 .0) (in-one .bits) (c .load .ensures)
 
 -- where eight counts are decoded
-module _ (t : ℕ) (c : decode-node-lts.Then3 (callees t) (decode-node-at t) decode-node.Post) where
+module _ (t : ℕ) (c : decode-node-lts.Then2 (callees t) (decode-node-at t) decode-node.Post) where
   abbrev eight : decode-node-lts.Start (callees t) (decode-node-at t) decode-node.Post
   eight = c .before .before .before .before .before
 
+  eight-fits : (eight .args .h ≡ 3) × (digits (eight .args .s) ≤ 19)
+  eight-fits = c .before .fours-in-words .ensures (c .if2 .taken)
+
   eight-at : OfHeight 3 (eight .args .b .now .now) (eight .args .at) (eight .args .s) (eight .args .out .now) (eight .args .from)
-  eight-at = let p = eight .pre .1 in of-height (c .before .if2 .taken) (record { lies = p .0 .0; code = p .0 .1; room = p .1 .1 })
+  eight-at = let p = eight .pre .1 in of-height (eight-fits .0) (record { lies = p .0 .0; code = p .0 .1; room = p .1 .1 })
 
 -- where four counts were loaded
 module _ (t : ℕ) (c : decode-node-lts.After-load2 (callees t) (decode-node-at t) decode-node.Post) where
   abbrev low : decode-node-lts.Start (callees t) (decode-node-at t) decode-node.Post
-  low = c .before .before .before .before .before .before .before .before
+  low = c .before .before .before .before .before .before .before .before .before
 
   fits : (low .args .h ≡ 2) × (digits (low .args .s) ≤ 19)
-  fits = c .before .before .before .one-word .ensures (c .before .before .if4 .taken)
+  fits = c .before .before .before .one-word .ensures (c .before .before .if3 .taken)
 
   four-at : OfHeight 2 (low .args .b .now .now) (low .args .at) (low .args .s) (low .args .out .now) (low .args .from)
   four-at = let p = low .pre .1 in of-height (fits .0) (record { lies = p .0 .0; code = p .0 .1; room = p .1 .1 })
@@ -104,19 +109,19 @@ module _ (t : ℕ) (c : decode-node-lts.After-load2 (callees t) (decode-node-at 
 -- where the root was read
 module _ (t : ℕ) (c : decode-node-lts.After-root-by-shifts (callees t) (decode-node-at t) decode-node.Post) where
   abbrev call : decode-node-lts.Start (callees t) (decode-node-at t) decode-node.Post
-  call = c .before .before .before .before .before .before .before .before .before
+  call = c .before .before .before .before .before .before .before .before .before .before
 
   unfolded-at : Unfolded (bits (call .args .b .now .now)) (call .args .at) (call .args .h) (call .args .s) (c .root-by-shifts .result)
-  unfolded-at = unfolded (c .before .before .if5 .left) (call .pre .1 .0 .1) (c .root-by-shifts .ensures)
+  unfolded-at = unfolded (c .before .before .if4 .left) (call .pre .1 .0 .1) (c .root-by-shifts .ensures)
 
   left-le : c .root-by-shifts .result .left ≤ call .args .s
   left-le = unfolded-at .node .root .left-le (unfolded-at .node .sound)
 
   half-is : 2 ^ (call .args .h - 1) + 2 ^ (call .args .h - 1) ≡ 2 ^ call .args .h
-  half-is = halved (call .args .h) (c .before .before .if5 .left)
+  half-is = halved (call .args .h) (c .before .before .if4 .left)
 
 -- where the left half's counts stand, whether it was called or is empty
-module _ (t : ℕ) (c : decode-node-lts.Joined6 (callees t) (decode-node-at t) decode-node.Post) where
+module _ (t : ℕ) (c : decode-node-lts.Joined5 (callees t) (decode-node-at t) decode-node.Post) where
   abbrev root : decode-node-lts.After-root-by-shifts (callees t) (decode-node-at t) decode-node.Post
   root = c .before .before
 
@@ -124,22 +129,22 @@ module _ (t : ℕ) (c : decode-node-lts.Joined6 (callees t) (decode-node-at t) d
   whole = call t root
 
   left-there :
-      c .if6 .out
+      c .if5 .out
       ≡ splice (whole .args .out .now) (whole .args .from)
       (counts (whole .args .h - 1) (root .root-by-shifts .result .left) (bits (whole .args .b .now .now)) (root .root-by-shifts .result .first))
   left-there =
       let a = whole .args in
       let z = left-zeros (a .out .now) (a .from) _ _ (half-is t root) (whole .pre .1 .1 .2) in
-      ⊎-elim (λ w. w .5 ∙ w .2 .ensures) (λ w. w .1 ∙ none-written (a .out .now) (bits (a .b .now .now)) (a .from) (a .h - 1) _ _ (w .0 .left) z) (c .if6 .came)
+      ⊎-elim (λ w. w .5 ∙ w .2 .ensures) (λ w. w .1 ∙ none-written (a .out .now) (bits (a .b .now .now)) (a .from) (a .h - 1) _ _ (w .0 .left) z) (c .if5 .came)
 
-  right-none : part (c .if6 .out) (whole .args .from + c .before .power .result) (2 ^ (whole .args .h - 1)) ≡ replicate (2 ^ (whole .args .h - 1)) 0
+  right-none : part (c .if5 .out) (whole .args .from + c .before .power .result) (2 ^ (whole .args .h - 1)) ≡ replicate (2 ^ (whole .args .h - 1)) 0
   right-none =
       let a = whole .args in
       let p = whole .pre .1 .1 in
       right-zeros (a .out .now) (a .from) _ _ (half-is t root) (p .2) _ _ _ (c .before .power .ensures) (length-counts _ _ _ _) (p .1) left-there
 
-  as-long : length (c .if6 .out) ≡ length (whole .args .out .now)
-  as-long = ⊎-elim (λ w. ap length (w .5) ∙ w .2 .kept .1 .1 .1 .1 .1 .0) (λ w. ap length (w .1)) (c .if6 .came)
+  as-long : length (c .if5 .out) ≡ length (whole .args .out .now)
+  as-long = ⊎-elim (λ w. ap length (w .5) ∙ w .2 .kept .1 .1 .1 .1 .1 .0) (λ w. ap length (w .1)) (c .if5 .came)
 
 decode-node-fits-requires : (t : ℕ) → decode-node-lts.Need-fits-requires (callees t) (decode-node-at t) decode-node.Post
 decode-node-fits-requires t c κs = search needs
@@ -147,8 +152,8 @@ decode-node-fits-requires t c κs = search needs
 decode-node-load-requires : (t : ℕ) → decode-node-lts.Need-load-requires (callees t) (decode-node-at t) decode-node.Post
 decode-node-load-requires t c κs = search needs
 
-decode-node-in-word-requires : (t : ℕ) → decode-node-lts.Need-in-word-requires (callees t) (decode-node-at t) decode-node.Post
-decode-node-in-word-requires t c κs =
+decode-node-decode-word-requires : (t : ℕ) → decode-node-lts.Need-decode-word-requires (callees t) (decode-node-at t) decode-node.Post
+decode-node-decode-word-requires t c κs =
     let d = c .before in
     let p = small t d .pre .1 in
     ((p .1 .0, in-one t d, word-exact (all-held t d) (p .0 .1)), (p .1 .1, p .1 .2))
@@ -160,13 +165,16 @@ decode-node-returns : (t : ℕ) → decode-node-lts.Need-returns (callees t) (de
 decode-node-returns t c =
     let d = c .before .before .before .before in
     let a = small t d .args in
-    c .before .before .in-word .ensures ∙ ap (splice (a .out .now) (a .from)) (word-counts (all-held t d) (small t d .pre .1 .0 .1))
+    c .before .before .decode-word .ensures ∙ ap (splice (a .out .now) (a .from)) (word-counts (all-held t d) (small t d .pre .1 .0 .1))
+
+decode-node-fours-in-words-requires : (t : ℕ) → decode-node-lts.Need-fours-in-words-requires (callees t) (decode-node-at t) decode-node.Post
+decode-node-fours-in-words-requires t c κs = search needs
 
 decode-node-lowest-requires : (t : ℕ) → decode-node-lts.Need-lowest-requires (callees t) (decode-node-at t) decode-node.Post
 decode-node-lowest-requires t c κs =
     let d = c .before .before in
     let k = eight-at t d in
-    (k .lies, k .code, ltb-true _ _ (d .if3 .taken), k .room)
+    (k .lies, k .code, eight-fits t d .1, k .room)
 
 decode-node-same-length-2 : (t : ℕ) → decode-node-lts.Need-same-length-2 (callees t) (decode-node-at t) decode-node.Post
 decode-node-same-length-2 t c = search needs
@@ -175,7 +183,7 @@ decode-node-returns-2 : (t : ℕ) → decode-node-lts.Need-returns-2 (callees t)
 decode-node-returns-2 t c =
     let d = c .before .before .before .before .before in
     let a = eight t d .args in
-    height-written (a .h) (a .s) 3 (bits (a .b .now .now)) (a .at) (a .out .now) _ (a .from) (d .before .if2 .taken) (c .before .before .lowest .ensures)
+    height-written (a .h) (a .s) 3 (bits (a .b .now .now)) (a .at) (a .out .now) _ (a .from) (eight-fits t d .0) (c .before .before .lowest .ensures)
 
 decode-node-one-word-requires : (t : ℕ) → decode-node-lts.Need-one-word-requires (callees t) (decode-node-at t) decode-node.Post
 decode-node-one-word-requires t c κs = search needs
@@ -204,7 +212,7 @@ decode-node-mul-out t c = omega arith
 
 decode-node-slice-write-out : (t : ℕ) → decode-node-lts.Need-slice-write-out (callees t) (decode-node-at t) decode-node.Post
 decode-node-slice-write-out t c =
-    let e : 2 ^ c .before .before .before .before .before .before .before .args .h ≡ 1 = rw (c .if5 .taken) in
+    let e : 2 ^ c .before .before .before .before .before .before .before .before .args .h ≡ 1 = rw (c .if4 .taken) in
     omega arith
 
 decode-node-same-length-4 : (t : ℕ) → decode-node-lts.Need-same-length-4 (callees t) (decode-node-at t) decode-node.Post
@@ -212,15 +220,15 @@ decode-node-same-length-4 t c = search needs
 
 decode-node-returns-4 : (t : ℕ) → decode-node-lts.Need-returns-4 (callees t) (decode-node-at t) decode-node.Post
 decode-node-returns-4 t c =
-    let a = c .before .before .before .before .before .before .before .args in
-    let e : 2 ^ a .h ≡ 1 = rw (c .if5 .taken) in
-    one-count (a .out .now) (bits (a .b .now .now)) (a .from) (a .h) (a .s) (a .at) (c .if5 .taken) (omega arith)
+    let a = c .before .before .before .before .before .before .before .before .args in
+    let e : 2 ^ a .h ≡ 1 = rw (c .if4 .taken) in
+    one-count (a .out .now) (bits (a .b .now .now)) (a .from) (a .h) (a .s) (a .at) (c .if4 .taken) (omega arith)
 
 decode-node-sub-down : (t : ℕ) → decode-node-lts.Need-sub-down (callees t) (decode-node-at t) decode-node.Post
 decode-node-sub-down t c = omega arith
 
 decode-node-root-by-shifts-requires : (t : ℕ) → decode-node-lts.Need-root-by-shifts-requires (callees t) (decode-node-at t) decode-node.Post
-decode-node-root-by-shifts-requires t c κs = top (c .before .if5 .left) (c .before .before .before .before .before .before .before .before .pre .1 .0 .0)
+decode-node-root-by-shifts-requires t c κs = top (c .before .if4 .left) (c .before .before .before .before .before .before .before .before .before .pre .1 .0 .0)
 
 decode-node-power-requires : (t : ℕ) → decode-node-lts.Need-power-requires (callees t) (decode-node-at t) decode-node.Post
 decode-node-power-requires t c κs = omega arith
@@ -234,7 +242,7 @@ decode-node-decode-node-requires t c κs =
     let w = unfolded-at t n in
     let p = call t n .pre .1 in
     let a = call t n .args in (
-      omega arith,
+      omega (arith, call t n .pre .0, w .node .high),
       (
         (left-lies (p .0 .0) (w .node), w .left-exact, omega (arith, left-le t n)),
         (p .1 .0, omega (arith, half-is t n), left-zeros (a .out .now) (a .from) _ _ (half-is t n) (p .1 .2)),
@@ -266,7 +274,7 @@ decode-node-returns-5 t c =
     let a = whole t j .args in
     let half = j .before .power in
     let two = c .before .before .decode-node2 in
-    both-halves (unfolded-at t (root t j) .node) (a .out .now) (j .if6 .out) (two .last .1 .1 .1 .1 .1 .0) (a .from) (half .result) (half .ensures)
+    both-halves (unfolded-at t (root t j) .node) (a .out .now) (j .if5 .out) (two .last .1 .1 .1 .1 .1 .0) (a .from) (half .result) (half .ensures)
     (whole t j .pre .1 .1 .1) (left-there t j) (two .ensures)
 
 decode-node-same-length-6 : (t : ℕ) → decode-node-lts.Need-same-length-6 (callees t) (decode-node-at t) decode-node.Post
@@ -277,8 +285,8 @@ decode-node-returns-6 t c =
     let j = c .before in
     let a = whole t j .args in
     let half = j .before .power in
-    both-halves (unfolded-at t (root t j) .node) (a .out .now) (j .if6 .out) (j .if6 .out) (a .from) (half .result) (half .ensures)
-    (whole t j .pre .1 .1 .1) (left-there t j) (none-written (j .if6 .out) (bits (a .b .now .now)) (a .from + half .result) (a .h - 1) _ _ (c .if7 .left) (right-none t j))
+    both-halves (unfolded-at t (root t j) .node) (a .out .now) (j .if5 .out) (j .if5 .out) (a .from) (half .result) (half .ensures)
+    (whole t j .pre .1 .1 .1) (left-there t j) (none-written (j .if5 .out) (bits (a .b .now .now)) (a .from + half .result) (a .h - 1) _ _ (c .if6 .left) (right-none t j))
 
 pub +decode-node-spec : {M : Type 1} → statement M
 +decode-node-spec = close μ-decode-node λ t. decode-node-lts.spec (callees t)
@@ -286,9 +294,10 @@ pub +decode-node-spec : {M : Type 1} → statement M
     decode-node.Post
     (decode-node-fits-requires t)
     (decode-node-load-requires t)
-    (decode-node-in-word-requires t)
+    (decode-node-decode-word-requires t)
     (decode-node-same-length t)
     (decode-node-returns t)
+    (decode-node-fours-in-words-requires t)
     (decode-node-lowest-requires t)
     (decode-node-same-length-2 t)
     (decode-node-returns-2 t)

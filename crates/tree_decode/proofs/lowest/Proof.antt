@@ -5,8 +5,9 @@ use native.Mathlib.Omega.{arith}
 use borrow.Author.Needs.{needs}
 use Rattle.lists.specs.Lists.{splice}
 use Rattle.bits.specs.Bits.{bits}
-use Rattle.tree.proofs.OneWord.{eight-fits}
-use Rattle.tree_word.proofs.WordBits.{HighEnd, loaded, word-exact, word-counts, few-digits}
+use Rattle.tree.specs.Code.InWord.{eightLimit}
+use Rattle.tree.proofs.OneWord.{fewer-digits, eight-fits}
+use Rattle.tree_word.proofs.WordBits.{HighEnd, loaded, word-exact, word-counts}
 use Rattle.tree_decode.proofs.EightCounts.{InHalves, root-le, first-lies, second-lies, first-exact, second-exact, fours-written}
 use Rattle.tree_decode.proofs.lowest.Statement.{statement}
 use Rattle.tree_decode.proofs.lowest.Tie as tie
@@ -16,7 +17,7 @@ module _ (c : tie.After-load) where
   abbrev whole : tie.Start
   whole = c .before .before .before .before .before
 
-  few : whole .args .s < 439
+  few : whole .args .s < eightLimit
   few = c .before .before .eight-in-word .ensures (c .before .if1 .taken) .1
 
   held : HighEnd (bits (whole .args .b .now)) (whole .args .at) 3 (whole .args .s) (c .load .result)
@@ -58,7 +59,7 @@ load-requires-2 c κs = omega (arith, first-lies (read c), second-lies (read c))
 four-requires : tie.Need-four-requires
 four-requires c κs =
     let d = c .before .before in
-    (first-exact (read d) _ (c .before .load2 .ensures), few-digits (call d .pre .2) _ (root-le (read d)), omega arith)
+    (first-exact (read d) _ (c .before .load2 .ensures), fewer-digits (call d .pre .2) _ (root-le (read d)), omega arith)
 
 load-requires-3 : tie.Need-load-requires-3
 load-requires-3 c κs = let d = c .before .before .before .before .before in omega (arith, first-lies (read d), second-lies (read d))
@@ -73,7 +74,7 @@ four-requires-2 : tie.Need-four-requires-2
 four-requires-2 c κs =
     let d = c .before .before .before .before .before .before .before .before in (
       second-exact (read d) _ (c .before .before .before .before .before .before .before .load2 .ensures) _ (c .before .before .load3 .ensures),
-      few-digits (call d .pre .2) _ (omega arith),
+      fewer-digits (call d .pre .2) _ (omega arith),
       omega arith,
     )
 

@@ -5,7 +5,7 @@ use Prim.Native.Nat.{_+_, _-_, _≤_}
 use native.Mathlib.Omega.{arith}
 use borrow.Author.Needs.{needs}
 use Rattle.bits.specs.Bits.{bits}
-use Rattle.tree.specs.Exact.{clear}
+use Rattle.tree.specs.Code.Exact.{clear}
 use Rattle.tree.proofs.Clearing.{clear-on, clear-not, clear-none}
 use Rattle.tree_lowest.proofs.zero_bits.Statement.{statement}
 use Rattle.tree_lowest.proofs.zero_bits.Tie as tie

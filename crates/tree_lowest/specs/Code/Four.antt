@@ -3,8 +3,8 @@ use mathlib.Core.Bool.{true}
 use mathlib.Core.List.{List, [], _∷_}
 use mathlib.Core.Path.{_≡_}
 use Prim.Native.Nat.{ℕ}
-use Rattle.tree.specs.Exact.{exact}
 use Rattle.tree.specs.Read.{counts}
+use Rattle.tree.specs.Code.Exact.{exact}
 use Rattle.tree_lowest.specs.declared.four.Four.{Four}
 
 -- the bits b, from their first on, read as the code of four counts with sum s

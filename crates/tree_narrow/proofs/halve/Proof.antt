@@ -1,5 +1,4 @@
 -- `tree_narrow::halve` meets its contract. Assumes nothing.
-use mathlib.Core.Path.{_≡_}
 use Prim.Native.Nat.{_+_, _≤_, _<_}
 use native.Mathlib.Omega.{arith}
 use Rattle.tree_narrow.proofs.NodeSteps.{read-above, read-whole, spare-in}

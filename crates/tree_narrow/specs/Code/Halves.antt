@@ -5,8 +5,8 @@ use mathlib.Core.Path.{_≡_}
 use Prim.Native.Nat.{ℕ, _-_, _≤_}
 use lib.Dec.{leb}
 use Rattle.reserve.specs.Reserve.{reserve}
-use Rattle.tree.specs.Exact.{clear, spareAt, spareLen}
 use Rattle.tree.specs.Read.{leftAt, leftOf, rightAt}
+use Rattle.tree.specs.Code.Exact.{clear, spareAt, spareLen}
 use Rattle.tree_narrow.specs.declared.Halves.{Halves}
 
 -- the node of height h + 1 at bit a with sum s: whether its left sum is at most its sum and the bits left over are 0; if so, its left sum,

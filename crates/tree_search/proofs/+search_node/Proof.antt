@@ -1,16 +1,17 @@
 -- `tree_search::search_node` meets its contract, h falling at each call. Assumes nothing.
 use mathlib.Core.Path.{_∙_}
-use Prim.Native.Nat.{_+_, _-_, _^_}
+use Prim.Native.Nat.{_-_}
 use native.Mathlib.Omega.{arith}
 use borrow.Author.Tests.{not-true, not-false}
 use borrow.Author.Needs.{needs}
 use Rattle.bits.specs.Bits.{bits}
 use Rattle.tree.specs.Read.{seek}
-use Rattle.tree_walk.specs.Code.Answers.{spotted}
+use Rattle.tree_search.specs.Code.Answers.{searchAnswer}
 use Rattle.tree.specs.declared.node.Split.{Split}
 use Rattle.tree.proofs.Rooting.{Inner, halved, top}
-use Rattle.tree_walk.proofs.SeekSteps.{seek-leaf, seek-bad, Goes, goes-on}
-use Rattle.tree_walk.proofs.LowPairs.{of-height, room-for-four, seek-two-high}
+use Rattle.tree_walk.proofs.LowPairs.{of-height}
+use Rattle.tree_search.proofs.SeekSteps.{seek-leaf, seek-bad, Goes, goes-on}
+use Rattle.tree_search.proofs.SeekPairs.{room-for-four, seek-two-high}
 use Prim.Native.Nat.{ℕ, _<_}
 use borrow.Fn.Kinds.{In}
 use borrow.Fn.PlainCycle.{Measures, is, falls, and}
@@ -75,7 +76,7 @@ module _ (t : ℕ) (c : search-node-lts.After-either4 (callees t) (search-node-a
 
   onward :
       let a = call t chosen .args in
-      Goes (a .b .now .now) (a .h - 1) (a .q) (a .n) (spotted (a .n) (seek (a .h) (a .s) (bits (a .b .now .now)) (a .at) (a .q)))
+      Goes (a .b .now .now) (a .h - 1) (a .q) (a .n) (searchAnswer (a .n) (seek (a .h) (a .s) (bits (a .b .now .now)) (a .at) (a .q)))
       (c .before .before .before .before .before .either .result) (c .before .before .before .either2 .result) (c .before .either3 .result)
       (c .either4 .result)
   onward =

@@ -6,7 +6,8 @@ use Rattle.bits.specs.Bits.{bits}
 use Rattle.tree.specs.Read.{leftOf}
 use Rattle.tree.specs.Code.InWord.{InWord}
 use Rattle.tree.proofs.OneWord.{four-fits, loaded, left-read}
-use Rattle.tree_walk.proofs.LowPairs.{pick-le, seek-above, passed-le, seek-two-bad, seek-two}
+use Rattle.tree_walk.proofs.LowPairs.{pick-le}
+use Rattle.tree_search.proofs.SeekPairs.{seek-above, passed-le, seek-two-bad, seek-two}
 use borrow.Author.Needs.{needs}
 use Rattle.tree_search.proofs.search_four.Statement.{statement}
 use Rattle.tree_search.proofs.search_four.Tie as tie

@@ -1,13 +1,12 @@
--- How a walk and a search answer in one number. Assumes nothing.
+-- How a walk answers in one number. Assumes nothing.
 use Prim.Native.Nat.{ℕ, _+_, _*_, _^_}
-use Rattle.tree.specs.Read.{Found, damaged, found, Sought, nowhere, place}
+use Rattle.tree.specs.Read.{Found, damaged, found}
 
--- how a walk answers in one number: the count, k times the sum before it, and acc; above all such numbers for damage
+-- how a walk and a search answer damage: a number above every sum and every index
+abbrev pub damageWord : ℕ
+damageWord = 2 ^ 63
+
+-- how a walk answers: the count, k times the sum before it, and acc
 unfoldable pub walkAnswer : ℕ → ℕ → Found → ℕ
-walkAnswer acc k damaged = 2 ^ 63
+walkAnswer acc k damaged = damageWord
 walkAnswer acc k (found x c) = acc + k * x + c
-
--- how a search answers in one number: the index, and n counts before the tree; above all such numbers for damage
-unfoldable pub spotted : ℕ → Sought → ℕ
-spotted n nowhere = 2 ^ 63
-spotted n (place i) = n + i

@@ -4,8 +4,7 @@ use Prim.Native.Nat.{_+_, _≤_}
 use native.Mathlib.Omega.{arith}
 use borrow.Author.Needs.{needs}
 use Rattle.reserve.proofs.Exact.{digits-le}
-use Rattle.tree.proofs.OneWord.{eight-fits}
-use Rattle.tree_word.proofs.WordBits.{few-digits}
+use Rattle.tree.proofs.OneWord.{eight-fits, few-digits}
 use Rattle.tree_word.proofs.WordHalves.{Top, short, left-le, behind, left-exact, right-exact, word-written}
 use Rattle.tree_word.proofs.eight_wide.Statement.{statement}
 use Rattle.tree_word.proofs.eight_wide.Tie as tie

@@ -14,7 +14,7 @@ digits-of-requires : tie.Need-digits-of-requires
 digits-of-requires c κs = search needs
 
 returns-2 : tie.Need-returns-2
-returns-2 c = λ e. (omega arith, omega (arith, c .digits-of .ensures, leb-true (c .digits-of .result) 19 e))
+returns-2 c = λ e. (omega arith, omega (arith, c .digits-of .ensures, leb-true (c .digits-of .result) _ e))
 
 pub one-word-spec : {M : Type 1} → statement M
 one-word-spec = tie.close (tie.spec returns digits-of-requires returns-2)

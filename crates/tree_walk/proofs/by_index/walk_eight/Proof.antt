@@ -1,14 +1,13 @@
 -- `tree_walk::by_index::walk_eight` meets its contract. Assumes nothing.
 use mathlib.Core.Path.{_≡_, refl, _∙_}
-use Prim.Native.Nat.{ℕ, _+_, _-_, _*_, _≤_}
+use Prim.Native.Nat.{ℕ, _+_, _-_, _≤_}
 use native.Mathlib.Omega.{arith}
 use Rattle.bits.specs.Bits.{bits}
 use Rattle.reserve.specs.Reserve.{digits, reserve}
 use Rattle.reserve.proofs.Fit.{fit-all}
-use Rattle.tree.specs.Read.{leftOf, leftAt, rightAt}
+use Rattle.tree.specs.Read.{leftOf}
 use Rattle.tree.specs.Code.InWord.{InWord}
 use Rattle.tree.proofs.OneWord.{eight-fits, loaded, left-read, left-word, right-word}
-use Rattle.tree.proofs.Rooting.{Inner}
 use Rattle.tree_walk.proofs.WalkSteps.{kept, walk-low, walk-high}
 use Rattle.tree_walk.proofs.LowPairs.{walk-above, inner}
 use borrow.Author.Needs.{needs}

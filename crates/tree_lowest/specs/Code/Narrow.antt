@@ -4,8 +4,8 @@ use mathlib.Core.List.{List, map}
 use Prim.Native.Nat.{ℕ}
 use lib.Dec.{leb}
 use Rattle.lists.specs.Lists.{every}
-use Rattle.tree.specs.Exact.{exact}
 use Rattle.tree.specs.Read.{counts}
+use Rattle.tree.specs.Code.Exact.{exact}
 
 -- none of these counts is above the limit
 unfoldable pub within : ℕ → List ℕ → Bool

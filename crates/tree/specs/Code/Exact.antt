@@ -30,6 +30,6 @@ exact (suc h) s b a =
     every (leb l s ∷ exact h l b (leftAt s a) ∷ exact h (s - l) b (rightAt h s l a) ∷ clear b (spareAt h s l a) (spareLen h s l) ∷ [])
 
 -- the bits are the code of the counts that they say, and these have the sum
-pub record Coded (h s : ℕ) (b : List ℕ) (a : ℕ) : Type 0 where
+pub record CodeOfCounts (h s : ℕ) (b : List ℕ) (a : ℕ) : Type 0 where
   pub total : sum (counts h s b a) ≡ s
   pub code : part b a (reserve h s) ≡ tree h (counts h s b a)

@@ -1,0 +1,3 @@
+-- Laws of the steps of the search.
+pub mod SeekSteps
+pub mod SeekPairs
