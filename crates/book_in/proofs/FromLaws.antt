@@ -13,7 +13,7 @@ use Rattle.lists.specs.Lists.{pick, sum}
 use Rattle.image.specs.Calls.{Result, lengthCall, unwritten, writeCall}
 use Rattle.image.specs.Image.{image}
 use Rattle.image.proofs.CallLaws.{write-refused}
-use Rattle.image_steps.specs.Result.{resultOf}
+use Rattle.image.specs.Calls.{resultOf}
 use Rattle.book.specs.Book.{decimal, listOfBook}
 use Rattle.book.proofs.BookLaws.{four-list, sum-four}
 use Rattle.book_in.specs.FromBook.{fromCall}

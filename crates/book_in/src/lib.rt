@@ -8,12 +8,12 @@ use crate::put::put_image;
 use answers::image::Answer;
 use answers::refusal;
 use book::is_decimal;
-use image_steps::plan::Planned;
-use image_steps::plan::size;
+use image_plan::Planned;
+use image_plan::size;
 ghost use mathlib.Core.Path.{_≡_};
 ghost use Rattle.book.specs.Book.{listOfBook};
 ghost use Rattle.image.specs.Calls.{writeCall};
-ghost use Rattle.image_steps.specs.Result.{resultOf};
+ghost use Rattle.image.specs.Calls.{resultOf};
 ghost use Rattle.book_in.specs.FromBook.{fromCall};
 
 // Writes the image of the list that a book says.

@@ -1,14 +1,14 @@
 // The image of a book's list, put into a buffer that has room for it.
 use book::hours;
-use image_steps::plan::Layout;
-use image_steps::put::begin;
-use image_steps::put::end;
-use image_steps::put::put_page;
+use image_plan::Layout;
+use image_put::begin;
+use image_put::end;
+use image_put::put_page;
 ghost use mathlib.Core.Path.{_≡_};
 ghost use Rattle.lists.specs.Lists.{splice};
 ghost use Rattle.book.specs.Book.{listOfBook};
 ghost use Rattle.image.specs.Image.{image};
-ghost use Rattle.image_steps.specs.Code.Writing.{Room};
+ghost use Rattle.image_put.specs.Code.Writing.{Room};
 
 // Writes the image of a book's list: page after page, each unpacked into one array.
 pub(crate) fn put_image(out: &mut [u8], book: &[u8], r: Layout)

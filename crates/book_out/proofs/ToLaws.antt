@@ -16,8 +16,8 @@ use Rattle.image.specs.Check.{accepted, check}
 use Rattle.image.specs.Read.{listOf}
 use Rattle.image.proofs.CallLaws.{put-refused}
 use Rattle.image.proofs.CheckLaws.{check-holds}
-use Rattle.image_steps.specs.Result.{resultOf}
-use Rattle.image_steps.proofs.Writing.{splice-front}
+use Rattle.image.specs.Calls.{resultOf}
+use Rattle.image_put.proofs.Writing.{splice-front}
 use Rattle.book.specs.Book.{bookOf, fourDigits}
 use Rattle.book.proofs.BookLaws.{length-book}
 use Rattle.book_out.specs.ToBook.{past, putBook, toCall}

@@ -14,7 +14,7 @@ ghost use mathlib.Core.Path.{_≡_};
 ghost use Rattle.image.specs.Check.{accepted};
 ghost use Rattle.image.specs.Code.Head.{HeadOf};
 ghost use Rattle.image.specs.Read.{listOf};
-ghost use Rattle.image_steps.specs.Result.{resultOf};
+ghost use Rattle.image.specs.Calls.{resultOf};
 ghost use Rattle.book.specs.Book.{fourDigits};
 ghost use Rattle.book_out.specs.ToBook.{putBook, toCall};
 

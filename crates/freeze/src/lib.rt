@@ -4,14 +4,14 @@ use answers::image::Answer;
 use answers::refusal;
 use freeze_plan::layout_of;
 use freeze_put::put_image;
-use image_steps::plan::Planned;
-use image_steps::plan::size;
+use image_plan::Planned;
+use image_plan::size;
 ghost use mathlib.Core.Bool.{true};
 ghost use mathlib.Core.Path.{_≡_};
 ghost use Rattle.store.specs.Reading.{listIn};
 ghost use Rattle.store.specs.Sound.{sound};
 ghost use Rattle.image.specs.Calls.{writeCall};
-ghost use Rattle.image_steps.specs.Result.{resultOf};
+ghost use Rattle.image.specs.Calls.{resultOf};
 ghost use Rattle.freeze.specs.Freeze.{freezeCall};
 
 // Writes the image of a sound store's list.

@@ -15,8 +15,8 @@ use Rattle.lists.proofs.Sums.{sum-take-le}
 use Rattle.bits.specs.Numbers.{numberAt}
 use Rattle.image.specs.Image.{page, pages, root}
 use Rattle.image.proofs.PageLaws.{page-le, page-sum, pages-tight}
-use Rattle.image_steps.specs.Code.Planning.{Awaits, Drafted, PageSum}
-use Rattle.image_steps.specs.declared.plan.Plan.{Plan}
+use Rattle.image_plan.specs.Code.Planning.{Awaits, Drafted, PageSum}
+use Rattle.image_plan.specs.declared.Plan.{Plan}
 use Rattle.pages.proofs.Prefix.{reading-next}
 use Rattle.pages.proofs.SoundPage.{sum-same}
 use Rattle.store.specs.Code.Hours.{OfPage}

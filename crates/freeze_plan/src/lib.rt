@@ -3,12 +3,12 @@
 // what the reading at its end is above that at its start, and the latter is the total of the pages that the plan has.
 mod parts;
 
-use image_steps::plan::Plan;
-use image_steps::plan::Planned;
-use image_steps::plan::Started;
-use image_steps::plan::add_page;
-use image_steps::plan::finish;
-use image_steps::plan::start;
+use image_plan::Plan;
+use image_plan::Planned;
+use image_plan::Started;
+use image_plan::add_page;
+use image_plan::finish;
+use image_plan::start;
 use pages::entry::Entry;
 use pages::entry::entry_of;
 use pages::gather::gather_at;
@@ -20,7 +20,7 @@ ghost use Prim.Native.Nat.{_+_, _*_, _^_, _≤_, _<_};
 ghost use Rattle.lists.specs.Lists.{reading};
 ghost use Rattle.store.specs.Reading.{listIn, pagesOf};
 ghost use Rattle.store.specs.Sound.{sound};
-ghost use Rattle.image_steps.specs.Code.Planning.{Drafted, Planned as PlannedOf};
+ghost use Rattle.image_plan.specs.Code.Planning.{Drafted, Planned as PlannedOf};
 ghost use Rattle.freeze_plan.specs.Code.Steps.{Ending, Within};
 
 // The height of the tree of a page of the store: it has 2^6 counts.

@@ -2,11 +2,11 @@
 mod block;
 
 use crate::block::unpack;
-use image_steps::plan::Layout;
-use image_steps::put::Place;
-use image_steps::put::begin;
-use image_steps::put::end;
-use image_steps::put::put_page;
+use image_plan::Layout;
+use image_put::Place;
+use image_put::begin;
+use image_put::end;
+use image_put::put_page;
 use store::header::Header;
 ghost use mathlib.Core.Bool.{true};
 ghost use mathlib.Core.Path.{_≡_};
@@ -15,7 +15,7 @@ ghost use Rattle.lists.specs.Lists.{splice};
 ghost use Rattle.image.specs.Image.{image};
 ghost use Rattle.store.specs.Reading.{listIn};
 ghost use Rattle.store.specs.Sound.{sound};
-ghost use Rattle.image_steps.specs.Code.Writing.{Laid, Room};
+ghost use Rattle.image_put.specs.Code.Writing.{Laid, Room};
 ghost use Rattle.freeze_put.specs.Code.Steps.{Blocked};
 
 // Writes the pages of block b of 256 hours, of which at is the first.

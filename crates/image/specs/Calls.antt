@@ -7,7 +7,8 @@ use lib.Dec.{leb}
 use Rattle.answers.specs.Refusals.{bufferShort, listTooLong, pageSizeWrong, totalTooHigh}
 use Rattle.lists.specs.Lists.{sum, pick}
 use Rattle.image.specs.Image.{image, maxHours, maxTotal}
-use Rattle.answers.specs.Image.{Reply, given, refused}
+use Rattle.answers.specs.Image.{Reply, given, refused, told}
+use Rattle.answers.specs.declared.image.Answer.{Answer}
 
 -- length: 1, 'e outside 2 to 8'; 2, 'over 65,536 counts'; 3, the total 'above 4,294,967,295'; else 'the image's length in bytes'
 unfoldable pub lengthCall : ℕ → List ℕ → Reply
@@ -20,6 +21,10 @@ lengthCall e xs =
 pub record Result : Type 0 where
   pub reply : Reply
   pub bytes : List ℕ
+
+-- the code's answer in document 01's numbers, with the buffer
+abbrev pub resultOf : Answer → List ℕ → Result
+resultOf a out = record { reply = told a; bytes = out }
 
 -- 'A refusal is its number alone; no byte changes.'
 unfoldable pub unwritten : List ℕ → ℕ → Result

@@ -1,1 +1,1 @@
--- Definitions of the crate: none; its contracts are over those of image and image_steps.
+-- Definitions of the crate: none; its contracts are over those of image, image_plan and image_put.

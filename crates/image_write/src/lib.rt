@@ -6,12 +6,12 @@ use crate::plan::layout_of;
 use crate::put::put_image;
 use answers::image::Answer;
 use answers::refusal;
-use image_steps::plan::Planned;
-use image_steps::plan::size;
+use image_plan::Planned;
+use image_plan::size;
 ghost use mathlib.Core.Path.{_≡_};
 ghost use Rattle.answers.specs.Image.{told};
 ghost use Rattle.image.specs.Calls.{lengthCall, writeCall};
-ghost use Rattle.image_steps.specs.Result.{resultOf};
+ghost use Rattle.image.specs.Calls.{resultOf};
 
 // The length in bytes of the image of counts.
 pub fn length(counts: &[u32], e: u32) -> Answer

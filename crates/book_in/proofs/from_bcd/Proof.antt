@@ -8,7 +8,7 @@ use native.Mathlib.Omega.{arith}
 use borrow.Author.Needs.{needs}
 use borrow.Author.Tests.{ltb-true, ltb-false, not-false, not-true}
 use Rattle.answers.specs.declared.image.Answer.the-variants.{Refused}
-use Rattle.image_steps.specs.Result.{resultOf}
+use Rattle.image.specs.Calls.{resultOf}
 use Rattle.book_in.specs.FromBook.{fromCall}
 use Rattle.book_in.proofs.FromLaws.{from-14, from-e-high, from-e-low, from-list}
 use Rattle.book_in.proofs.from_bcd.Statement.{statement}

@@ -1,6 +1,6 @@
 -- `book_in::write_list` meets its contract. Assumes nothing.
 use Rattle.book.specs.Book.{listOfBook}
-use Rattle.image_steps.proofs.Answering.{Sized, laying, room, sized, write-no, write-short, write-yes}
+use Rattle.image_put.proofs.Answering.{Sized, laying, room, sized, write-no, write-short, write-yes}
 use borrow.Author.Needs.{needs}
 use Rattle.book_in.proofs.write_list.Statement.{statement}
 use Rattle.book_in.proofs.write_list.Tie as tie

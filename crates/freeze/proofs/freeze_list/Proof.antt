@@ -2,7 +2,7 @@
 use mathlib.Core.List.{List}
 use Prim.Native.Nat.{ℕ}
 use Rattle.store.specs.Reading.{listIn}
-use Rattle.image_steps.proofs.Answering.{Sized, laying, room, sized, write-no, write-short, write-yes}
+use Rattle.image_put.proofs.Answering.{Sized, laying, room, sized, write-no, write-short, write-yes}
 use borrow.Author.Needs.{needs}
 use Rattle.freeze.proofs.freeze_list.Statement.{statement}
 use Rattle.freeze.proofs.freeze_list.Tie as tie

@@ -5,7 +5,7 @@ use lib.Pow.{pow-pos}
 use Rattle.pages.proofs.Prefix.{reading-none}
 use Rattle.pages.proofs.SoundPage.{sum-small}
 use Rattle.store.proofs.SoundFacts.{facts}
-use Rattle.image_steps.specs.declared.plan.Plan.{Plan}
+use Rattle.image_plan.specs.declared.Plan.{Plan}
 use Rattle.freeze_plan.specs.Code.Steps.{Ending}
 use Rattle.freeze_plan.proofs.PageEnds.{ahead, all-next, behind, end-in, last-page, power-low, reading-fits, total-fits}
 use borrow.Author.Needs.{needs}
@@ -14,7 +14,7 @@ use Prim.Native.Nat.{_+_, _-_, _*_, _^_, _≤_, _<_}
 use native.Mathlib.Omega.{arith}
 use Rattle.lists.specs.Lists.{reading}
 use Rattle.store.specs.Reading.{listIn, pagesOf}
-use Rattle.image_steps.specs.Code.Planning.{Drafted}
+use Rattle.image_plan.specs.Code.Planning.{Drafted}
 use Rattle.freeze_plan.proofs.add_pages.Statement.{statement}
 use Rattle.freeze_plan.proofs.add_pages.Tie as tie
 

@@ -9,9 +9,9 @@ use Rattle.lists.specs.Lists.{sum, window}
 use Rattle.pages.proofs.SoundPage.{as-said}
 use Rattle.store.specs.Reading.{listIn}
 use Rattle.store.proofs.SoundFacts.{facts}
-use Rattle.image_steps.specs.Code.Planning.{Awaits, Drafted}
-use Rattle.image_steps.specs.declared.plan.Plan.{Plan}
-use Rattle.image_steps.proofs.PageByPage.{awaited}
+use Rattle.image_plan.specs.Code.Planning.{Awaits, Drafted}
+use Rattle.image_plan.specs.declared.Plan.{Plan}
+use Rattle.image_plan.proofs.PageByPage.{awaited}
 use Rattle.freeze_plan.specs.Code.Parts.{Branch}
 use Rattle.freeze_plan.proofs.PageEnds.{total-fits}
 use Rattle.freeze_plan.proofs.PageParts.{Part, few, low, page-branch, part-in, part-most, part-sum, starts-in}

@@ -1,8 +1,8 @@
 -- `freeze_plan::layout_of` meets its contract. Assumes nothing.
 use native.Mathlib.Omega.{arith}
 use Rattle.store.specs.Reading.{listIn}
-use Rattle.image_steps.specs.Code.Planning.{Whole}
-use Rattle.image_steps.proofs.PlanLaws.{opened, unopened}
+use Rattle.image_plan.specs.Code.Planning.{Whole}
+use Rattle.image_plan.proofs.PlanLaws.{opened, unopened}
 use Rattle.store.proofs.SoundFacts.{facts}
 use Rattle.freeze_plan.proofs.PageEnds.{hours-are}
 use borrow.Author.Needs.{needs}

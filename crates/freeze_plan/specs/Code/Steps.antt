@@ -9,8 +9,8 @@ use Rattle.store.specs.Reading.{listIn}
 use Rattle.store.specs.Sound.{sound}
 use Rattle.store.specs.Code.Hours.{OfPage}
 use Rattle.pages.specs.declared.entry.Entry.{Entry}
-use Rattle.image_steps.specs.Code.Planning.{Drafted}
-use Rattle.image_steps.specs.declared.plan.Plan.{Plan}
+use Rattle.image_plan.specs.Code.Planning.{Drafted}
+use Rattle.image_plan.specs.declared.Plan.{Plan}
 
 -- the next page of the image of a sound store's list ends in page p of the store, whose entry is own, or behind it, and page number end - 1
 -- in p or before it

@@ -10,8 +10,8 @@ use Prim.Native.Nat.{ℕ, _-_, _*_, _^_, _<_}
 use native.Mathlib.Omega.{arith}
 use lib.ListN.{length}
 use Rattle.store.specs.Reading.{listIn}
-use Rattle.image_steps.specs.Code.Writing.{Filled, Laid}
-use Rattle.image_steps.proofs.PageByPage.{filled, laid-since}
+use Rattle.image_put.specs.Code.Writing.{Filled, Laid}
+use Rattle.image_put.proofs.PageByPage.{filled, laid-since}
 use Rattle.freeze_put.proofs.put_image.Statement.{statement}
 use Rattle.freeze_put.proofs.put_image.Tie as tie
 

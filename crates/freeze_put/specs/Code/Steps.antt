@@ -5,9 +5,9 @@ use mathlib.Core.Path.{_≡_}
 use Prim.Native.Nat.{ℕ, _-_, _*_, _^_, _<_}
 use Rattle.store.specs.Reading.{listIn, pagesOf}
 use Rattle.store.specs.Sound.{sound}
-use Rattle.image_steps.specs.Code.Writing.{Laid}
-use Rattle.image_steps.specs.declared.plan.Layout.{Layout}
-use Rattle.image_steps.specs.declared.put.Place.{Place}
+use Rattle.image_put.specs.Code.Writing.{Laid}
+use Rattle.image_plan.specs.declared.Layout.{Layout}
+use Rattle.image_put.specs.declared.Place.{Place}
 
 -- the pages before block b stand in the buffer out, and block b has pages; first is what the buffer was
 pub record Blocked (out s : List ℕ) (r : Layout) (pages b : ℕ) (at : Place) : Type 0 where

@@ -1,5 +1,5 @@
 -- `image_write::length` meets its contract. Assumes nothing.
-use Rattle.image_steps.proofs.Answering.{laying, length-no, length-yes, sized}
+use Rattle.image_put.proofs.Answering.{laying, length-no, length-yes, sized}
 use borrow.Author.Needs.{needs}
 use Rattle.image_write.proofs.length.Statement.{statement}
 use Rattle.image_write.proofs.length.Tie as tie

@@ -1,5 +1,5 @@
 -- `image_write::write` meets its contract. Assumes nothing.
-use Rattle.image_steps.proofs.Answering.{Sized, laying, room, sized, write-no, write-short, write-yes}
+use Rattle.image_put.proofs.Answering.{Sized, laying, room, sized, write-no, write-short, write-yes}
 use borrow.Author.Needs.{needs}
 use Rattle.image_write.proofs.write.Statement.{statement}
 use Rattle.image_write.proofs.write.Tie as tie

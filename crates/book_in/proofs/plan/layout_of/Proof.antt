@@ -3,8 +3,8 @@ use Prim.Native.Nat.{_/_}
 use lib.ListN.{length}
 use Rattle.book.specs.Book.{listOfBook}
 use Rattle.book.proofs.BookLaws.{length-listed}
-use Rattle.image_steps.specs.Code.Planning.{Whole}
-use Rattle.image_steps.proofs.PlanLaws.{opened, unopened}
+use Rattle.image_plan.specs.Code.Planning.{Whole}
+use Rattle.image_plan.proofs.PlanLaws.{opened, unopened}
 use borrow.Author.Needs.{needs}
 use Rattle.book_in.proofs.plan.layout_of.Statement.{statement}
 use Rattle.book_in.proofs.plan.layout_of.Tie as tie

@@ -6,9 +6,10 @@ use Prim.Native.Nat.{ℕ, _-_, _*_, _≤_, _<_}
 use lib.ListN.{length}
 use native.Mathlib.Omega.{arith}
 use Rattle.book.specs.Book.{listOfBook}
-use Rattle.image_steps.specs.Code.Writing.{Filled, Handed, Laid}
-use Rattle.image_steps.specs.declared.put.Place.{Place}
-use Rattle.image_steps.proofs.PageByPage.{filled, laid-since, page-from}
+use Rattle.image_put.specs.Code.Writing.{Filled, Handed, Laid}
+use Rattle.image_put.specs.declared.Place.{Place}
+use Rattle.image_plan.proofs.PageByPage.{page-from}
+use Rattle.image_put.proofs.PageByPage.{filled, laid-since}
 use Rattle.book_in.proofs.BookPages.{page-front}
 use Rattle.book_in.proofs.put.put_image.Statement.{statement}
 use Rattle.book_in.proofs.put.put_image.Tie as tie

@@ -1,8 +1,8 @@
 -- `image_write::plan::layout_of` meets its contract. Assumes nothing.
 use mathlib.Core.Path.{refl}
 use lib.ListN.{length}
-use Rattle.image_steps.specs.Code.Planning.{Whole}
-use Rattle.image_steps.proofs.PlanLaws.{opened, unopened}
+use Rattle.image_plan.specs.Code.Planning.{Whole}
+use Rattle.image_plan.proofs.PlanLaws.{opened, unopened}
 use borrow.Author.Needs.{needs}
 use Rattle.image_write.proofs.plan.layout_of.Statement.{statement}
 use Rattle.image_write.proofs.plan.layout_of.Tie as tie

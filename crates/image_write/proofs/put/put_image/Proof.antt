@@ -2,9 +2,10 @@
 use mathlib.Core.List.{List}
 use Prim.Native.Nat.{ℕ, _-_, _*_, _<_}
 use native.Mathlib.Omega.{arith}
-use Rattle.image_steps.specs.Code.Writing.{Filled, Handed, Laid}
-use Rattle.image_steps.specs.declared.put.Place.{Place}
-use Rattle.image_steps.proofs.PageByPage.{filled, laid-since, page-from}
+use Rattle.image_put.specs.Code.Writing.{Filled, Handed, Laid}
+use Rattle.image_put.specs.declared.Place.{Place}
+use Rattle.image_plan.proofs.PageByPage.{page-from}
+use Rattle.image_put.proofs.PageByPage.{filled, laid-since}
 use Rattle.image_write.proofs.ListPages.{page-window}
 use Rattle.image_write.proofs.put.put_image.Statement.{statement}
 use Rattle.image_write.proofs.put.put_image.Tie as tie

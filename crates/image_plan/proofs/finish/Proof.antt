@@ -1,0 +1,57 @@
+-- `image_plan::finish` meets its contract. Assumes nothing.
+use native.Mathlib.Omega.{arith}
+use borrow.Author.Needs.{needs}
+use Rattle.image_plan.proofs.PlanLaws.{Sizes, finished, sizes, too-much, width-low}
+use Rattle.image_plan.proofs.finish.Statement.{statement}
+use Rattle.image_plan.proofs.finish.Tie as tie
+
+small : (c : tie.Start) → Sizes (c .args .plan)
+small c = sizes (c .pre .drafted)
+
+returns : tie.Need-returns
+returns c = λ a. too-much (a .drafted) (a .all) (c .if1 .taken)
+
+mul-code : tie.Need-mul-code
+mul-code c = omega (arith, small (c .before .before) .few)
+
+add-code : tie.Need-add-code
+add-code c = omega (arith, small (c .before .before) .few)
+
+mul-code-2 : tie.Need-mul-code-2
+mul-code-2 c = omega (arith, small (c .before .before) .few)
+
+digits-of-requires : tie.Need-digits-of-requires
+digits-of-requires c κs = search needs
+
+cast-bits : tie.Need-cast-bits
+cast-bits c = search needs
+
+mul-bits : tie.Need-mul-bits
+mul-bits c =
+    let a = c .before .before .before .pre in
+    omega (arith, width-low (a .drafted) (a .all) (c .digits-of .result) (c .digits-of .ensures))
+
+add-bits : tie.Need-add-bits
+add-bits c =
+    let n = c .before in
+    let s = n .before .before .before in
+    omega (arith, width-low (s .pre .drafted) (s .pre .all) (n .digits-of .result) (n .digits-of .ensures), small s .trees-most)
+
+returns-2 : tie.Need-returns-2
+returns-2 c =
+    let n = c .before in
+    λ a. finished (a .drafted) (a .all) (n .digits-of .result) (n .digits-of .ensures) (n .before .if1 .left)
+
+pub finish-spec : {M : Type 1} → statement M
+finish-spec =
+    tie.close
+    (tie.spec
+    returns
+    mul-code
+    add-code
+    mul-code-2
+    digits-of-requires
+    cast-bits
+    mul-bits
+    add-bits
+    returns-2)

@@ -1,3 +1,0 @@
--- Definitions of the crate.
-pub mod Code
-pub mod Result
