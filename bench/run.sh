@@ -12,5 +12,5 @@ cd "$folder/.."
 
 echo "== the benchmark is built" >&2
 cargo build --quiet --offline --release --manifest-path bench/Cargo.toml --target-dir target/bench
-echo "== the benchmark runs (a quarter of a minute; the machine should be quiet)" >&2
+echo "== the benchmark runs (a minute; the machine should be quiet)" >&2
 target/bench/release/bench

@@ -2,6 +2,11 @@
 
 pub const HOURS: usize = 65_536;
 
+/// How many inputs of a kind are worked on in turns. A processor that meets one
+/// and the same input a hundred times foretells its turns by heart, as it never
+/// does where an image is checked or asked once.
+pub const INPUTS: u64 = 16;
+
 #[derive(Clone, Copy)]
 pub enum Kind {
     /// Most hours without a coin.
@@ -42,8 +47,9 @@ impl Random {
     }
 }
 
-pub fn counts(kind: Kind) -> Vec<u32> {
-    let mut random = Random::new(7);
+/// A list of a kind, another one for each seed.
+pub fn counts(kind: Kind, seed: u64) -> Vec<u32> {
+    let mut random = Random::new(7 + seed);
     (0..HOURS)
         .map(|hour| count(kind, hour % 24, &mut random))
         .collect()
@@ -67,7 +73,7 @@ pub fn in_order(number: usize) -> Vec<u64> {
 }
 
 /// Hours or figures to ask for, below a limit.
-pub fn questions(limit: u64, number: usize) -> Vec<u64> {
-    let mut random = Random::new(11);
+pub fn questions(limit: u64, number: usize, seed: u64) -> Vec<u64> {
+    let mut random = Random::new(11 + seed);
     (0..number).map(|_| random.below(limit)).collect()
 }

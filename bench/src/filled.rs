@@ -7,13 +7,13 @@ const PAGE: usize = 64;
 
 /// A store of 1,800 cells for every 1,024 pages that is full but for so many
 /// hours of its last page: seven pages in ten have two cells, the others one,
-/// and a few cells are free.
-pub fn filled(pages: usize, left: usize) -> Vec<u8> {
+/// and a few cells are free. Another one for each seed.
+pub fn filled(pages: usize, left: usize, seed: u64) -> Vec<u8> {
     assert!(left <= PAGE);
     let cells = 1_800 * pages / 1_024;
     let mut bytes = vec![0; 16 + 6 * pages + 32 * cells];
     assert_eq!(store::fresh(&mut bytes, pages as u32, cells as u32), 0);
-    let mut random = Random::new(13);
+    let mut random = Random::new(13 + seed);
     let mut next = 1;
     for page in 0..pages {
         let mut counts = [0; PAGE];

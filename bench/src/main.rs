@@ -1,6 +1,6 @@
 //! How fast the library is, beside unverified Rust of the same algorithm.
 //!
-//! All three do the same work on the same input, in turns, and the best time of
+//! All three do the same work on the same inputs, in turns, and the best time of
 //! many counts. Before anything is timed, their answers and bytes are compared.
 
 mod contender;
@@ -21,8 +21,7 @@ fn main() {
         "", "library", "straight", "fast", "lib/strai", "lib/fast"
     );
     for kind in Kind::ALL {
-        let counts = data::counts(kind);
-        measure_all(&contenders, kind.name(), tasks::over_image(&counts));
+        measure_all(&contenders, kind.name(), tasks::over_images(kind));
     }
     for pages in [16, 64, 256, 1_024] {
         let on = format!("{pages} pages");
@@ -36,8 +35,8 @@ fn main() {
 /// the library's time to that of the task that it is set beside.
 fn measure_all(contenders: &[Contender; 3], on: &str, tasks: Vec<Task>) {
     let mut times = HashMap::new();
-    for mut task in tasks {
-        let [library, straightforward, fast] = timing::best_of_many(contenders, &mut task);
+    for task in tasks {
+        let [library, straightforward, fast] = timing::best_of_many(contenders, &task);
         times.insert(task.name, library);
         let beside = task.beside.map_or(String::new(), |other| {
             format!("   {:.2} times {other}", library / times[other])

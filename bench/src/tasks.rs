@@ -1,7 +1,7 @@
 //! What is timed.
 
 use crate::contender::Contender;
-use crate::data::{in_order, questions, HOURS};
+use crate::data::{counts, in_order, questions, Kind, HOURS, INPUTS};
 use crate::filled::filled;
 
 const E: u32 = 6;
@@ -14,18 +14,23 @@ const YEAR: u32 = 8_760;
 
 pub type Work = Box<dyn Fn(&Contender, &mut [u8]) -> i64>;
 
-/// A piece of work that a contender does on an input of its own.
+/// What is worked on.
+pub struct Input {
+    /// Bytes that each round starts from; they are put back untimed.
+    pub start: Vec<u8>,
+    /// Works on the bytes; the number stands for all its answers.
+    pub work: Work,
+}
+
+/// A piece of work that a contender does on inputs of a kind.
 pub struct Task {
     pub name: &'static str,
     pub unit: &'static str,
     /// Nanoseconds of the whole, divided by this, are the unit.
     pub divisor: f64,
     pub rounds: usize,
-    /// Bytes that each round starts from; they are put back untimed.
-    pub start: Vec<u8>,
-    /// Works on the bytes; the number stands for all its answers.
-    pub work: Work,
-    /// The task on the same input whose time is to be set beside its own.
+    pub inputs: Vec<Input>,
+    /// The task on the same inputs whose time is to be set beside its own.
     pub beside: Option<&'static str>,
 }
 
@@ -38,142 +43,183 @@ impl Task {
     }
 }
 
-/// Each image call over the image of some counts.
-pub fn over_image(counts: &[u32]) -> Vec<Task> {
-    let total = counts.iter().map(|&count| u64::from(count)).sum::<u64>();
-    let image = image_of(counts);
-    let random = questions(HOURS as u64, QUESTIONS);
-    let ordered = in_order(QUESTIONS);
-    let figures = questions(total + 1, QUESTIONS);
-    let written = counts.to_vec();
+/// A list and its image.
+struct Log {
+    seed: u64,
+    counts: Vec<u32>,
+    image: Vec<u8>,
+}
+
+impl Log {
+    fn new(seed: u64, counts: Vec<u32>) -> Log {
+        let mut image = vec![0; rival::image::length::<rival::Fast>(&counts, E) as usize];
+        rival::image::write::<rival::Fast>(&counts, E, &mut image);
+        Log {
+            seed,
+            counts,
+            image,
+        }
+    }
+
+    fn total(&self) -> u64 {
+        self.counts.iter().map(|&count| u64::from(count)).sum()
+    }
+
+    /// Bytes to write to that are not clear.
+    fn no_image(&self) -> Vec<u8> {
+        vec![0xFF; self.image.len()]
+    }
+
+    fn book(&self) -> Vec<u8> {
+        let mut book = vec![0; 2 * self.counts.len()];
+        rival::books::from_image::<rival::Fast>(&self.image, &mut book);
+        book
+    }
+}
+
+fn logs(kind: Kind, change: impl Fn(&mut Vec<u32>)) -> Vec<Log> {
+    (0..INPUTS)
+        .map(|seed| {
+            let mut counts = counts(kind, seed);
+            change(&mut counts);
+            Log::new(seed, counts)
+        })
+        .collect()
+}
+
+/// Each image call over images of a kind.
+pub fn over_images(kind: Kind) -> Vec<Task> {
+    let logs = logs(kind, |_| ());
+    let ordered = |_: &Log| in_order(QUESTIONS);
+    let random = |log: &Log| questions(HOURS as u64, QUESTIONS, log.seed);
+    let figures = |log: &Log| questions(log.total() + 1, QUESTIONS, log.seed);
     let mut tasks = vec![
-        counting("count", &image, random.clone()),
-        reading("reading", &image, random),
-        counting("count in order", &image, ordered.clone()),
-        reading("reading in order", &image, ordered),
-        asking("reach", &image, move |by, bytes| {
-            all_answers(&figures, |figure| (by.reach)(bytes, figure))
+        asking("count", &logs, random, count),
+        asking("reading", &logs, random, reading),
+        asking("count in order", &logs, ordered, count),
+        asking("reading in order", &logs, ordered, reading),
+        asking("reach", &logs, figures, |by, bytes, figure| {
+            (by.reach)(bytes, figure)
         }),
-        // Into a buffer that is not clear.
-        whole("write", &vec![0xFF; image.len()], move |by, bytes| {
-            (by.write)(&written, E, bytes)
-        }),
-        whole("check", &image, |by, bytes| (by.check)(bytes)),
-        whole("busiest day", &image, |by, bytes| (by.busiest)(bytes, DAY)).beside("check"),
-        whole("busiest year", &image, |by, bytes| {
+        writing("write", &logs),
+        whole("check", &logs, |by, bytes| (by.check)(bytes)),
+        whole("busiest day", &logs, |by, bytes| (by.busiest)(bytes, DAY)).beside("check"),
+        whole("busiest year", &logs, |by, bytes| {
             (by.busiest)(bytes, YEAR)
         })
         .beside("check"),
     ];
-    tasks.extend(matches(counts));
-    tasks.extend(books(counts));
+    tasks.extend(matches(kind));
+    tasks.extend(books(kind));
     tasks
 }
 
-fn image_of(counts: &[u32]) -> Vec<u8> {
-    let mut image = vec![0; rival::image::length::<rival::Fast>(counts, E) as usize];
-    rival::image::write::<rival::Fast>(counts, E, &mut image);
-    image
+fn count(by: &Contender, bytes: &mut [u8], hour: u64) -> i64 {
+    (by.count)(bytes, hour as u32)
+}
+
+fn reading(by: &Contender, bytes: &mut [u8], hour: u64) -> i64 {
+    (by.reading)(bytes, hour as u32)
 }
 
 /// The last count alone is odd: a bag of as many coins is found there and
 /// nowhere else, an odd one of less coins nowhere. Nor is a tenth of all coins,
 /// made odd: a bag of many hours.
-fn matches(counts: &[u32]) -> Vec<Task> {
-    let mut counts: Vec<u32> = counts.iter().map(|count| count & !1).collect();
-    *counts.last_mut().expect("hours") = 1_001;
-    let image = image_of(&counts);
-    let tenth = counts.iter().map(|&count| u64::from(count)).sum::<u64>() / 10;
-    let matching = |name, figure: u64| {
-        whole(name, &image, move |by, bytes| (by.matched)(bytes, figure)).beside("check of bags")
+fn matches(kind: Kind) -> Vec<Task> {
+    let logs = logs(kind, |counts| {
+        counts.iter_mut().for_each(|count| *count &= !1);
+        *counts.last_mut().expect("hours") = 1_001;
+    });
+    let matching = |name, figure: fn(&Log) -> u64| {
+        let inputs = logs.iter().map(|log| {
+            let figure = figure(log);
+            Input {
+                start: log.image.clone(),
+                work: Box::new(move |by, bytes| (by.matched)(bytes, figure)),
+            }
+        });
+        over_hours(name, inputs.collect()).beside("check of bags")
     };
     vec![
-        whole("check of bags", &image, |by, bytes| (by.check)(bytes)),
-        matching("match at end", 1_001),
-        matching("match none", 999),
-        matching("match none of many", (tenth | 1) - 2),
+        whole("check of bags", &logs, |by, bytes| (by.check)(bytes)),
+        matching("match at end", |_| 1_001),
+        matching("match none", |_| 999),
+        matching("match none of many", |log| {
+            let mut figure = (log.total() / 10 | 1) - 2;
+            while ends_with(&log.counts, figure) {
+                figure -= 2;
+            }
+            figure
+        }),
     ]
+}
+
+/// Whether the last hours, of which the last alone is odd, have so many coins.
+fn ends_with(counts: &[u32], figure: u64) -> bool {
+    let mut sum = 0;
+    counts.iter().rev().any(|&count| {
+        sum += u64::from(count);
+        sum == figure
+    })
 }
 
 /// A book of the counts, as far as four digits hold them, over and back.
-fn books(counts: &[u32]) -> Vec<Task> {
-    let counts: Vec<u32> = counts.iter().map(|count| count % 10_000).collect();
-    let image = image_of(&counts);
-    let mut book = vec![0; 2 * counts.len()];
-    rival::books::from_image::<rival::Fast>(&image, &mut book);
-    let (no_image, no_book) = (vec![0xFF; image.len()], vec![0xFF; book.len()]);
+fn books(kind: Kind) -> Vec<Task> {
+    let logs = logs(kind, |counts| {
+        counts.iter_mut().for_each(|count| *count %= 10_000);
+    });
+    let over = logs.iter().map(|log| {
+        let book = log.book();
+        Input {
+            start: log.no_image(),
+            work: Box::new(move |by, bytes| (by.from_book)(&book, E, bytes)),
+        }
+    });
+    let back = logs.iter().map(|log| {
+        let image = log.image.clone();
+        Input {
+            start: vec![0xFF; 2 * log.counts.len()],
+            work: Box::new(move |by, bytes| (by.to_book)(&image, bytes)),
+        }
+    });
     vec![
-        whole("write of books", &no_image, move |by, bytes| {
-            (by.write)(&counts, E, bytes)
-        }),
-        whole("from book", &no_image, move |by, bytes| {
-            (by.from_book)(&book, E, bytes)
-        })
-        .beside("write of books"),
-        whole("check of books", &image, |by, bytes| (by.check)(bytes)),
-        whole("to book", &no_book, move |by, bytes| {
-            (by.to_book)(&image, bytes)
-        })
-        .beside("check of books"),
+        writing("write of books", &logs),
+        over_hours("from book", over.collect()).beside("write of books"),
+        whole("check of books", &logs, |by, bytes| (by.check)(bytes)),
+        over_hours("to book", back.collect()).beside("check of books"),
     ]
-}
-
-fn counting(name: &'static str, image: &[u8], hours: Vec<u64>) -> Task {
-    asking(name, image, move |by, bytes| {
-        all_answers(&hours, |hour| (by.count)(bytes, hour as u32))
-    })
-}
-
-fn reading(name: &'static str, image: &[u8], hours: Vec<u64>) -> Task {
-    asking(name, image, move |by, bytes| {
-        all_answers(&hours, |hour| (by.reading)(bytes, hour as u32))
-    })
 }
 
 /// Appends to a store of which most pages hold data, each with its full check.
 pub fn append(pages: usize) -> Task {
-    let start = filled(pages, PAGE);
-    over_store("append", APPENDS, start, |by, bytes| {
-        let counts: Vec<u64> = (1..=APPENDS as u64).collect();
-        all_answers(&counts, |count| (by.append)(bytes, count as u32))
+    over_stores("append", APPENDS, |seed| Input {
+        start: filled(pages, PAGE, seed),
+        work: Box::new(|by, bytes| {
+            let counts: Vec<u64> = (1..=APPENDS as u64).collect();
+            all_answers(&counts, |count| (by.append)(bytes, count as u32))
+        }),
     })
 }
 
 /// The image of a full store's list, at pages of 4, 8 and 64 counts.
 pub fn freezes(pages: usize) -> Vec<Task> {
-    let store = filled(pages, 0);
     [
         (2, "freeze e = 2"),
         (3, "freeze e = 3"),
         (6, "freeze e = 6"),
     ]
-    .map(|(e, name)| {
-        let store = store.clone();
-        let mut room = vec![0xFF; 16 * PAGE * pages];
-        let length = rival::store::freeze::<rival::Fast>(&store, e, &mut room);
-        room.truncate(length as usize);
-        room.fill(0xFF);
-        over_store(name, 1, room, move |by, bytes| {
-            (by.freeze)(&store, e, bytes)
-        })
-    })
+    .map(|(e, name)| over_stores(name, 1, |seed| freeze(filled(pages, 0, seed), pages, e)))
     .into()
 }
 
-fn over_store(
-    name: &'static str,
-    calls: usize,
-    start: Vec<u8>,
-    work: impl Fn(&Contender, &mut [u8]) -> i64 + 'static,
-) -> Task {
-    Task {
-        name,
-        unit: "us",
-        divisor: 1_000.0 * calls as f64,
-        rounds: 600,
-        start,
-        work: Box::new(work),
-        beside: None,
+fn freeze(store: Vec<u8>, pages: usize, e: u32) -> Input {
+    let mut room = vec![0xFF; 16 * PAGE * pages];
+    let length = rival::store::freeze::<rival::Fast>(&store, e, &mut room);
+    room.truncate(length as usize);
+    room.fill(0xFF);
+    Input {
+        start: room,
+        work: Box::new(move |by, bytes| (by.freeze)(&store, e, bytes)),
     }
 }
 
@@ -181,13 +227,26 @@ fn over_store(
 /// or one that lacks an hour, every page is rewritten.
 pub fn moves(pages: usize) -> Vec<Task> {
     vec![
-        over_store("insert", 1, filled(pages, 1), |by, bytes| {
-            (by.insert)(bytes, 0, 5)
+        over_stores("insert", 1, |seed| Input {
+            start: filled(pages, 1, seed),
+            work: Box::new(|by, bytes| (by.insert)(bytes, 0, 5)),
         }),
-        over_store("strike", 1, filled(pages, 0), |by, bytes| {
-            (by.strike)(bytes, 0)
+        over_stores("strike", 1, |seed| Input {
+            start: filled(pages, 0, seed),
+            work: Box::new(|by, bytes| (by.strike)(bytes, 0)),
         }),
     ]
+}
+
+fn over_stores(name: &'static str, calls: usize, input: impl Fn(u64) -> Input) -> Task {
+    Task {
+        name,
+        unit: "us",
+        divisor: 1_000.0 * calls as f64,
+        rounds: 40,
+        inputs: (0..INPUTS).map(input).collect(),
+        beside: None,
+    }
 }
 
 /// One number that stands for all answers in their order.
@@ -197,30 +256,59 @@ fn all_answers(questions: &[u64], mut ask: impl FnMut(u64) -> i64) -> i64 {
     })
 }
 
+/// Each image is asked its own questions.
 fn asking(
     name: &'static str,
-    image: &[u8],
-    work: impl Fn(&Contender, &mut [u8]) -> i64 + 'static,
+    logs: &[Log],
+    questions: impl Fn(&Log) -> Vec<u64>,
+    ask: fn(&Contender, &mut [u8], u64) -> i64,
 ) -> Task {
+    let inputs = logs.iter().map(|log| {
+        let questions = questions(log);
+        Input {
+            start: log.image.clone(),
+            work: Box::new(move |by, bytes| {
+                all_answers(&questions, |question| ask(by, bytes, question))
+            }),
+        }
+    });
     Task {
         name,
         unit: "ns",
         divisor: QUESTIONS as f64,
-        rounds: 250,
-        start: image.to_vec(),
-        work: Box::new(work),
+        rounds: 20,
+        inputs: inputs.collect(),
         beside: None,
     }
 }
 
-fn whole(
-    name: &'static str,
-    image: &[u8],
-    work: impl Fn(&Contender, &mut [u8]) -> i64 + 'static,
-) -> Task {
+/// Each list into a buffer that is not clear.
+fn writing(name: &'static str, logs: &[Log]) -> Task {
+    let inputs = logs.iter().map(|log| {
+        let counts = log.counts.clone();
+        Input {
+            start: log.no_image(),
+            work: Box::new(move |by, bytes| (by.write)(&counts, E, bytes)),
+        }
+    });
+    over_hours(name, inputs.collect())
+}
+
+fn whole(name: &'static str, logs: &[Log], work: fn(&Contender, &mut [u8]) -> i64) -> Task {
+    let inputs = logs.iter().map(|log| Input {
+        start: log.image.clone(),
+        work: Box::new(work),
+    });
+    over_hours(name, inputs.collect())
+}
+
+fn over_hours(name: &'static str, inputs: Vec<Input>) -> Task {
     Task {
-        divisor: HOURS as f64,
+        name,
         unit: "ns a count",
-        ..asking(name, image, work)
+        divisor: HOURS as f64,
+        rounds: 20,
+        inputs,
+        beside: None,
     }
 }
