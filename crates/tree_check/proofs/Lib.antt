@@ -1,2 +1,3 @@
 -- Laws of the check's steps.
 pub mod CheckSteps
+pub mod EightInWord

@@ -1,8 +1,12 @@
 // The check of a tree: whether bits are the code of some list.
+mod eight;
+
+use crate::eight::eight_exact;
 use bits_field::front;
 use reserve::digits_of;
 use reserve::reserve_of;
 use reserve_table::reserve_by;
+use tree::node::eight_in_word;
 use tree_lowest::low_levels;
 use tree_lowest::one_load;
 use tree_lowest::zero_bits;
@@ -32,6 +36,9 @@ fn check_node(b: &&[u8], table: &[u8; 512], at: usize, h: u32, s: u64, r: usize)
 {
     if s == 0 {
         return true;
+    }
+    if eight_in_word(h, s) {
+        return eight_exact(*b, table, at, s, r);
     }
     if one_load(h, r) {
         return low_levels(*b, at, h, s, r);

@@ -8,7 +8,7 @@ ghost use mathlib.Core.List.{[], _∷_};
 ghost use mathlib.Core.Path.{_≡_};
 ghost use Prim.Native.Nat.{_+_, _*_, _≤_, _<_, _^_};
 ghost use lib.ListN.{length};
-ghost use Rattle.bits.specs.Bits.{bits};
+ghost use Rattle.bits.specs.Bits.{bits, field};
 ghost use Rattle.reserve.specs.Reserve.{reserve as reserved};
 ghost use Rattle.tree.specs.Code.Exact.{clear, exact};
 ghost use Rattle.tree.specs.Code.Node.{Lies};
@@ -40,6 +40,15 @@ pub fn one_load(h: u32, r: usize) -> bool
     r <= 57
 }
 
+// Whether the number v in r bits is the code of four counts with sum s.
+pub fn four_exact(v: u64, r: u32, s: u64) -> bool
+    requires { ⌜ (r ≡ reserved 2 s) × (r ≤ 57) × (v < 2 ^ r) × (s < 1099511627776) ⌝ }
+    ensures { λ q. ⌜ q ≡ exact 2 s (field r v) 0 ⌝ }
+{
+    let f = four_of(v, r, s);
+    f.ok
+}
+
 // The lowest two levels, out of one load: a tree of two or four counts with sum s at bit at, whose r bits fit one field.
 pub fn low_levels(b: &[u8], at: usize, h: u32, s: u64, r: usize) -> bool
     requires { ⌜ Lies (now b) at h s × (r ≡ reserved h s) × (r ≤ 57) × (1 ≤ h) × (h ≤ 2) ⌝ }
@@ -49,8 +58,7 @@ pub fn low_levels(b: &[u8], at: usize, h: u32, s: u64, r: usize) -> bool
     if h == 1 {
         return v <= s;
     }
-    let f = four_of(v, r as u32, s);
-    f.ok
+    four_exact(v, r as u32, s)
 }
 
 // Whether neither of two counts is above widest.

@@ -19,11 +19,11 @@ returns c =
     let a = c .before .before .before in
     own-pair (a .args .b .now) (a .args .at) (a .args .h) (a .args .s) _ _ (a .pre .0) (a .pre .1) (c .before .get-field .ensures) (c .if1 .taken)
 
-cast-four-of : tie.Need-cast-four-of
-cast-four-of c = search needs
+cast-four-exact : tie.Need-cast-four-exact
+cast-four-exact c = search needs
 
-four-of-requires : tie.Need-four-of-requires
-four-of-requires c κs =
+four-exact-requires : tie.Need-four-exact-requires
+four-exact-requires c κs =
     let a = c .before .before .before in
     let e : a .args .h ≡ 2 = omega arith in (
       a .pre .1 ∙ ap (λ (k : ℕ). reserve k (a .args .s)) e,
@@ -37,9 +37,9 @@ returns-2 : tie.Need-returns-2
 returns-2 c =
     let a = c .before .before .before .before in
     let e : a .args .h ≡ 2 = omega (arith, c .before .if1 .left) in
-    c .four-of .ensures .ok-is ∙ own-four (a .args .b .now) (a .args .at) (a .args .h) (a .args .s) _ _ (a .pre .0) (a .pre .1) (c .before .before .get-field .ensures) e
+    c .four-exact .ensures ∙ own-four (a .args .b .now) (a .args .at) (a .args .h) (a .args .s) _ _ (a .pre .0) (a .pre .1) (c .before .before .get-field .ensures) e
 
 pub low-levels-spec : {M : Type 1} → statement M
 low-levels-spec =
     tie.close
-    (tie.spec cast-get-field get-field-requires returns cast-four-of four-of-requires returns-2)
+    (tie.spec cast-get-field get-field-requires returns cast-four-exact four-exact-requires returns-2)
