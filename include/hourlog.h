@@ -56,16 +56,16 @@
  * HOURLOG_FREEZE_STACK.  A board that has not so much sends its store's bytes as
  * they are, and the laptop freezes them.
  * Time: a store call reads the whole store to check it, so its time grows with
- * the store: by some 3,000 instructions for a page with tens of coins in each
- * hour, 4,500 with hundred thousands.  A change of an hour costs 3,000 to 12,000
- * more, by the coins of its page.  That is 15,000 to 26,000 for a change in a
- * store of 4 pages of which 3 have coins, and by that rule 3 to 5 million, a
- * quarter of a millisecond or more on a desktop, in one of 1,024.  An insert or
+ * the store: by some 2,400 instructions for a page with tens of coins in each
+ * hour, 4,600 with hundred thousands.  A change of an hour costs 3,000 to 12,000
+ * more, by the coins of its page.  That is 13,000 to 27,000 for a change in a
+ * store of 4 pages of which 3 have coins, and by that rule 2.5 to 5 million, a
+ * fifth of a millisecond or more on a desktop, in one of 1,024.  An insert or
  * a strike costs as much again for each page from its hour on.  An image is
  * written and checked in time that grows with its hours; its count and reading
  * take the same few hundred instructions whatever its length, reach about twice
- * as many.  The busiest stretch, and a bag's match, take two to three times as
- * long as check where pages have 64 hours (e = 6), and up to five times where
+ * as many.  The busiest stretch, and a bag's match, take two to four times as
+ * long as check where pages have 64 hours (e = 6), and up to six times where
  * they have four (e = 2).
  * Threads and interrupts: any number of calls may run at once, unless one of
  * them changes a buffer that another is lent.
