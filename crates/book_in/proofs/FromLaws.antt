@@ -10,10 +10,9 @@ use borrow.Author.Tests.{le-leb, leb-true, lt-leb}
 use Rattle.answers.specs.Image.{given, refused, told}
 use Rattle.answers.specs.declared.image.Answer.the-variants.{Refused}
 use Rattle.lists.specs.Lists.{pick, sum}
-use Rattle.image.specs.Calls.{Result, lengthCall, unwritten, writeCall}
+use Rattle.image.specs.Calls.{lengthCall, Result, resultOf, unwritten, writeCall}
 use Rattle.image.specs.Image.{image}
 use Rattle.image.proofs.CallLaws.{write-refused}
-use Rattle.image.specs.Calls.{resultOf}
 use Rattle.book.specs.Book.{decimal, listOfBook}
 use Rattle.book.proofs.BookLaws.{four-list, sum-four}
 use Rattle.book_in.specs.FromBook.{fromCall}

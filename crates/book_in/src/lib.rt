@@ -12,8 +12,7 @@ use image_plan::Planned;
 use image_plan::size;
 ghost use mathlib.Core.Path.{_≡_};
 ghost use Rattle.book.specs.Book.{listOfBook};
-ghost use Rattle.image.specs.Calls.{writeCall};
-ghost use Rattle.image.specs.Calls.{resultOf};
+ghost use Rattle.image.specs.Calls.{resultOf, writeCall};
 ghost use Rattle.book_in.specs.FromBook.{fromCall};
 
 // Writes the image of the list that a book says.

@@ -11,12 +11,11 @@ use Rattle.answers.specs.declared.image.Answer.the-variants.{Number, Refused}
 use Rattle.lists.specs.Lists.{pick, splice}
 use Rattle.lists.proofs.Tests.{right}
 use Rattle.tree_lowest.specs.Code.Narrow.{within}
-use Rattle.image.specs.Calls.{put, unwritten}
+use Rattle.image.specs.Calls.{put, resultOf, unwritten}
 use Rattle.image.specs.Check.{accepted, check}
 use Rattle.image.specs.Read.{listOf}
 use Rattle.image.proofs.CallLaws.{put-refused}
 use Rattle.image.proofs.CheckLaws.{check-holds}
-use Rattle.image.specs.Calls.{resultOf}
 use Rattle.image_put.proofs.Writing.{splice-front}
 use Rattle.book.specs.Book.{bookOf, fourDigits}
 use Rattle.book.proofs.BookLaws.{length-book}

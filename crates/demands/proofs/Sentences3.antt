@@ -11,7 +11,6 @@ use borrow.Author.Tests.{le-ltb}
 use Rattle.lists.specs.Lists.{concat, occurrences, pick, sum, tabulate}
 use Rattle.bits.specs.Numbers.{numberAt}
 use Rattle.reserve.specs.Reserve.{ceil, reserve}
-use Rattle.store.specs.Limits.{maxTotal, pageHours}
 use Rattle.store.specs.Fitting.{Fitting}
 use Rattle.store.specs.Call.{call, freshCall, storeAnswers, storeEnd}
 use Rattle.store.specs.PageCode.{cells}
@@ -117,21 +116,21 @@ module _ (b : List ℕ) (P C : ℕ) (h : Fitting b P C) (cs : List Call) where
       rw (last-answer cs c (freshCall b P C .bytes)) at
       (demand-3 .calls b P C h (cs ++ c ∷ []) .when-12 (length cs) (omega (arith, length-append cs (c ∷ []))) ys (rw (getD-append-seam cs c [] Free, take-append-seam cs (c ∷ [])) w))
 
-  pub append-12 : (v : ℕ) → length X < pageHours * P → sum (X ++ v ∷ []) ≤ maxTotal
+  pub append-12 : (v : ℕ) → length X < 64 * P → sum (X ++ v ∷ []) ≤ 4294967295
       → (call (Append v) S .answer ≡ refused 12) ↔ (C < need (X ++ v ∷ []) P)
   append-12 v l t = twelve (Append v) (X ++ v ∷ []) (appends v (listAfter P C cs) (omega (arith, l, end-pages cs (plainFresh P C))) t)
 
-  pub set-12 : (i v : ℕ) → i < length X → sum (set X i v) ≤ maxTotal → (call (Set i v) S .answer ≡ refused 12) ↔ (C < need (set X i v) P)
+  pub set-12 : (i v : ℕ) → i < length X → sum (set X i v) ≤ 4294967295 → (call (Set i v) S .answer ≡ refused 12) ↔ (C < need (set X i v) P)
   set-12 i v l t = twelve (Set i v) (set X i v) (sets i v (listAfter P C cs) l t)
 
   -- document 02: '12 exactly if the new list needs more than C'
-  pub insert-12 : (i v : ℕ) → i ≤ length X → length X < pageHours * P → sum (inserted X i v) ≤ maxTotal
+  pub insert-12 : (i v : ℕ) → i ≤ length X → length X < 64 * P → sum (inserted X i v) ≤ 4294967295
       → (call (Insert i v) S .answer ≡ refused 12) ↔ (C < need (inserted X i v) P)
   insert-12 i v a l t =
       twelve (Insert i v) (inserted X i v) (inserts i v (listAfter P C cs) a (omega (arith, l, end-pages cs (plainFresh P C))) t)
 
-  total-fits : sum X ≤ maxTotal
-  total-fits = subst (λ (L : Plain). sum (L .counts) ≤ maxTotal) (D .list) (facts S (D .is-sound) .total-fits)
+  total-fits : sum X ≤ 4294967295
+  total-fits = subst (λ (L : Plain). sum (L .counts) ≤ 4294967295) (D .list) (facts S (D .is-sound) .total-fits)
 
   pub strike-12 : (i : ℕ) → i < length X → (call (Strike i) S .answer ≡ refused 12) ↔ (C < need (struck X i) P)
   strike-12 i l = twelve (Strike i) (struck X i) (strikes i (listAfter P C cs) l (omega (arith, total-fits, sum-struck X i)))

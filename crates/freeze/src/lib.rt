@@ -10,8 +10,7 @@ ghost use mathlib.Core.Bool.{true};
 ghost use mathlib.Core.Path.{_≡_};
 ghost use Rattle.store.specs.Reading.{listIn};
 ghost use Rattle.store.specs.Sound.{sound};
-ghost use Rattle.image.specs.Calls.{writeCall};
-ghost use Rattle.image.specs.Calls.{resultOf};
+ghost use Rattle.image.specs.Calls.{resultOf, writeCall};
 ghost use Rattle.freeze.specs.Freeze.{freezeCall};
 
 // Writes the image of a sound store's list.

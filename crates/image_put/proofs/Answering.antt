@@ -7,9 +7,8 @@ use lib.ListN.{length}
 use borrow.Author.Tests.{lt-leb}
 use Rattle.lists.specs.Lists.{pick, splice}
 use Rattle.answers.specs.Image.{told, Reply, given}
-use Rattle.image.specs.Calls.{lengthCall, put, putAfter, unwritten, writeCall}
+use Rattle.image.specs.Calls.{lengthCall, put, putAfter, resultOf, unwritten, writeCall}
 use Rattle.image.specs.Image.{Limits, image}
-use Rattle.image.specs.Calls.{resultOf}
 use Rattle.image_plan.specs.Code.Planning.{Laying, LayoutOf, Planned}
 use Rattle.image_put.specs.Code.Writing.{Room}
 use Rattle.image_plan.specs.declared.Layout.{Layout}

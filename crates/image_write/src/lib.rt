@@ -10,8 +10,7 @@ use image_plan::Planned;
 use image_plan::size;
 ghost use mathlib.Core.Path.{_≡_};
 ghost use Rattle.answers.specs.Image.{told};
-ghost use Rattle.image.specs.Calls.{lengthCall, writeCall};
-ghost use Rattle.image.specs.Calls.{resultOf};
+ghost use Rattle.image.specs.Calls.{lengthCall, resultOf, writeCall};
 
 // The length in bytes of the image of counts.
 pub fn length(counts: &[u32], e: u32) -> Answer

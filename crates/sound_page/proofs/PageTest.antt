@@ -21,12 +21,11 @@ use Rattle.bits.proofs.Little.{byte-take}
 use Rattle.reserve.specs.Reserve.{reserve}
 use Rattle.reserve.proofs.Fit.{most}
 use Rattle.tree.specs.Read.{counts, walk}
-use Rattle.tree.specs.Code.Exact.{clear, exact}
+use Rattle.tree.specs.Code.Exact.{clear, CodeOfCounts, exact}
 use Rattle.tree.specs.Tree.{tree}
 use Rattle.tree.specs.Code.Node.{Lies}
 use Rattle.tree_walk.specs.Code.Answers.{walkAnswer}
 use Rattle.tree.proofs.Clearing.{clear-none}
-use Rattle.tree.specs.Code.Exact.{CodeOfCounts}
 use Rattle.tree.proofs.Exacts.{exact-coded, exact-zero, tree-exact}
 use Rattle.tree.proofs.Shape.{counts-tree, length-counts, length-tree}
 use Rattle.tree.proofs.WalkLaws.{walk-tree}

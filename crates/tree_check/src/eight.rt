@@ -1,4 +1,4 @@
-// The lowest three levels, out of one load.
+// The lowest three levels, out of one load: in place of one for the root and one for each four.
 use bits_field::front;
 use reserve::digits_of;
 use reserve_table::reserve_by;

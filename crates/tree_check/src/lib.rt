@@ -28,8 +28,9 @@ pub fn left_sum(b: &[u8], at: usize, h: u32, s: u64, t: u32) -> u64
 }
 
 // Whether the node of height h at bit at, which has sum s and owns r bits, and all below it are some list's code. Each node's reserve is
-// worked out once, by the node above it, from the table of small reserves that is lent. Two counts always come out of one load, so the
-// recursion ends above h = 0. The right half comes last, so that the compiler makes its call a jump.
+// worked out once, by the node above it, from the table of small reserves that is lent. It ends at eight counts or at four, where one load has
+// their bits; two counts always come out of one load, so that it ends above h = 0. The right half comes last, so that the compiler makes its
+// call a jump.
 fn check_node(b: &&[u8], table: &[u8; 512], at: usize, h: u32, s: u64, r: usize) -> bool
     requires { ⌜ Lies (now (now b)) at h s × Tabled (now table) × (r ≡ reserved h s) × (1 ≤ h) ⌝ }
     ensures { λ q. ⌜ q ≡ exact h s (bits (now (now (b .entry)))) at ⌝ }

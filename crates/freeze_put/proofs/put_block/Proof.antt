@@ -3,7 +3,7 @@ use mathlib.Core.Path.{refl, sym, ap, _∙_}
 use Prim.Native.Nat.{min}
 use native.Mathlib.Nat.{mul-le-mul-left, mul-le-mul-right}
 use Rattle.image.proofs.PageLaws as L
-use Rattle.image_put.specs.Code.Writing.{Handed}
+use Rattle.image_put.specs.Code.Writing.{Handed, Laid}
 use Rattle.image_put.specs.declared.Place.{Place}
 use Rattle.freeze_put.proofs.Blocks.{In, Sizes, blocks-few, counts-in, first-in, inside, sizes}
 use borrow.Author.Needs.{needs}
@@ -13,7 +13,6 @@ use Prim.Native.Nat.{ℕ, _+_, _-_, _*_, _≤_, _<_}
 use native.Mathlib.Omega.{arith}
 use lib.ListN.{length}
 use Rattle.store.specs.Reading.{listIn}
-use Rattle.image_put.specs.Code.Writing.{Laid}
 use Rattle.freeze_put.proofs.put_block.Statement.{statement}
 use Rattle.freeze_put.proofs.put_block.Tie as tie
 

@@ -6,8 +6,7 @@ use lib.ListN.{getD}
 use borrow.Author.Needs.{needs}
 use Rattle.reserve.specs.Reserve.{reserve}
 use Rattle.reserve.proofs.Exact.{digits-le}
-use Rattle.tree.proofs.OneWord.{four-fits, eight-fits}
-use Rattle.tree.proofs.OneWord.{few-digits}
+use Rattle.tree.proofs.OneWord.{eight-fits, few-digits, four-fits}
 use Rattle.tree_word.proofs.WordHalves.{Top, short, left-le, left-exact, right-exact, word-written}
 use Rattle.tree_word.proofs.eight.Statement.{statement}
 use Rattle.tree_word.proofs.eight.Tie as tie
