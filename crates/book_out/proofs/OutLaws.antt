@@ -105,6 +105,10 @@ module _ {s : List ℕ} {h : Head} {m : ℕ} (z : Sizes s h m) (p : ℕ) (c d : 
   long-page : length (page (eOf s) xs p) ≡ m
   long-page = length-page (eOf s) xs p ∙ sym (z .size-is)
 
+  -- the array is as long as it was
+  pub read-long : length c ≡ 256 → length d ≡ 256
+  read-long l = ap length e ∙ length-splice c 0 (page (eOf s) xs p) (omega (arith, long-page, z .size-most)) ∙ l
+
   pub read-four : (k : ℕ) → k ≤ m → fourDigits xs ≡ true → fourDigits (take k d) ≡ true
   read-four k l f =
       ap fourDigits (read-take c d (page (eOf s) xs p) k e (omega (arith, long-page))) ∙ four-page (eOf s) p k xs f

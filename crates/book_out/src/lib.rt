@@ -30,7 +30,8 @@ fn write_book(s: &[u8], h: Head, book: &mut [u8]) -> Answer
     if (book.len() as u64) < n {
         return Answer::Refused(refusal::BUFFER);
     }
-    put_book(s, h, book);
+    let table = sum_table::sums();
+    put_book(s, &table, h, book);
     Answer::Number(n)
 }
 

@@ -8,13 +8,14 @@ ghost use Prim.Native.Nat.{_*_, _≤_};
 ghost use lib.ListN.{length};
 ghost use Rattle.lists.specs.Lists.{splice};
 ghost use Rattle.book.specs.Book.{bookOf, fourDigits};
+ghost use Rattle.sum_table.specs.Code.Sums.{Sums};
 ghost use Rattle.image.specs.Check.{accepted};
 ghost use Rattle.image.specs.Code.Head.{HeadOf};
 ghost use Rattle.image.specs.Read.{listOf, nOf};
 
 // Page by page, the last up to hour N.
-pub(crate) fn put_book(s: &[u8], h: Head, book: &mut [u8])
-    requires { ⌜ (accepted (now s) ≡ true) × HeadOf (now s) h × (fourDigits (listOf (now s)) ≡ true) × (2 * nOf (now s) ≤ length (now book)) ⌝ }
+pub(crate) fn put_book(s: &[u8], table: &[u8; 704], h: Head, book: &mut [u8])
+    requires { ⌜ (accepted (now s) ≡ true) × HeadOf (now s) h × (fourDigits (listOf (now s)) ≡ true) × (2 * nOf (now s) ≤ length (now book)) × Sums (now table) ⌝ }
     ensures { λ _. ⌜ now (book .exit) ≡ splice (now (book .entry)) 0 (bookOf (listOf (now (s .entry)))) ⌝ }
 {
     let m = reserve::power(h.e) as usize;
@@ -23,7 +24,7 @@ pub(crate) fn put_book(s: &[u8], h: Head, book: &mut [u8])
     let mut counts = [0u32; 256];
     let mut p = 0;
     while p < pages {
-        page_counts(s, h, p, &mut counts);
+        page_counts(s, table, h, p, &mut counts);
         let from = m * p;
         let some = lists::smaller(m, n - from);
         put_hours(book, from, &counts, some);

@@ -5,9 +5,10 @@ use mathlib.Core.List.{List}
 use Prim.Native.Nat.{ℕ, _+_, _-_, _*_, _^_, _≤_, _<_}
 use native.Mathlib.Nat.{mul-le-mul-left, mul-le-mul-right}
 use native.Mathlib.Omega.{arith}
-use lib.ListN.{length}
+use lib.ListN.{getD, length}
 use lib.Pow.{pow-add, pow-mono, pow-pos}
 use Rattle.lists.specs.Lists.{window}
+use Rattle.lists.proofs.Tables.{length-tabulate}
 use Rattle.image.specs.Image.{page, pages}
 use Rattle.image.proofs.PageLaws.{pages-tight}
 use Rattle.store.specs.Reading.{listIn, pagesOf}
@@ -45,6 +46,10 @@ in-alg m w b q h lo hi =
 pub inside : {m w : ℕ} (b q : ℕ) → Sizes m w → w * b ≤ q → q < w * (b + 1) → In m b q
 inside {m} {w} b q s lo hi =
     in-alg m w b q (s .whole) (mul-le-mul-left m lo) (mul-le-mul-left m (let x : q + 1 ≤ w * (b + 1) = omega arith in x))
+
+pub window-long : (xs : List ℕ) (i n : ℕ) → length (window xs i n) ≡ n
+unfolding window
+window-long xs i n = length-tabulate n (λ (j : ℕ). getD xs (i + j) 0)
 
 -- its counts stand in the block's
 pub counts-in : (e m b q : ℕ) (xs cs : List ℕ) → m ≡ 2 ^ e → In m b q → cs ≡ window xs (64 * (4 * b)) 256

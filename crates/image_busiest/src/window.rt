@@ -10,6 +10,7 @@ use lists::smaller;
 ghost use mathlib.Core.Bool.{true};
 ghost use mathlib.Core.Path.{_≡_};
 ghost use Prim.Native.Nat.{_+_, _^_, _≤_, _<_};
+ghost use Rattle.sum_table.specs.Code.Sums.{Sums};
 ghost use Rattle.image.specs.Check.{accepted};
 ghost use Rattle.image.specs.Code.Head.{HeadOf};
 ghost use Rattle.image.specs.Read.{listOf};
@@ -82,14 +83,14 @@ fn first_sum(s: &[u8], h: Head, k: u64) -> u64
 }
 
 // The busiest window of k hours.
-pub(crate) fn best_window(s: &[u8], h: Head, k: u64) -> Window
-    requires { ⌜ (accepted (now s) ≡ true) × HeadOf (now s) h × (1 ≤ k) × (k ≤ h .hours) ⌝ }
+pub(crate) fn best_window(s: &[u8], table: &[u8; 704], h: Head, k: u64) -> Window
+    requires { ⌜ (accepted (now s) ≡ true) × HeadOf (now s) h × (1 ≤ k) × (k ≤ h .hours) × Sums (now table) ⌝ }
     ensures { λ r. ⌜ Busiest (listOf (now (s .entry))) k (r .best) (r .most) ⌝ }
 {
     let mut front = [0u32; 256];
     let mut back = [0u32; 256];
-    read_page(s, h, k, &mut front);
-    read_page(s, h, 0, &mut back);
+    read_page(s, table, h, k, &mut front);
+    read_page(s, table, h, 0, &mut back);
     let sum = first_sum(s, h, k);
     let mut at = Window {
         first: 0,
@@ -102,8 +103,8 @@ pub(crate) fn best_window(s: &[u8], h: Head, k: u64) -> Window
         let next = slide(s, h, k, at, n, &front, &back);
         let end = at.first + k;
         // Before the front's turn: where k is no more than a page, the back's next page is the front's.
-        follow(s, h, at.first, n as u64, &mut back, &front, end);
-        turn(s, h, end, n as u64, &mut front);
+        follow(s, table, h, at.first, n as u64, &mut back, &front, end);
+        turn(s, table, h, end, n as u64, &mut front);
         at = next;
     }
     at

@@ -80,15 +80,6 @@ stays s i n c f l h r = record {
   page-is = λ g. r .page-is h ∙ ap (page (eOf s) (listOf s)) (same-page (eOf s) i n f l);
 }
 
--- one count more copied out of another array
-pub copied-next : (c d : List ℕ) (i : ℕ) → i < length c → i < length d → take i c ≡ take i d → take (i + 1) (set c i (getD d i 0)) ≡ take (i + 1) d
-copied-next c d i l k e =
-    let x : ℕ = getD d i 0 in
-    rw add-one
-    (take-suc (set c i x) i 0 (omega (arith, length-set c i x, l))
-    ∙ ap₂ (λ (p : List ℕ) (y : ℕ). p ++ y ∷ []) (take-set-le i c i x (omega arith) ∙ e) (getD-set-same c i x 0 l)
-    ∙ sym (take-suc d i 0 k))
-
 above : (k : ℕ) → (k ≡ 0 → ⊥) → 1 ≤ k
 above k n = omega arith
 

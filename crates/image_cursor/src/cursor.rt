@@ -1,4 +1,4 @@
-// An accepted image read along its hours, page by page, with one page of counts in a lent array.
+// An accepted image read along its hours, page by page, with one page of counts in a lent array. The table of small sums is lent, too.
 use bits_word::low_bits;
 use image::head::Head;
 use image_page::page_counts;
@@ -8,6 +8,7 @@ ghost use mathlib.Core.Bool.{true};
 ghost use mathlib.Core.Path.{_≡_};
 ghost use Prim.Native.Nat.{_+_, _%_, _^_, _≤_, _<_};
 ghost use lib.ListN.{length, take};
+ghost use Rattle.sum_table.specs.Code.Sums.{Sums};
 ghost use Rattle.image.specs.Check.{accepted};
 ghost use Rattle.image.specs.Code.Head.{HeadOf};
 ghost use Rattle.image_cursor.specs.Code.Cursor.{Ahead, Ready};
@@ -29,33 +30,33 @@ pub fn ahead(h: Head, i: u64) -> usize
 }
 
 // Reads the page of hour i of the image s, whose header is h, if this hour is logged.
-pub fn read_page(s: &[u8], h: Head, i: u64, counts: &mut [u32])
-    requires { ⌜ (accepted (now s) ≡ true) × HeadOf (now s) h × (length (now counts) ≡ 256) ⌝ }
+pub fn read_page(s: &[u8], table: &[u8; 704], h: Head, i: u64, counts: &mut [u32; 256])
+    requires { ⌜ (accepted (now s) ≡ true) × HeadOf (now s) h × (length (now counts) ≡ 256) × Sums (now table) ⌝ }
     ensures { λ _. ⌜ Ready (now (s .entry)) i (now (counts .exit)) ⌝ }
 {
     if h.hours <= i {
         return;
     }
-    page_counts(s, h, (i >> h.e) as usize, counts);
+    page_counts(s, table, h, (i >> h.e) as usize, counts);
 }
 
 // From hour i, whose page is in counts, n hours on: no further than to the first hour of the next page, which is then read.
-pub fn turn(s: &[u8], h: Head, i: u64, n: u64, counts: &mut [u32])
+pub fn turn(s: &[u8], table: &[u8; 704], h: Head, i: u64, n: u64, counts: &mut [u32; 256])
     requires { ⌜ (accepted (now s) ≡ true) × HeadOf (now s) h × Ready (now s) i (now counts) ⌝ }
-    requires { ⌜ (i ≤ h .hours) × (i % 2 ^ h .e + n ≤ 2 ^ h .e) ⌝ }
+    requires { ⌜ (i ≤ h .hours) × (i % 2 ^ h .e + n ≤ 2 ^ h .e) × Sums (now table) ⌝ }
     ensures { λ _. ⌜ Ready (now (s .entry)) (i + n) (now (counts .exit)) ⌝ }
 {
     let next = i + n;
     if low_bits(next, h.e) != 0 {
         return;
     }
-    read_page(s, h, next, counts);
+    read_page(s, table, h, next, counts);
 }
 
 // Copies the first m counts of lead.
-fn copy_page(m: usize, lead: &[u32], counts: &mut [u32])
+fn copy_page(m: usize, lead: &[u32], counts: &mut [u32; 256])
     requires { ⌜ (m ≤ 256) × (length (now lead) ≡ 256) × (length (now counts) ≡ 256) ⌝ }
-    ensures { λ _. ⌜ take m (now (counts .exit)) ≡ take m (now (lead .entry)) ⌝ }
+    ensures { λ _. ⌜ (length (now (counts .exit)) ≡ 256) × (take m (now (counts .exit)) ≡ take m (now (lead .entry))) ⌝ }
 {
     let mut i = 0;
     while i < m {
@@ -65,14 +66,23 @@ fn copy_page(m: usize, lead: &[u32], counts: &mut [u32])
 }
 
 // As turn, behind a cursor that has the page of hour j in lead: where it is the next page, it is copied, and not read again.
-pub fn follow(s: &[u8], h: Head, i: u64, n: u64, counts: &mut [u32], lead: &[u32], j: u64)
+pub fn follow(
+    s: &[u8],
+    table: &[u8; 704],
+    h: Head,
+    i: u64,
+    n: u64,
+    counts: &mut [u32; 256],
+    lead: &[u32],
+    j: u64,
+)
     requires { ⌜ (accepted (now s) ≡ true) × HeadOf (now s) h × Ready (now s) i (now counts) × Ready (now s) j (now lead) ⌝ }
-    requires { ⌜ (i ≤ h .hours) × (i % 2 ^ h .e + n ≤ 2 ^ h .e) × (j < h .hours) ⌝ }
+    requires { ⌜ (i ≤ h .hours) × (i % 2 ^ h .e + n ≤ 2 ^ h .e) × (j < h .hours) × Sums (now table) ⌝ }
     ensures { λ _. ⌜ Ready (now (s .entry)) (i + n) (now (counts .exit)) ⌝ }
 {
     if i + n + low_bits(j, h.e) == j {
         copy_page(power(h.e) as usize, lead, counts);
         return;
     }
-    turn(s, h, i, n, counts);
+    turn(s, table, h, i, n, counts);
 }

@@ -24,7 +24,8 @@ fn among(s: &[u8], h: Head, q: u64) -> Bag
     if h.total < q {
         return Bag::None;
     }
-    find(s, h, q)
+    let table = sum_table::sums();
+    find(s, &table, h, q)
 }
 
 // A run of successive hours with sum exactly q: the earliest first hour, then the fewest hours; or none.

@@ -9,6 +9,7 @@ ghost use mathlib.Core.Path.{_≡_};
 ghost use Prim.Native.Nat.{_≤_, _<_};
 ghost use lib.ListN.{length};
 ghost use Rattle.lists.specs.Lists.{splice};
+ghost use Rattle.sum_table.specs.Code.Sums.{Sums};
 ghost use Rattle.image.specs.Check.{accepted};
 ghost use Rattle.image.specs.Code.Head.{HeadOf};
 ghost use Rattle.image.specs.Image.{page, root};
@@ -50,14 +51,14 @@ pub fn page_root(s: &[u8], h: Head, p: usize) -> u64
 }
 
 // Puts the 2^e counts of page p of the image s, whose header is h, at the front of counts, zeros from hour N on among them. What stands
-// in counts behind them is left as it is.
-pub fn page_counts(s: &[u8], h: Head, p: usize, counts: &mut [u32])
-    requires { ⌜ (accepted (now s) ≡ true) × HeadOf (now s) h × (p < pagesOf (now s)) × (256 ≤ length (now counts)) ⌝ }
+// in counts behind them is left as it is. The table of small sums is lent.
+pub fn page_counts(s: &[u8], table: &[u8; 704], h: Head, p: usize, counts: &mut [u32; 256])
+    requires { ⌜ (accepted (now s) ≡ true) × HeadOf (now s) h × (p < pagesOf (now s)) × (length (now counts) ≡ 256) × Sums (now table) ⌝ }
     ensures { λ _. ⌜ now (counts .exit) ≡ splice (now (counts .entry)) 0 (page (eOf (now (s .entry))) (listOf (now (s .entry))) p) ⌝ }
 {
     let w = reserve::digits_of(h.total);
     let root = known_root(s, h, w, p);
     let before = known_before(s, h, w, p);
     let tree = h.code + start_of(s, h, p) + (w as usize);
-    decode(s, tree, h.e, root - before, counts, 0);
+    decode(s, table, tree, h.e, root - before, counts, 0);
 }

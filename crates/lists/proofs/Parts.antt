@@ -6,8 +6,8 @@ use native.Mathlib.Nat.{add-zero, add-assoc}
 use native.Mathlib.Numerals.{add-one}
 use native.Mathlib.Omega.{arith}
 use native.Mathlib.Decide.{decLe}
-use lib.ListN.{length, getD, take, drop, set, length-append, length-take, length-drop, take-append-drop}
-use lib.Seq.{take-add, take-all, take-at, take-suc, drop-at, take-take, drop-drop, getD-drop, length-take-le, drop-append-add, sets, sets-eq}
+use lib.ListN.{length, getD, take, drop, set, length-append, length-set, length-take, length-drop, take-append-drop}
+use lib.Seq.{take-add, take-all, take-at, take-set-le, take-suc, drop-at, take-take, drop-drop, getD-drop, getD-set-same, length-take-le, drop-append-add, sets, sets-eq}
 use Rattle.lists.specs.Lists.{part, splice}
 
 pub length-part : (s : List ℕ) (a n : ℕ) → a + n ≤ length s → length (part s a n) ≡ n
@@ -142,3 +142,13 @@ pub length-splice : (s : List ℕ) (a : ℕ) (v : List ℕ) → a + length v ≤
 unfolding splice
 length-splice s a v h =
     omega (arith, length-append (take a s) (v ++ drop (a + length v) s), length-append v (drop (a + length v) s), length-take a s, length-drop (a + length v) s)
+
+-- ---- an array copied
+-- one number more
+pub copied-next : (c d : List ℕ) (i : ℕ) → i < length c → i < length d → take i c ≡ take i d → take (i + 1) (set c i (getD d i 0)) ≡ take (i + 1) d
+copied-next c d i l k e =
+    let x : ℕ = getD d i 0 in
+    rw add-one
+    (take-suc (set c i x) i 0 (omega (arith, length-set c i x, l))
+    ∙ ap₂ (λ (p : List ℕ) (y : ℕ). p ++ y ∷ []) (take-set-le i c i x (omega arith) ∙ e) (getD-set-same c i x 0 l)
+    ∙ sym (take-suc d i 0 k))

@@ -9,6 +9,7 @@ ghost use mathlib.Core.Path.{_≡_};
 ghost use Prim.Native.Nat.{_%_, _^_, _<_};
 ghost use lib.ListN.{length};
 ghost use Rattle.lists.specs.Lists.{reading};
+ghost use Rattle.sum_table.specs.Code.Sums.{Sums};
 ghost use Rattle.image.specs.Check.{accepted};
 ghost use Rattle.image.specs.Code.Head.{HeadOf};
 ghost use Rattle.image.specs.Read.{listOf};
@@ -44,11 +45,18 @@ pub fn front_page(s: &[u8], h: Head, first: u64, before: u64) -> FrontPage
 }
 
 // Reads the page's counts, and marks their sums.
-pub fn mark_page(s: &[u8], h: Head, page: FrontPage, counts: &mut [u32], marks: &mut [u8])
+pub fn mark_page(
+    s: &[u8],
+    table: &[u8; 704],
+    h: Head,
+    page: FrontPage,
+    counts: &mut [u32; 256],
+    marks: &mut [u8],
+)
     requires { ⌜ (accepted (now s) ≡ true) × HeadOf (now s) h × FrontPageOf (now s) h page ⌝ }
-    requires { ⌜ (length (now counts) ≡ 256) × (length (now marks) ≡ marksLength) ⌝ }
-    ensures { λ _. ⌜ InHand (listOf (now (s .entry))) page (now (counts .exit)) (now (marks .exit)) ⌝ }
+    requires { ⌜ (length (now counts) ≡ 256) × (length (now marks) ≡ marksLength) × Sums (now table) ⌝ }
+    ensures { λ _. ⌜ InHand (listOf (now (s .entry))) page (now (counts .exit)) (now (marks .exit)) × (length (now (counts .exit)) ≡ 256) ⌝ }
 {
-    read_page(s, h, page.first, counts);
+    read_page(s, table, h, page.first, counts);
     mark(counts, page.hours, page.stamp, marks);
 }

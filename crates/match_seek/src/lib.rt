@@ -15,6 +15,7 @@ ghost use mathlib.Core.Bool.{true};
 ghost use mathlib.Core.Path.{_≡_};
 ghost use Prim.Native.Nat.{_+_, _≤_};
 ghost use lib.ListN.{length};
+ghost use Rattle.sum_table.specs.Code.Sums.{Sums};
 ghost use Rattle.image.specs.Check.{accepted};
 ghost use Rattle.image.specs.Code.Head.{HeadOf};
 ghost use Rattle.image.specs.Read.{listOf};
@@ -67,17 +68,18 @@ fn pass(s: &[u8], h: Head, q: u64, page: FrontPage, at: Aim, marks: &[u8], back:
 // The search as far as the page at the front goes, whose counts are in front; back has the page of hour lo.
 fn seek(
     s: &[u8],
+    table: &[u8; 704],
     h: Head,
     q: u64,
     page: FrontPage,
     from: Aim,
     front: &[u32],
     marks: &[u8],
-    back: &mut [u32],
+    back: &mut [u32; 256],
 ) -> PageSearch
     requires { ⌜ (accepted (now s) ≡ true) × HeadOf (now s) h × (1 ≤ q) ⌝ }
     requires { ⌜ RunOf (listOf (now s)) page × InHand (listOf (now s)) page (now front) (now marks) ⌝ }
-    requires { ⌜ Seeks (listOf (now s)) q (page .first) from × Ready (now s) (from .lo) (now back) ⌝ }
+    requires { ⌜ Seeks (listOf (now s)) q (page .first) from × Ready (now s) (from .lo) (now back) × Sums (now table) ⌝ }
     ensures { λ r. ⌜ Brings (now (s .entry)) q page (now (back .exit)) r ⌝ }
 {
     let mut at = from;
@@ -88,7 +90,7 @@ fn seek(
             return PageSearch::Matched(at.lo, page.first + (there.hours as u64) - at.lo);
         }
         let next = pass(s, h, q, page, at, marks, back);
-        turn(s, h, at.lo, next.lo - at.lo, back);
+        turn(s, table, h, at.lo, next.lo - at.lo, back);
         at = next;
     }
     PageSearch::Beyond(at)
@@ -98,22 +100,23 @@ fn seek(
 // ends in it: that is known by its sum alone, and its counts need not be decoded.
 pub fn visit(
     s: &[u8],
+    table: &[u8; 704],
     h: Head,
     q: u64,
     page: FrontPage,
     at: Aim,
-    front: &mut [u32],
+    front: &mut [u32; 256],
     marks: &mut [u8],
-    back: &mut [u32],
+    back: &mut [u32; 256],
 ) -> PageSearch
     requires { ⌜ (accepted (now s) ≡ true) × HeadOf (now s) h × (1 ≤ q) × FrontPageOf (now s) h page ⌝ }
     requires { ⌜ (length (now front) ≡ 256) × (length (now marks) ≡ marksLength) ⌝ }
-    requires { ⌜ Seeks (listOf (now s)) q (page .first) at × Ready (now s) (at .lo) (now back) ⌝ }
-    ensures { λ r. ⌜ Brings (now (s .entry)) q page (now (back .exit)) r ⌝ }
+    requires { ⌜ Seeks (listOf (now s)) q (page .first) at × Ready (now s) (at .lo) (now back) × Sums (now table) ⌝ }
+    ensures { λ r. ⌜ Brings (now (s .entry)) q page (now (back .exit)) r × (length (now (front .exit)) ≡ 256) ⌝ }
 {
     if page.sum < at.want {
         return PageSearch::Beyond(at);
     }
-    mark_page(s, h, page, front, marks);
-    seek(s, h, q, page, at, front, marks, back)
+    mark_page(s, table, h, page, front, marks);
+    seek(s, table, h, q, page, at, front, marks, back)
 }

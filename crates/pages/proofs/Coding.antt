@@ -4,7 +4,7 @@ use mathlib.Core.Bool.{true}
 use mathlib.Core.List.{List, _++_, append-assoc, append-nil}
 use Prim.Native.Nat.{ℕ, _+_, _-_, _*_, _≤_, _<_}
 use native.Mathlib.Omega.{arith}
-use lib.ListN.{length, getD, take, replicate}
+use lib.ListN.{length, getD, take, drop, replicate}
 use lib.Seq.{ext-getD, take-at}
 use Rattle.lists.specs.Lists.{fill, part, splice, sum, tabulate, window}
 use Rattle.lists.proofs.Tables.{getD-tabulate, length-tabulate}
@@ -73,8 +73,9 @@ module _ (code xs z : List ℕ) (s : ℕ) (l : length xs ≡ 64) (es : s ≡ sum
   pub code-exact : exact 6 s (bits code) 0 ≡ true
   code-exact = rw es (tree-exact 6 xs (bits code) 0 (tree-at code xs z e))
 
-  pub decoded : (r : List ℕ) → r ≡ splice (replicate 64 0) 0 (counts 6 s (bits code) 0) → r ≡ xs
-  unfolding fill
-  decoded r h =
+  -- decoded into an array, of which they are the first
+  pub decoded : (o d r : List ℕ) → d ≡ splice o 0 (counts 6 s (bits code) 0) → r ≡ take 64 d → r ≡ xs
+  unfolding splice
+  decoded o d r h q =
       let c : counts 6 s (bits code) 0 ≡ xs = rw es (counts-tree 6 xs (bits code) 0 l (tree-at code xs z e)) in
-      h ∙ splice-zeros 64 (counts 6 s (bits code) 0) ∙ ap (fill 64) c ∙ ap (λ (k : ℕ). xs ++ replicate (64 - k) 0) l ∙ append-nil xs
+      q ∙ ap (take 64) (h ∙ ap (splice o 0) c) ∙ take-at xs (drop (0 + length xs) o) 64 l

@@ -1,29 +1,19 @@
 // A table of small reserves, R(2^h, s) for h to 7 and s to 63: for code that works out many of them, as the check of a whole image does.
-// And its row of four counts by itself, for code that needs no other.
 mod entries;
-mod row;
 
 use entries::RESERVES;
 use reserve::digits_of;
 use reserve::power;
-use row::FOURS;
 ghost use mathlib.Core.Path.{_≡_};
 ghost use Prim.Native.Nat.{_≤_, _<_};
 ghost use Rattle.reserve.specs.Reserve.{reserve};
-ghost use Rattle.reserve_table.specs.Code.Tabled.{Tabled, Fours};
+ghost use Rattle.reserve_table.specs.Code.Tabled.{Tabled};
 
 // The table. The compiler builds it on the caller's stack at each call: whoever needs it many times makes it once and lends it.
 pub fn table() -> [u8; 512]
     ensures { λ r. ⌜ Tabled r ⌝ }
 {
     RESERVES
-}
-
-// The row of four counts, built likewise: a few moves, where the table is many.
-pub fn fours() -> [u8; 64]
-    ensures { λ r. ⌜ Fours r ⌝ }
-{
-    FOURS
 }
 
 // A byte as a number.

@@ -10,10 +10,10 @@ use Rattle.bits.proofs.Laws.{length-field}
 use Rattle.reserve.specs.Reserve.{digits, reserve}
 use Rattle.reserve.proofs.Exact.{digits-is}
 use Rattle.reserve.proofs.Fit.{fit-all, one-count}
-use Rattle.lists.specs.Lists.{sum, part, fill}
+use Rattle.lists.specs.Lists.{sum, part, fill, splice}
 use Rattle.tree.specs.Tree.{tree}
 use Rattle.tree.specs.Read.{leftOf, leftAt, rightAt, counts}
-use Rattle.lists.proofs.Parts.{piece}
+use Rattle.lists.proofs.Parts.{length-splice, piece}
 use Rattle.lists.proofs.Sums.{sum-halves}
 use Rattle.bits.proofs.Packing.{Bits, bits-join, bits-field, bits-fill, length-fill, value-field}
 
@@ -125,6 +125,11 @@ length-counts (suc h) s b a =
     let l : ℕ = leftOf s b a in
     length-append (counts h l b (leftAt s a)) (counts h (s - l) b (rightAt h s l a))
     ∙ omega (arith, length-counts h l b (leftAt s a), length-counts h (s - l) b (rightAt h s l a), pow-succ' 2 h)
+
+-- an array that they are put into is as long as it was
+pub still-long : (h s : ℕ) (b : List ℕ) (a : ℕ) (o r : List ℕ) (i n : ℕ) → length o ≡ n → i + 2 ^ h ≤ n → r ≡ splice o i (counts h s b a)
+    → length r ≡ n
+still-long h s b a o r i n e fits f = ap length f ∙ length-splice o i (counts h s b a) (omega (arith, length-counts h s b a)) ∙ e
 
 -- what is read is what was written
 pub counts-tree : (h : ℕ) (xs b : List ℕ) (a : ℕ) → length xs ≡ 2 ^ h → part b a (reserve h (sum xs)) ≡ tree h xs → counts h (sum xs) b a ≡ xs

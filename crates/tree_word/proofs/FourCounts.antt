@@ -18,6 +18,7 @@ use Rattle.tree.specs.Read.{leftOf, leftAt, rightAt, counts}
 use Rattle.tree.specs.Code.Exact.{exact}
 use Rattle.tree.proofs.OneWord.{fewer-digits}
 use Rattle.tree.proofs.TwoCounts.{reserve-pair}
+use Rattle.tree_word.specs.Code.Fields.{LeftRead, Fields}
 use Rattle.tree_word.proofs.Decoding.{BothExact, both-exact}
 use Rattle.tree_word.proofs.WordBits.{left-at}
 
@@ -40,14 +41,7 @@ put-four l i c d e f h = rw (one, two, three) (sets-splice (c ∷ d ∷ e ∷ f 
     three : i + 3 ≡ suc (suc (suc i))
     three = omega arith
 
--- as the code works them out: t, f and g are the digits of s, l and s - l
-pub record Read (s w t l : ℕ) : Type 0 where
-  pub code : exact 2 s (field 64 w) 0 ≡ true
-  pub few : digits s ≤ 19
-  pub top : t ≡ digits s
-  pub left : l ≡ w / 2 ^ (64 - (0 + t)) % 2 ^ t
-
-module _ {s w t l : ℕ} (q : Read s w t l) where
+module _ {w s t l : ℕ} (q : LeftRead w s t l) where
   left-is : leftOf s (field 64 w) 0 ≡ l
   left-is = left-at s w 0 0 t l refl (q .top) (omega (arith, q .top, q .few)) (q .left)
 
@@ -64,22 +58,32 @@ module _ {s w t l : ℕ} (q : Read s w t l) where
   pub small : s < 4294967296
   small = lt-of-lt-of-le (digits-is s .0) (pow-mono {i = digits s} {j = 32} (omega (arith, q .few)))
 
-  module _ (f g x y : ℕ) (ef : f ≡ digits l) (eg : g ≡ digits (s - l)) (ex : x ≡ w / 2 ^ (64 - (t + f)) % 2 ^ f)
-      (ey : y ≡ w / 2 ^ (64 - (t + f + g)) % 2 ^ g) where
+-- the pairs' fields x and y, behind the left sum
+module _ {w s t l f g : ℕ} (q : Fields w s t l f g) where
+  pub wide : (t ≤ 19) × (f ≤ 19) × (g ≤ 19)
+  wide = (
+    narrow (q .read) l f (left-le (q .read)) (q .first) .0,
+    narrow (q .read) l f (left-le (q .read)) (q .first) .1,
+    narrow (q .read) (s - l) g (omega arith) (q .second) .1,
+  )
+
+  module _ (x y : ℕ) (ex : x ≡ w / 2 ^ (64 - (t + f)) % 2 ^ f) (ey : y ≡ w / 2 ^ (64 - (t + f + g)) % 2 ^ g) where
     first-is : leftOf l (field 64 w) (leftAt s 0) ≡ x
-    first-is = left-at l w (leftAt s 0) t f x (omega (arith, q .top)) ef (omega (arith, narrow l f left-le ef)) ex
+    first-is = left-at l w (leftAt s 0) t f x (omega (arith, q .read .top)) (q .first) (omega (arith, wide)) ex
 
     third-is : leftOf (s - l) (field 64 w) (rightAt 1 s l 0) ≡ y
     third-is =
-        left-at (s - l) w (rightAt 1 s l 0) (t + f) g y (omega (arith, q .top, ef, reserve-pair l)) eg
-        (omega (arith, narrow l f left-le ef, narrow (s - l) g (omega arith) eg)) ey
+        left-at (s - l) w (rightAt 1 s l 0) (t + f) g y (omega (arith, q .read .top, q .first, reserve-pair l)) (q .second) (omega (arith, wide)) ey
 
     pub first-le : x ≤ l
-    first-le = leb-true x l (ap (λ (z : ℕ). leb z l) (sym first-is) ∙ both-exact 0 l (field 64 w) (leftAt s 0) (both .left) .le)
+    first-le = leb-true x l (ap (λ (z : ℕ). leb z l) (sym first-is) ∙ both-exact 0 l (field 64 w) (leftAt s 0) (both (q .read) .left) .le)
 
     pub third-le : y ≤ s - l
-    third-le = leb-true y (s - l) (ap (λ (z : ℕ). leb z (s - l)) (sym third-is) ∙ both-exact 0 (s - l) (field 64 w) (rightAt 1 s l 0) (both .right) .le)
+    third-le =
+        leb-true y (s - l)
+        (ap (λ (z : ℕ). leb z (s - l)) (sym third-is) ∙ both-exact 0 (s - l) (field 64 w) (rightAt 1 s l 0) (both (q .read) .right) .le)
 
     pub four-written : (o : List ℕ) (i : ℕ) → i + 4 ≤ length o
         → set (set (set (set o i x) (i + 1) (l - x)) (i + 2) y) (i + 3) (s - l - y) ≡ splice o i (counts 2 s (field 64 w) 0)
-    four-written o i h = put-four o i x (l - x) y (s - l - y) h ∙ ap (splice o i) (sym (counts-four s l x y (field 64 w) 0 left-is first-is third-is))
+    four-written o i h =
+        put-four o i x (l - x) y (s - l - y) h ∙ ap (splice o i) (sym (counts-four s l x y (field 64 w) 0 (left-is (q .read)) first-is third-is))

@@ -1,2 +1,3 @@
 -- What one function hands the next, by the file that has it.
 pub mod FitsWord
+pub mod Fields

@@ -1,26 +1,31 @@
 // A tree of 16 counts or more whose bits one word has.
 use crate::sixteen;
+use crate::zeros;
 use bits_field::front;
-use reserve::digits_of;
 use reserve::power;
-use reserve::reserve_of;
+use sum_table::digits_in;
+use sum_table::reserve_in;
 ghost use mathlib.Core.Bool.{true};
 ghost use mathlib.Core.Path.{_≡_};
 ghost use Prim.Native.Nat.{_+_, _≤_, _^_};
-ghost use lib.ListN.{length, replicate};
-ghost use Rattle.lists.specs.Lists.{part, splice};
+ghost use lib.ListN.{length};
+ghost use Rattle.lists.specs.Lists.{splice};
 ghost use Rattle.bits.specs.Bits.{field};
-ghost use Rattle.reserve_table.specs.Code.Tabled.{Fours};
+ghost use Rattle.sum_table.specs.Code.Sums.{Sums};
 ghost use Rattle.tree.specs.Read.{counts};
 ghost use Rattle.tree.specs.Code.Exact.{exact};
 ghost use Rattle.tree_word.specs.Code.FitsWord.{FitsWord};
 
-// Whether a tree of 2^h counts with sum s is one of 16, 32 or 64 that own 57 bits at most. A sum one higher owns more.
+// Whether a tree of 2^h counts with sum s is one of 16, 32 or 64 that own 57 bits at most. A sum one higher owns more. Most sums are told by the
+// first test.
 pub fn fits(h: u32, s: u64) -> bool
     ensures { λ r. ⌜ (r ≡ true → FitsWord h s) ⌝ }
 {
+    if 37 <= s {
+        return false;
+    }
     if h == 4 {
-        return s < 37;
+        return true;
     }
     if h == 5 {
         return s < 17;
@@ -28,25 +33,30 @@ pub fn fits(h: u32, s: u64) -> bool
     h == 6 && s < 13
 }
 
-// All 2^h counts with sum s, into zeros. A recursion in which h falls to 4 and which calls no empty half.
-pub fn decode_word(w: u64, row: &[u8; 64], h: u32, s: u64, out: &mut [u32], from: usize)
-    requires { ⌜ Fours (now row) × FitsWord h s × (exact h s (field 64 w) 0 ≡ true) ⌝ }
-    requires { ⌜ (from + 2 ^ h ≤ length (now out)) × (part (now out) from (2 ^ h) ≡ replicate (2 ^ h) 0) ⌝ }
+// All 2^h counts with sum s. A recursion in which h falls to 4, or which ends at a sum of 0.
+pub fn decode_word(w: u64, table: &[u8; 704], h: u32, s: u64, out: &mut [u32; 256], from: usize)
+    requires { ⌜ Sums (now table) × FitsWord h s × (exact h s (field 64 w) 0 ≡ true) × (length (now out) ≡ 256) × (from + 2 ^ h ≤ 256) ⌝ }
     ensures { λ _. ⌜ now (out .exit) ≡ splice (now (out .entry)) from (counts h s (field 64 w) 0) ⌝ }
 {
     if h == 4 {
-        sixteen(w, row, s, out, from);
+        sixteen(w, table, s, out, from);
+        return;
+    }
+    if s == 0 {
+        zeros(out, from, power(h) as usize);
         return;
     }
     let down = h - 1;
-    let t = digits_of(s);
+    let t = digits_in(table, s);
     let left = front::part(w, 0, t);
-    let right = s - left;
-    if left != 0 {
-        decode_word(w << t, row, down, left, out, from);
-    }
-    if right != 0 {
-        let k = t + reserve_of(down, left) as u32;
-        decode_word(w << k, row, down, right, out, from + power(down) as usize);
-    }
+    decode_word(w << t, table, down, left, out, from);
+    let k = t + reserve_in(table, down, left);
+    decode_word(
+        w << k,
+        table,
+        down,
+        s - left,
+        out,
+        from + power(down) as usize,
+    );
 }

@@ -5,7 +5,7 @@ use native.Mathlib.Nat.{mul-le-mul-left, mul-le-mul-right}
 use Rattle.image.proofs.PageLaws as L
 use Rattle.image_put.specs.Code.Writing.{Handed, Laid}
 use Rattle.image_put.specs.declared.Place.{Place}
-use Rattle.freeze_put.proofs.Blocks.{In, Sizes, blocks-few, counts-in, first-in, inside, sizes}
+use Rattle.freeze_put.proofs.Blocks.{In, Sizes, blocks-few, counts-in, first-in, inside, sizes, window-long}
 use borrow.Author.Needs.{needs}
 use mathlib.Core.List.{List}
 use mathlib.Core.Path.{_≡_}
@@ -73,9 +73,6 @@ smaller-requires c κs = search needs
 mul-unpack : tie.Need-mul-unpack Inv-loop μ-loop
 mul-unpack c = omega (arith, few (c .before))
 
-slice-aggregate-unpack : tie.Need-slice-aggregate-unpack Inv-loop μ-loop
-slice-aggregate-unpack c = refl
-
 unpack-requires : tie.Need-unpack-requires Inv-loop μ-loop
 unpack-requires c κs =
     let n = c .before .before in
@@ -86,16 +83,16 @@ more-le b = omega arith
 
 loop-holds : tie.Need-loop-holds Inv-loop μ-loop
 loop-holds c =
-    let n = c .before .before .before .before in
-    (omega (arith, at-is n), omega (arith, c .before .before .before .smaller .ensures, at-is n, call n .pre .more, mul-le-mul-left (n .power2 .result) (more-le (call n .args .b)), sized n .w-low), refl, λ first a. a)
+    let n = c .before .before .before in
+    (omega (arith, at-is n), omega (arith, c .before .before .smaller .ensures, at-is n, call n .pre .more, mul-le-mul-left (n .power2 .result) (more-le (call n .args .b)), sized n .w-low), refl, λ first a. a)
 
 slice-aggregate-put-page : tie.Need-slice-aggregate-put-page Inv-loop μ-loop
-slice-aggregate-put-page c = search needs
+slice-aggregate-put-page c = sym (ap length (c .before .before .before .before .before .unpack .ensures) ∙ window-long _ _ 256)
 
 -- the next page
 module _ (c : tie.After-struct-known3 Inv-loop μ-loop) where
   abbrev top : tie.After-power2 Inv-loop μ-loop
-  top = c .before .before .before .before .before .before .before .before .before .before
+  top = c .before .before .before .before .before .before .before .before .before
 
   abbrev place : Place
   place = c .before .before .before .before .before .loop .next
@@ -103,18 +100,18 @@ module _ (c : tie.After-struct-known3 Inv-loop μ-loop) where
   within : In (top .before .before .power .result) (call top .args .b) (place .page)
   within =
       inside (call top .args .b) (place .page) (sized top) (c .before .before .before .before .before .loop .inv .0)
-      (omega (arith, c .before .before .before .if1 .taken, c .before .before .before .before .before .before .before .before .before .smaller .ensures))
+      (omega (arith, c .before .before .before .if1 .taken, c .before .before .before .before .before .before .before .before .smaller .ensures))
 
   abbrev handed : (first : List ℕ) → Laid (listIn (call top .args .s .now)) first (c .before .before .before .before .before .loop .out) (call top .args .r) place
-      → Handed (call top .args .r) place (c .before .before .before .before .before .before .before .unpack .last .1 .1 .1 .0) (top .before .before .power .result * place .page - 256 * call top .args .b) (c .before .before .before .before .before .loop .out)
+      → Handed (call top .args .r) place (c .before .before .before .before .before .before .unpack .last .1 .1 .1 .0) (top .before .before .power .result * place .page - 256 * call top .args .b) (c .before .before .before .before .before .loop .out)
   handed first a = record {
     xs = listIn (call top .args .s .now);
     first = first;
     so-far = a;
-    more = omega (arith, c .before .before .before .if1 .taken, c .before .before .before .before .before .before .before .before .before .smaller .ensures);
+    more = omega (arith, c .before .before .before .if1 .taken, c .before .before .before .before .before .before .before .before .smaller .ensures);
     counts-are =
         counts-in (call top .args .r .e) (top .before .before .power .result) (call top .args .b) (place .page) (listIn (call top .args .s .now)) _
-        (top .before .before .power .ensures) within (c .before .before .before .before .before .before .before .unpack .ensures);
+        (top .before .before .power .ensures) within (c .before .before .before .before .before .before .unpack .ensures);
     near = omega (arith, within .high);
   }
 
@@ -150,9 +147,9 @@ same-length c = c .before .before .loop .inv .2
 returns : tie.Need-returns Inv-loop μ-loop
 returns c =
     let l = c .before .before .loop in
-    let t = c .before .before .before .before .before .before .before in
-    let q : l .next .page ≡ c .before .before .before .before .before .before .smaller .result = omega (arith, l .inv .1, c .if1 .left) in (
-      q ∙ c .before .before .before .before .before .before .smaller .ensures ∙ ap (λ (z : ℕ). min (z * (call t .args .b + 1)) (call t .args .r .pages)) (t .power2 .ensures),
+    let t = c .before .before .before .before .before .before in
+    let q : l .next .page ≡ c .before .before .before .before .before .smaller .result = omega (arith, l .inv .1, c .if1 .left) in (
+      q ∙ c .before .before .before .before .before .smaller .ensures ∙ ap (λ (z : ℕ). min (z * (call t .args .b + 1)) (call t .args .r .pages)) (t .power2 .ensures),
       λ a. l .inv .3 (a .first) (a .so-far),
     )
 
@@ -169,7 +166,6 @@ put-block-spec =
     mul-smaller
     smaller-requires
     mul-unpack
-    slice-aggregate-unpack
     unpack-requires
     loop-holds
     slice-aggregate-put-page

@@ -13,7 +13,7 @@ page c = accepted-page (c .args .s .now) (c .pre .0) (c .args .p) (c .pre .2)
 -- the width of a root
 module _ (c : tie.After-digits-of) where
   abbrev call : tie.Start
-  call = c .before .before .before
+  call = c .before .before
 
   width-is : c .digits-of .result ≡ widthOf (call .args .s .now)
   width-is = head-width (call .pre .1) (c .digits-of .ensures)
@@ -68,15 +68,11 @@ decode-requires : tie.Need-decode-requires
 decode-requires c κs =
     let d = c .before .before in
     let n = numbers d in
-    (tree-lies n, tree-coded n, sum-fits n, room n _ (call (top d) .pre .3))
-
-same-length : tie.Need-same-length
-same-length c = search needs
+    ((call (top d) .pre .4, tree-lies n, tree-coded n), (sum-fits n, call (top d) .pre .3, room n 256 (omega arith)))
 
 returns : tie.Need-returns
 returns c =
-    let d = c .before .before in
-    decoded (numbers (d .before .before .before)) _ _ (d .decode .ensures)
+    decoded (numbers (c .before .before .before)) _ _ (c .decode .ensures)
 
 pub page-counts-spec : {M : Type 1} → statement M
 page-counts-spec =
@@ -91,5 +87,4 @@ page-counts-spec =
     add-tree-2
     sub-decode
     decode-requires
-    same-length
     returns)

@@ -9,21 +9,19 @@ read-page-requires c κs = search needs
 
 mark-requires : tie.Need-mark-requires
 mark-requires c κs =
-    let a = c .before .before .before .before .before .before .before .before .before .pre in
+    let a = c .before .before .before .before .before .before .before .pre in
     let g = a .0 .2 in
-    let r = c .before .before .before .before .read-page .ensures in
+    let r = c .before .before .before .read-page .ensures in
     (held-long _ (a .0 .0) (a .0 .1) _ _ g r, held-small _ (a .0 .0) (a .0 .1) _ _ g r, a .1 .1)
 
 same-length : tie.Need-same-length
 same-length c = search needs
 
-same-length-2 : tie.Need-same-length-2
-same-length-2 c = search needs
-
 returns : tie.Need-returns
 returns c =
-    let a = c .before .before .before .before .before .before .before .before .before .before .before .before .pre in
-    held-page _ (a .0 .0) (a .0 .1) _ _ (a .0 .2) (c .before .before .before .before .before .before .before .read-page .ensures) _ (c .before .before .mark .ensures)
+    let a = c .before .before .before .before .before .before .before .before .before .before .pre in
+    let r = c .before .before .before .before .before .before .read-page .ensures in
+    (held-page _ (a .0 .0) (a .0 .1) _ _ (a .0 .2) r _ (c .before .before .mark .ensures), r .long)
 
 pub mark-page-spec : {M : Type 1} → statement M
-mark-page-spec = tie.close (tie.spec read-page-requires mark-requires same-length same-length-2 returns)
+mark-page-spec = tie.close (tie.spec read-page-requires mark-requires same-length returns)

@@ -6,29 +6,24 @@ use Rattle.match_seek.proofs.visit.Tie as tie
 
 returns : tie.Need-returns
 returns c =
-    let a = c .before .before .before .before .before .before .before .pre .1 .1 in
-    (a .0, omega (arith, c .if1 .taken), a .1)
+    let p = c .before .before .before .before .before .pre .1 in
+    let a = p .1 in
+    ((a .0, omega (arith, c .if1 .taken), a .1), p .0 .0)
 
 mark-page-requires : tie.Need-mark-page-requires
 mark-page-requires c κs = search needs
 
 seek-requires : tie.Need-seek-requires
 seek-requires c κs =
-    let a = c .before .before .before .before .before .before .before .before .before .before .before .before .before .before .before .before .before .pre in
-    ((a .0 .0, a .0 .1, a .0 .2), ((a .0 .3 .run-is, c .before .before .before .before .before .before .before .mark-page .ensures), a .1 .1))
+    let a = c .before .before .before .before .before .before .before .before .before .before .before .before .before .before .pre in
+    ((a .0 .0, a .0 .1, a .0 .2), ((a .0 .3 .run-is, c .before .before .before .before .before .before .mark-page .ensures .0), a .1 .1))
 
 same-length : tie.Need-same-length
 same-length c = search needs
 
-same-length-2 : tie.Need-same-length-2
-same-length-2 c = search needs
-
-same-length-3 : tie.Need-same-length-3
-same-length-3 c = search needs
-
 returns-2 : tie.Need-returns-2
-returns-2 c = c .before .before .seek .ensures
+returns-2 c = (c .seek .ensures, c .before .before .before .before .before .before .before .mark-page .ensures .1)
 
 pub visit-spec : {M : Type 1} → statement M
 visit-spec =
-    tie.close (tie.spec returns mark-page-requires seek-requires same-length same-length-2 same-length-3 returns-2)
+    tie.close (tie.spec returns mark-page-requires seek-requires same-length returns-2)

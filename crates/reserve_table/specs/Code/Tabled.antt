@@ -1,4 +1,4 @@
--- Tables of small reserves. Assumes nothing.
+-- A table of small reserves. Assumes nothing.
 use mathlib.Core.List.{List}
 use mathlib.Core.Path.{_≡_}
 use Prim.Native.Nat.{ℕ, _+_, _*_, _≤_, _<_}
@@ -8,7 +8,3 @@ use Rattle.reserve.specs.Reserve.{reserve}
 -- 64 sums for each height, one height after another
 pub record Tabled (l : List ℕ) : Type 0 where
   pub entry : (h s : ℕ) → h ≤ 7 → s < 64 → getD l (h * 64 + s) 0 ≡ reserve h s
-
--- 64 sums for height 2
-pub record Fours (l : List ℕ) : Type 0 where
-  pub entry : (s : ℕ) → s < 64 → getD l s 0 ≡ reserve 2 s

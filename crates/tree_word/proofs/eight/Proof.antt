@@ -1,13 +1,15 @@
 -- `tree_word::eight` meets its contract. Assumes nothing.
 use mathlib.Core.Path.{_≡_, refl}
-use Prim.Native.Nat.{ℕ, _+_, _<_}
+use Prim.Native.Nat.{_+_, _≤_}
 use native.Mathlib.Omega.{arith}
-use lib.ListN.{getD}
-use borrow.Author.Needs.{needs}
-use Rattle.reserve.specs.Reserve.{reserve}
+use lib.ListN.{length}
+use Rattle.bits.specs.Bits.{field}
 use Rattle.reserve.proofs.Exact.{digits-le}
-use Rattle.tree.proofs.OneWord.{eight-fits, few-digits, four-fits}
-use Rattle.tree_word.proofs.WordHalves.{Top, short, left-le, left-exact, right-exact, word-written}
+use Rattle.tree.proofs.Shape.{still-long}
+use Rattle.tree_word.proofs.Empty.{zeros-written}
+use Rattle.tree_word.proofs.WordHalves.{Top, short, left-le, behind, left-exact, right-exact, word-written}
+use Rattle.tree.proofs.OneWord.{eight-fits}
+use borrow.Author.Needs.{needs}
 use Rattle.tree_word.proofs.eight.Statement.{statement}
 use Rattle.tree_word.proofs.eight.Tie as tie
 
@@ -16,94 +18,102 @@ module _ (c : tie.After-part) where
   abbrev call : tie.Start
   call = c .before .before .before
 
-  top : Top 2 (call .args .s) (call .args .w) (c .before .digits-of .result) (c .part .result)
+  top : Top 2 (call .args .s) (call .args .w) (c .before .digits-in .result) (c .part .result)
   top =
       record {
         code = call .pre .1;
-        whole = eight-fits (call .args .s) (omega arith);
-        digits-are = c .before .digits-of .ensures;
+        whole = eight-fits (call .args .s) (omega (arith, call .pre .2));
+        digits-are = c .before .digits-in .ensures;
         left = c .part .ensures;
       }
 
-  -- the row's entry
-  looked-up : getD (call .args .row .now) (c .part .result) 0 ≡ reserve 2 (c .part .result)
-  looked-up = call .pre .0 .entry (c .part .result) (omega (arith, left-le top))
+-- where the left four are put, and their reserve is known
+module _ (c : tie.After-four-in) where
+  abbrev read : tie.After-part
+  read = c .before .before .before
 
-  -- a shift by any of its entries stays within the word
-  within : (j : ℕ) → j < 64 → c .before .digits-of .result + getD (call .args .row .now) j 0 < 64
-  within j k =
-      let t = digits-le (call .args .s) 6 (call .pre .2) in
-      omega (arith, c .before .digits-of .ensures, call .pre .0 .entry j k, four-fits j (digits-le j 19 (omega arith)))
+  within : read .before .digits-in .result + c .four-in .result ≤ 57
+  within = behind (top read) _ _ (c .four-in .ensures) (omega (arith, left-le (top read)))
 
-digits-of-requires : tie.Need-digits-of-requires
-digits-of-requires c κs = search needs
+  long : length (c .before .four-small .last .1 .1 .1 .0) ≡ 256
+  long = let p = call read .pre in still-long 2 _ _ _ _ _ (call read .args .from) 256 (p .3) (omega (arith, p .4)) (c .before .four-small .ensures)
 
-part-requires : tie.Need-part-requires
-part-requires c κs = let k = digits-le (c .before .before .args .s) 6 (c .before .before .pre .2) in omega (arith, c .digits-of .ensures)
-
-cast-four : tie.Need-cast-four
-cast-four c = search needs
-
-shl-four : tie.Need-shl-four
-shl-four c = omega (arith, short (top c))
-
-four-requires : tie.Need-four-requires
-four-requires c κs =
-    let d = c .before in
-    (left-exact (top d), few-digits {s = call d .args .s} (omega arith) _ (left-le (top d)), omega arith)
-
-element-copy-out-four : tie.Need-element-copy-out-four
-element-copy-out-four c = omega (arith, left-le (top (c .before .before .before .before)))
-
-cast-four-2 : tie.Need-cast-four-2
-cast-four-2 c = omega (arith, within (c .before .before .before .before .before) _ (element-copy-out-four (c .before)))
-
-add-four : tie.Need-add-four
-add-four c = omega (arith, within (c .before .before .before .before .before) _ (element-copy-out-four (c .before)))
-
-cast-four-3 : tie.Need-cast-four-3
-cast-four-3 c = omega (arith, within (c .before .before .before .before .before) _ (element-copy-out-four (c .before)))
-
-shl-four-2 : tie.Need-shl-four-2
-shl-four-2 c = omega (arith, within (c .before .before .before .before .before) _ (element-copy-out-four (c .before)))
-
-sub-four : tie.Need-sub-four
-sub-four c = left-le (top (c .before .before .before .before .before))
-
-add-four-2 : tie.Need-add-four-2
-add-four-2 c = search needs
-
-four-requires-2 : tie.Need-four-requires-2
-four-requires-2 c κs =
-    let d = c .before .before .before .before .before .before in
-    (right-exact (top d) _ (looked-up d), few-digits {s = call d .args .s} (omega arith) _ (omega arith), omega arith)
-
-same-length : tie.Need-same-length
-same-length c = search needs
+zeros-requires : tie.Need-zeros-requires
+zeros-requires c κs = search needs
 
 returns : tie.Need-returns
 returns c =
-    let d = c .before .before .before .before .before .before .before .before .before in
+    let e = c .before .before in
+    let a = e .before .args in
+    zeros-written (a .out .now) _ (field 64 (a .w)) (a .from) 8 3 (a .s) 0 refl (e .if1 .taken) (c .zeros .ensures)
+
+digits-in-requires : tie.Need-digits-in-requires
+digits-in-requires c κs = search needs
+
+part-requires : tie.Need-part-requires
+part-requires c κs = let k = digits-le (c .before .before .args .s) 8 (c .before .before .pre .2) in omega (arith, c .digits-in .ensures)
+
+cast-four-small : tie.Need-cast-four-small
+cast-four-small c = search needs
+
+shl-four-small : tie.Need-shl-four-small
+shl-four-small c = omega (arith, short (top c))
+
+four-small-requires : tie.Need-four-small-requires
+four-small-requires c κs =
+    let d = c .before in
+    let p = call d .pre in
+    (p .0, left-exact (top d), omega (arith, left-le (top d), p .2), p .3, omega (arith, p .4))
+
+four-in-requires : tie.Need-four-in-requires
+four-in-requires c κs = let d = c .before .before in (call d .pre .0, omega (arith, left-le (top d), call d .pre .2))
+
+add-k : tie.Need-add-k
+add-k c = omega (arith, within c)
+
+cast-four-small-2 : tie.Need-cast-four-small-2
+cast-four-small-2 c = omega (arith, within c)
+
+shl-four-small-2 : tie.Need-shl-four-small-2
+shl-four-small-2 c = omega (arith, within c)
+
+sub-four-small : tie.Need-sub-four-small
+sub-four-small c = left-le (top (read c))
+
+add-four-small : tie.Need-add-four-small
+add-four-small c = search needs
+
+four-small-requires-2 : tie.Need-four-small-requires-2
+four-small-requires-2 c κs =
+    let n = c .before in
+    let d = read n in
+    let p = call d .pre in
+    (p .0, right-exact (top d) _ (n .four-in .ensures), omega (arith, p .2), long n, omega (arith, p .4))
+
+returns-2 : tie.Need-returns-2
+returns-2 c =
+    let n = c .before .before in
+    let d = read n in
     let a = call d .args in
-    word-written (top d) _ (looked-up d) (a .out .now) _ _ (a .from) 4 refl (call d .pre .3) (c .before .before .before .before .before .before .before .four .ensures)
-    (c .before .before .four2 .ensures)
+    word-written (top d) _ (n .four-in .ensures) (a .out .now) _ _ (a .from) 4 refl (omega (arith, call d .pre .3, call d .pre .4)) (n .before .four-small .ensures)
+    (c .four-small2 .ensures)
 
 pub eight-spec : {M : Type 1} → statement M
 eight-spec =
     tie.close
     (tie.spec
-    digits-of-requires
+    zeros-requires
+    returns
+    digits-in-requires
     part-requires
-    cast-four
-    shl-four
-    four-requires
-    element-copy-out-four
-    cast-four-2
-    add-four
-    cast-four-3
-    shl-four-2
-    sub-four
-    add-four-2
-    four-requires-2
-    same-length
-    returns)
+    cast-four-small
+    shl-four-small
+    four-small-requires
+    four-in-requires
+    add-k
+    cast-four-small-2
+    shl-four-small-2
+    sub-four-small
+    add-four-small
+    four-small-requires-2
+    returns-2)

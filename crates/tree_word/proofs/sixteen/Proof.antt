@@ -1,16 +1,14 @@
 -- `tree_word::sixteen` meets its contract. Assumes nothing.
-use mathlib.Core.Path.{_≡_, refl, _∙_}
-use mathlib.Core.Logic.{⊎-elim}
-use Prim.Native.Nat.{_+_, _*_, _%_, _^_, _≤_}
+use mathlib.Core.Path.{_≡_, refl}
+use Prim.Native.Nat.{_+_, _≤_}
 use native.Mathlib.Omega.{arith}
 use lib.ListN.{length}
-use borrow.Author.Needs.{needs}
-use Rattle.lists.specs.Lists.{splice}
 use Rattle.bits.specs.Bits.{field}
 use Rattle.reserve.proofs.Exact.{digits-le}
-use Rattle.tree.specs.Read.{counts}
+use Rattle.tree.proofs.Shape.{still-long}
+use Rattle.tree_word.proofs.Empty.{zeros-written}
 use Rattle.tree_word.proofs.WordHalves.{Top, short, left-le, behind, left-exact, right-exact, word-written}
-use Rattle.tree_word.proofs.WordZeros.{Blank, left-blank, left-empty, as-long, right-empty}
+use borrow.Author.Needs.{needs}
 use Rattle.tree_word.proofs.sixteen.Statement.{statement}
 use Rattle.tree_word.proofs.sixteen.Tie as tie
 
@@ -19,68 +17,52 @@ module _ (c : tie.After-part) where
   abbrev call : tie.Start
   call = c .before .before .before
 
-  top : Top 3 (call .args .s) (call .args .w) (c .before .digits-of .result) (c .part .result)
+  top : Top 3 (call .args .s) (call .args .w) (c .before .digits-in .result) (c .part .result)
   top =
-      record {
-        code = call .pre .0 .2;
-        whole = call .pre .0 .1 .bits;
-        digits-are = c .before .digits-of .ensures;
-        left = c .part .ensures;
-      }
+      record { code = call .pre .2; whole = call .pre .1 .bits; digits-are = c .before .digits-in .ensures; left = c .part .ensures }
 
-  blank : Blank (call .args .out .now) (call .args .from) 16
-  blank = record { room = call .pre .1 .0; zeros = call .pre .1 .1 }
-
--- where the left half's counts stand, whether it was called or is empty
-module _ (c : tie.Joined1) where
+-- where the left eight are put, and their reserve is known
+module _ (c : tie.After-reserve-in) where
   abbrev read : tie.After-part
-  read = c .before
+  read = c .before .before .before
 
-  abbrev whole : tie.Start
-  whole = call read
+  within : read .before .digits-in .result + c .reserve-in .result ≤ 57
+  within = behind (top read) _ _ (c .reserve-in .ensures) (omega (arith, left-le (top read)))
 
-  left-there :
-      c .if1 .out
-      ≡ splice (whole .args .out .now) (whole .args .from)
-      (counts 3 (read .part .result) (field 64 ((whole .args .w * 2 ^ read .before .digits-of .result) % 2 ^ 64)) 0)
-  left-there = ⊎-elim (λ w. w .5 ∙ w .2 .ensures) (λ w. w .1 ∙ left-empty (top read) (blank read) (w .0 .left)) (c .if1 .came)
+  long : length (c .before .eight .last .1 .1 .1 .0) ≡ 256
+  long = let p = call read .pre in still-long 3 _ _ _ _ _ (call read .args .from) 256 (p .3) (omega (arith, p .4)) (c .before .eight .ensures)
 
-  same : length (c .if1 .out) ≡ length (whole .args .out .now)
-  same = as-long (top read) (blank read) left-there
+zeros-requires : tie.Need-zeros-requires
+zeros-requires c κs = search needs
 
--- where the left half's reserve is known
-module _ (c : tie.After-reserve-of) where
-  abbrev joined : tie.Joined1
-  joined = c .before .before
+returns : tie.Need-returns
+returns c =
+    let e = c .before .before in
+    let a = e .before .args in
+    zeros-written (a .out .now) _ (field 64 (a .w)) (a .from) 16 4 (a .s) 0 refl (e .if1 .taken) (c .zeros .ensures)
 
-  within : read joined .before .digits-of .result + c .reserve-of .result ≤ 57
-  within = behind (top (read joined)) _ _ (c .reserve-of .ensures) (omega (arith, left-le (top (read joined))))
-
-digits-of-requires : tie.Need-digits-of-requires
-digits-of-requires c κs = search needs
+digits-in-requires : tie.Need-digits-in-requires
+digits-in-requires c κs = (c .before .pre .0, omega (arith, c .before .pre .1 .few))
 
 part-requires : tie.Need-part-requires
-part-requires c κs = omega (arith, c .digits-of .ensures, digits-le (c .before .before .args .s) 6 (c .before .before .pre .0 .1 .few))
-
-sub-right : tie.Need-sub-right
-sub-right c = left-le (top c)
+part-requires c κs = omega (arith, c .digits-in .ensures, digits-le (c .before .before .args .s) 6 (c .before .before .pre .1 .few))
 
 cast-eight : tie.Need-cast-eight
 cast-eight c = search needs
 
 shl-eight : tie.Need-shl-eight
-shl-eight c = omega (arith, short (top (c .before)))
+shl-eight c = omega (arith, short (top c))
 
 eight-requires : tie.Need-eight-requires
 eight-requires c κs =
+    let d = c .before in
+    let p = call d .pre in
+    (p .0, left-exact (top d), omega (arith, left-le (top d), p .1 .few), p .3, omega (arith, p .4))
+
+reserve-in-requires : tie.Need-reserve-in-requires
+reserve-in-requires c κs =
     let d = c .before .before in
-    (call d .pre .0 .0, left-exact (top d), omega (arith, left-le (top d), call d .pre .0 .1 .few), left-blank (top d) (blank d) .room)
-
-reserve-of-requires : tie.Need-reserve-of-requires
-reserve-of-requires c κs = omega (arith, left-le (top (read (c .before))), whole (c .before) .pre .0 .1 .few)
-
-cast-k : tie.Need-cast-k
-cast-k c = omega (arith, within c)
+    (call d .pre .0, omega arith, omega arith, omega (arith, left-le (top d), call d .pre .1 .few))
 
 add-k : tie.Need-add-k
 add-k c = omega (arith, within c)
@@ -91,55 +73,43 @@ cast-eight-2 c = omega (arith, within c)
 shl-eight-2 : tie.Need-shl-eight-2
 shl-eight-2 c = omega (arith, within c)
 
+sub-eight : tie.Need-sub-eight
+sub-eight c = left-le (top (read c))
+
 add-eight : tie.Need-add-eight
 add-eight c = search needs
 
 eight-requires-2 : tie.Need-eight-requires-2
 eight-requires-2 c κs =
     let n = c .before in
-    let j = joined n in
-    let d = read j in (
-      whole j .pre .0 .0,
-      right-exact (top d) _ (n .reserve-of .ensures),
-      omega (arith, whole j .pre .0 .1 .few),
-      omega (arith, same j, whole j .pre .1 .0),
-    )
-
-same-length : tie.Need-same-length
-same-length c = omega (arith, same (joined (c .before .before .before .before)))
-
-returns : tie.Need-returns
-returns c =
-    let n = c .before .before .before .before in
-    let j = joined n in
-    let d = read j in
-    word-written (top d) _ (n .reserve-of .ensures) (whole j .args .out .now) _ _ (whole j .args .from) 8 refl (blank d .room) (left-there j)
-    (c .before .before .eight2 .ensures)
-
-same-length-2 : tie.Need-same-length-2
-same-length-2 c = same (c .before)
+    let d = read n in
+    let p = call d .pre in
+    (p .0, right-exact (top d) _ (n .reserve-in .ensures), omega (arith, p .1 .few), long n, omega (arith, p .4))
 
 returns-2 : tie.Need-returns-2
-returns-2 c = let j = c .before in right-empty (top (read j)) (blank (read j)) (left-there j) (c .if2 .left)
+returns-2 c =
+    let n = c .before .before in
+    let d = read n in
+    let a = call d .args in
+    word-written (top d) _ (n .reserve-in .ensures) (a .out .now) _ _ (a .from) 8 refl (omega (arith, call d .pre .3, call d .pre .4)) (n .before .eight .ensures)
+    (c .eight2 .ensures)
 
 pub sixteen-spec : {M : Type 1} → statement M
 sixteen-spec =
     tie.close
     (tie.spec
-    digits-of-requires
+    zeros-requires
+    returns
+    digits-in-requires
     part-requires
-    sub-right
     cast-eight
     shl-eight
     eight-requires
-    reserve-of-requires
-    cast-k
+    reserve-in-requires
     add-k
     cast-eight-2
     shl-eight-2
+    sub-eight
     add-eight
     eight-requires-2
-    same-length
-    returns
-    same-length-2
     returns-2)

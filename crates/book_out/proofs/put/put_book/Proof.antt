@@ -10,16 +10,16 @@ use Rattle.lists.specs.Lists.{splice}
 use Rattle.book.specs.Book.{bookOf}
 use Rattle.image.specs.Read.{eOf, listOf}
 use Rattle.image.proofs.Accepted.{accepted-only, length-list}
-use Rattle.book_out.proofs.OutLaws.{Sizes, all-put, none-put, put-long, read-four, read-more, sizes}
+use Rattle.book_out.proofs.OutLaws.{Sizes, all-put, none-put, put-long, read-four, read-long, read-more, sizes}
 use Rattle.book_out.proofs.put.put_book.Statement.{statement}
 use Rattle.book_out.proofs.put.put_book.Tie as tie
 
 abbrev Inv-loop : tie.InvT-loop
-Inv-loop s h book₀ m pages n counts₀ p₀ book counts p =
+Inv-loop s table h book₀ m pages n counts₀ p₀ book counts p =
     (length counts ≡ 256) × (book ≡ splice book₀ 0 (bookOf (take (2 ^ eOf s * p) (listOf s))))
 
 abbrev μ-loop : tie.MeasureT-loop
-μ-loop s h book₀ m pages n counts₀ p₀ book counts p = pages - p
+μ-loop s table h book₀ m pages n counts₀ p₀ book counts p = pages - p
 
 power-requires : tie.Need-power-requires Inv-loop μ-loop
 power-requires c κs = omega (arith, accepted-only _ (c .before .before .pre .0) .limits .e-high, c .before .before .pre .1 .e-is)
@@ -43,13 +43,10 @@ module _ (l : tie.At-loop Inv-loop μ-loop) where
   book-long =
       put-long (2 ^ eOf s * l .loop .p) (listOf s) (call .args .book .now) (l .loop .book) (omega (arith, call .pre .3, length-list s)) (l .loop .inv .1)
 
-slice-aggregate-page-counts : tie.Need-slice-aggregate-page-counts Inv-loop μ-loop
-slice-aggregate-page-counts c = sym (c .before .before .loop .inv .0)
-
 page-counts-requires : tie.Need-page-counts-requires Inv-loop μ-loop
 page-counts-requires c κs =
     let a = call (c .before .before) in
-    (a .pre .0, a .pre .1, omega (arith, a .pre .1 .pages-are), omega (arith, c .before .before .loop .inv .0))
+    (a .pre .0, a .pre .1, omega (arith, a .pre .1 .pages-are), c .before .before .loop .inv .0, a .pre .4)
 
 -- page p was read
 module _ (c : tie.After-page-counts Inv-loop μ-loop) where
@@ -57,29 +54,29 @@ module _ (c : tie.After-page-counts Inv-loop μ-loop) where
   at = c .before .before .before
 
   abbrev counts : List ℕ
-  counts = c .page-counts .last .1 .1 .1 .0
+  counts = c .page-counts .last .1 .1 .1 .1 .0
 
   long : length counts ≡ 256
-  long = omega (arith, c .page-counts .kept .1 .1 .1 .0, at .loop .inv .0)
+  long = read-long (sizes-are at) (at .loop .p) (at .loop .counts) counts (c .page-counts .ensures) (at .loop .inv .0)
 
   from-in : at .before .power .result * at .loop .p < length (listOf (s at))
   from-in = sizes-are at .inside (at .loop .p) (c .before .before .loop-test .taken)
 
 mul-from : tie.Need-mul-from Inv-loop μ-loop
-mul-from c = omega (arith, from-in (c .before), accepted-only _ (call (at (c .before)) .pre .0) .limits .hours)
+mul-from c = omega (arith, from-in c, accepted-only _ (call (at c) .pre .0) .limits .hours)
 
 sub-smaller : tie.Need-sub-smaller Inv-loop μ-loop
-sub-smaller c = omega (arith, from-in (c .before), sizes-are (at (c .before)) .hours-are)
+sub-smaller c = omega (arith, from-in c, sizes-are (at c) .hours-are)
 
 smaller-requires : tie.Need-smaller-requires Inv-loop μ-loop
 smaller-requires c κs = search needs
 
 slice-aggregate-put-hours : tie.Need-slice-aggregate-put-hours Inv-loop μ-loop
-slice-aggregate-put-hours c = sym (long (c .before .before .before .before))
+slice-aggregate-put-hours c = sym (long (c .before .before .before))
 
 put-hours-requires : tie.Need-put-hours-requires Inv-loop μ-loop
 put-hours-requires c κs =
-    let r = c .before .before .before .before in
+    let r = c .before .before .before in
     let z = sizes-are (at r) in
     let a = call (at r) in
     let k = c .before .before .smaller .ensures in (
@@ -89,14 +86,14 @@ put-hours-requires c κs =
     )
 
 add-p : tie.Need-add-p Inv-loop μ-loop
-add-p c = omega (arith, sizes-are (at (c .before .before .before .before .before .before .before)) .few)
+add-p c = omega (arith, sizes-are (at (c .before .before .before .before .before .before)) .few)
 
 loop-less : tie.Need-loop-less Inv-loop μ-loop
 loop-less c = search needs
 
 loop-again : tie.Need-loop-again Inv-loop μ-loop
 loop-again c =
-    let r = c .before .before .before .before .before .before .before in
+    let r = c .before .before .before .before .before .before in
     let a = call (at r) in (
       long r,
       read-more (sizes-are (at r)) (at r .loop .p) (at r .loop .counts) (counts r) (r .page-counts .ensures) (c .before .before .before .before .before .smaller .result)
@@ -122,7 +119,6 @@ put-book-spec =
     μ-loop
     power-requires
     loop-holds
-    slice-aggregate-page-counts
     page-counts-requires
     mul-from
     sub-smaller

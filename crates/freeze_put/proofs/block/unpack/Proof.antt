@@ -20,17 +20,20 @@ use Rattle.freeze_put.proofs.block.unpack.Statement.{statement}
 use Rattle.freeze_put.proofs.block.unpack.Tie as tie
 
 abbrev Inv-loop : tie.InvT-loop
-Inv-loop s pages first list₀ some j₀ list j =
+Inv-loop s pages first list₀ some table j₀ list j =
     (j ≤ some) × (length list ≡ length list₀) × (list ≡ splice list₀ 0 (concat (tabulate j (λ (i : ℕ). page (listIn s) (first + i)))))
 
 abbrev μ-loop : tie.MeasureT-loop
-μ-loop s pages first list₀ some j₀ list j = some - j
+μ-loop s pages first list₀ some table j₀ list j = some - j
 
 sub-smaller : tie.Need-sub-smaller Inv-loop μ-loop
-sub-smaller c = omega (arith, c .before .before .pre .2)
+sub-smaller c = omega (arith, c .before .pre .2)
 
 smaller-requires : tie.Need-smaller-requires Inv-loop μ-loop
 smaller-requires c κs = search needs
+
+sums-requires : tie.Need-sums-requires Inv-loop μ-loop
+sums-requires c κs = search needs
 
 loop-holds : tie.Need-loop-holds Inv-loop μ-loop
 loop-holds c = (omega arith, refl, none-put _ _)
@@ -41,7 +44,7 @@ module _ (c : tie.In-loop Inv-loop μ-loop) where
   call = c .before .before .before .before .before
 
   inside : call .args .first + c .before .loop .j < pagesOf (call .args .s .now)
-  inside = omega (arith, c .loop-test .taken, c .before .before .smaller .ensures, call .pre .1, call .pre .2)
+  inside = omega (arith, c .loop-test .taken, c .before .before .before .smaller .ensures, call .pre .1, call .pre .2)
 
   few : pagesOf (call .args .s .now) ≤ 1024
   few = facts (call .args .s .now) (call .pre .0) .pages-high
@@ -50,7 +53,7 @@ module _ (c : tie.In-loop Inv-loop μ-loop) where
   long = ap length (call .pre .3) ∙ length-replicate {A = ℕ} 256 0
 
   short : c .before .loop .j < 4
-  short = omega (arith, c .loop-test .taken, c .before .before .smaller .ensures)
+  short = omega (arith, c .loop-test .taken, c .before .before .before .smaller .ensures)
 
 add-p : tie.Need-add-p Inv-loop μ-loop
 add-p c = omega (arith, inside c, few c)
@@ -65,46 +68,42 @@ slice-aggregate-decode : tie.Need-slice-aggregate-decode Inv-loop μ-loop
 slice-aggregate-decode c = search needs
 
 mul-decode : tie.Need-mul-decode Inv-loop μ-loop
-mul-decode c = omega (arith, short (c .before .before .before .before))
+mul-decode c = omega (arith, short (c .before .before .before .before .before))
 
 decode-requires : tie.Need-decode-requires Inv-loop μ-loop
 decode-requires c κs =
-    let n = c .before .before .before .before in
-    let o = c .before .before .before .entry-of .ensures in (
-      lies (c .before .before .gather-at .result) _ (omega arith) (sum-small o),
-      page-decoded o (c .before .before .gather-at .ensures) .0,
-      sum-small o,
-      omega (arith, short n, long n, n .before .loop .inv .1),
+    let g = c .before .before .before in
+    let o = g .before .entry-of .ensures in
+    let n = g .before .before in (
+      (n .before .before .sums .ensures, lies (g .gather-at .result) _ (omega arith) (sum-small o), page-decoded o (g .gather-at .ensures) .0),
+      (sum-small o, n .before .loop .inv .1 ∙ long n, omega (arith, short n)),
     )
 
 add-j : tie.Need-add-j Inv-loop μ-loop
-add-j c = omega (arith, short (c .before .before .before .before .before .before .before))
+add-j c = omega (arith, short (c .before .before .before .before .before .before))
 
 loop-less : tie.Need-loop-less Inv-loop μ-loop
-loop-less c = omega (arith, c .before .before .before .before .before .before .before .loop-test .taken)
+loop-less c = omega (arith, c .before .before .before .before .before .before .loop-test .taken)
 
 loop-again : tie.Need-loop-again Inv-loop μ-loop
 loop-again c =
-    let n = c .before .before .before .before .before .before .before in
+    let n = c .before .before .before .before .before .before in
     let l = n .before .loop in
     let a = call n .args in
     let f : ℕ → List ℕ = λ i. page (listIn (a .s .now)) (a .first + i) in
     let long-f : (i : ℕ) → length (f i) ≡ 64 = λ i. page-length (listIn (a .s .now)) (a .first + i) in
     let e = one-put (a .list .now) (l .list) _ f (l .j) long-f (omega (arith, short n, long n)) (l .inv .2)
-    (c .before .before .decode .ensures ∙ ap (λ z. splice (l .list) (64 * l .j) z) (page-decoded (c .before .before .before .before .before .before .entry-of .ensures) (c .before .before .before .before .before .gather-at .ensures) .1)) in
+    (c .decode .ensures ∙ ap (λ z. splice (l .list) (64 * l .j) z) (page-decoded (c .before .before .before .before .before .entry-of .ensures) (c .before .before .before .before .gather-at .ensures) .1)) in
     (omega (arith, n .loop-test .taken), put-length (a .list .now) _ f (l .j + 1) long-f (omega (arith, short n, long n)) e, e)
-
-same-length : tie.Need-same-length Inv-loop μ-loop
-same-length c = c .before .loop .inv .1
 
 returns : tie.Need-returns Inv-loop μ-loop
 returns c =
     let l = c .before .loop in
     let a = c .before .before .before .before .before in
-    let k : l .j ≡ c .before .before .smaller .result = omega (arith, l .inv .0, c .loop-test .left) in
+    let k : l .j ≡ c .before .before .before .smaller .result = omega (arith, l .inv .0, c .loop-test .left) in
     let f = facts (a .args .s .now) (a .pre .0) in
     block-is (listIn (a .args .s .now)) (a .args .list .now) (l .list) (a .args .pages) (a .args .first) (l .j)
-    (omega (arith, f .hours-are, f .hours-fit, a .pre .1)) (k ∙ c .before .before .smaller .ensures) (a .pre .3) (l .inv .2)
+    (omega (arith, f .hours-are, f .hours-fit, a .pre .1)) (k ∙ c .before .before .before .smaller .ensures) (a .pre .3) (l .inv .2)
 
 pub unpack-spec : {M : Type 1} → statement M
 unpack-spec =
@@ -114,6 +113,7 @@ unpack-spec =
     μ-loop
     sub-smaller
     smaller-requires
+    sums-requires
     loop-holds
     add-p
     entry-of-requires
@@ -124,5 +124,4 @@ unpack-spec =
     add-j
     loop-less
     loop-again
-    same-length
     returns)

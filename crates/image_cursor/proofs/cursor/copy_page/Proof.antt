@@ -4,7 +4,7 @@ use Prim.Native.Nat.{_-_, _≤_}
 use native.Mathlib.Omega.{arith}
 use lib.ListN.{length, take, length-set}
 use borrow.Author.Needs.{needs}
-use Rattle.image_cursor.proofs.CursorLaws.{copied-next}
+use Rattle.lists.proofs.Parts.{copied-next}
 use Rattle.image_cursor.proofs.cursor.copy_page.Statement.{statement}
 use Rattle.image_cursor.proofs.cursor.copy_page.Tie as tie
 
@@ -26,8 +26,8 @@ shared-slice-read-counts c = search needs
 mul-counts-2 : tie.Need-mul-counts-2 Inv-loop μ-loop
 mul-counts-2 c = search needs
 
-slice-write-counts : tie.Need-slice-write-counts Inv-loop μ-loop
-slice-write-counts c = search needs
+element-write-counts : tie.Need-element-write-counts Inv-loop μ-loop
+element-write-counts c = search needs
 
 add-i : tie.Need-add-i Inv-loop μ-loop
 add-i c = search needs
@@ -44,14 +44,11 @@ loop-again c =
       copied-next (l .counts) (a .args .lead .now) (l .i) (omega (arith, l .inv .1)) (omega arith) (l .inv .2),
     )
 
-same-length : tie.Need-same-length Inv-loop μ-loop
-same-length c = search needs
-
 returns : tie.Need-returns Inv-loop μ-loop
 returns c =
     let l = c .before .loop in
     let e : l .i ≡ c .before .before .args .m = omega arith in
-    rw e at (l .inv .2)
+    (l .inv .1, rw e at (l .inv .2))
 
 pub copy-page-spec : {M : Type 1} → statement M
 copy-page-spec =
@@ -63,9 +60,8 @@ copy-page-spec =
     mul-counts
     shared-slice-read-counts
     mul-counts-2
-    slice-write-counts
+    element-write-counts
     add-i
     loop-less
     loop-again
-    same-length
     returns)

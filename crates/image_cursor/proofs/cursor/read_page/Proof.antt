@@ -7,7 +7,7 @@ use Rattle.image_cursor.proofs.cursor.read_page.Tie as tie
 
 returns : tie.Need-returns
 returns c =
-    let a = c .before .before .before .before in
+    let a = c .before .before .before in
     ready-end _ (a .pre .1) (a .args .i) _ (c .if1 .taken) (a .pre .2)
 
 cast-page-counts : tie.Need-cast-page-counts
@@ -15,25 +15,21 @@ cast-page-counts c = search needs
 
 shr-page-counts : tie.Need-shr-page-counts
 shr-page-counts c =
-    let a = c .before .before .before .before .before in
+    let a = c .before .before .before .before in
     omega (arith, small _ (a .pre .1) (a .pre .0))
 
 page-counts-requires : tie.Need-page-counts-requires
 page-counts-requires c κs =
     let e = c .before .before in
-    let a = e .before .before .before .before in
-    (a .pre .0, a .pre .1, page-in _ (a .pre .1) (a .args .i) (e .if1 .left), omega (arith, a .pre .2))
-
-same-length : tie.Need-same-length
-same-length c = search needs
+    let a = e .before .before .before in
+    (a .pre .0, a .pre .1, page-in _ (a .pre .1) (a .args .i) (e .if1 .left), omega (arith, a .pre .2), a .pre .3)
 
 returns-2 : tie.Need-returns-2
 returns-2 c =
-    let p = c .before .before in
-    let a = p .before .before .before .before .before .before .before in
-    ready-read _ (a .pre .1) (a .pre .0) (a .args .i) _ _ (a .pre .2) (p .page-counts .ensures)
+    let a = c .before .before .before .before .before .before in
+    ready-read _ (a .pre .1) (a .pre .0) (a .args .i) _ _ (a .pre .2) (c .page-counts .ensures)
 
 pub read-page-spec : {M : Type 1} → statement M
 read-page-spec =
     tie.close
-    (tie.spec returns cast-page-counts shr-page-counts page-counts-requires same-length returns-2)
+    (tie.spec returns cast-page-counts shr-page-counts page-counts-requires returns-2)

@@ -1,9 +1,10 @@
--- `pages::counts::counts_at` meets its contract: the gathered code has the page's tree at its front, which says the page's counts.
--- Assumes nothing.
+-- `pages::counts::counts_at` meets its contract. Assumes nothing.
+use mathlib.Core.Path.{refl, sym}
 use native.Mathlib.Omega.{arith}
 use Rattle.store.specs.Plain.{page}
 use Rattle.store.specs.Reading.{listIn}
 use Rattle.store.proofs.Holds.{page-length}
+use Rattle.tree.proofs.Shape.{still-long}
 use Rattle.pages.proofs.Coding.{code-exact, decoded, lies}
 use Rattle.pages.proofs.SoundPage.{as-said, sum-same, sum-small}
 use borrow.Author.Needs.{needs}
@@ -13,39 +14,51 @@ use Rattle.pages.proofs.counts.counts_at.Tie as tie
 gather-at-requires : tie.Need-gather-at-requires
 gather-at-requires c κs = as-said (c .before .pre)
 
+sums-requires : tie.Need-sums-requires
+sums-requires c κs = search needs
+
 slice-aggregate-decode : tie.Need-slice-aggregate-decode
 slice-aggregate-decode c = search needs
 
-slice-aggregate-decode-2 : tie.Need-slice-aggregate-decode-2
-slice-aggregate-decode-2 c = search needs
-
 decode-requires : tie.Need-decode-requires
 decode-requires c κs =
-    let a = c .before .before .before .before .args in
-    let o = c .before .before .before .before .pre in
-    let g = c .before .before .gather-at in
+    let t = c .before .before .before in
+    let g = t .before .gather-at in
+    let a = t .before .before .before .args in
+    let o = t .before .before .before .pre in
     let xs = listIn (a .s .now) in (
-      lies (g .result) (a .sum) (omega arith) (sum-small o),
-      code-exact (g .result) (page xs (a .p)) _ (a .sum) (page-length xs (a .p)) (sum-same o) (g .ensures .code-is),
-      sum-small o,
-      omega arith,
+      (
+        t .sums .ensures,
+        lies (g .result) (a .sum) (omega arith) (sum-small o),
+        code-exact (g .result) (page xs (a .p)) _ (a .sum) (page-length xs (a .p)) (sum-same o) (g .ensures .code-is),
+      ),
+      (sum-small o, refl, omega arith),
     )
+
+slice-aggregate-first-counts : tie.Need-slice-aggregate-first-counts
+slice-aggregate-first-counts c = sym (still-long 6 _ _ _ _ _ 0 256 refl (omega arith) (c .before .decode .ensures))
+
+first-counts-requires : tie.Need-first-counts-requires
+first-counts-requires c κs = still-long 6 _ _ _ _ _ 0 256 refl (omega arith) (c .before .decode .ensures)
 
 returns : tie.Need-returns
 returns c =
-    let a = c .before .before .before .before .before .before .args in
-    let o = c .before .before .before .before .before .before .pre in
-    let g = c .before .before .before .before .gather-at in
-    let d = c .before .decode in
+    let d = c .before .before .decode in
+    let w = c .before .before .before .before .before .before .before in
+    let g = w .gather-at in
+    let a = w .before .before .args in
+    let o = w .before .before .pre in
     let xs = listIn (a .s .now) in
-    decoded (g .result) (page xs (a .p)) _ (a .sum) (page-length xs (a .p)) (sum-same o) (g .ensures .code-is) (d .last .1 .1 .1 .1 .0) (d .ensures)
+    decoded (g .result) (page xs (a .p)) _ (a .sum) (page-length xs (a .p)) (sum-same o) (g .ensures .code-is) _ _ _ (d .ensures) (c .first-counts .ensures)
 
 pub counts-at-spec : {M : Type 1} → statement M
 counts-at-spec =
     tie.close
     (tie.spec
     gather-at-requires
+    sums-requires
     slice-aggregate-decode
-    slice-aggregate-decode-2
     decode-requires
+    slice-aggregate-first-counts
+    first-counts-requires
     returns)

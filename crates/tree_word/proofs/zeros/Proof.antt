@@ -1,4 +1,4 @@
--- `tree_decode::zeros` meets its contract. The loop's invariant: the counts that were passed are zeros, and nothing else changed.
+-- `tree_word::zeros` meets its contract. The loop's invariant: the counts that were passed are zeros, and nothing else changed.
 -- Assumes nothing.
 use mathlib.Core.Path.{_≡_, refl, sym, ap, _∙_}
 use Prim.Native.Nat.{ℕ, _-_, _≤_}
@@ -6,10 +6,10 @@ use native.Mathlib.Omega.{arith}
 use lib.ListN.{length, replicate, length-set}
 use Rattle.lists.specs.Lists.{splice}
 use Rattle.lists.proofs.Parts.{splice-nil}
-use Rattle.tree_word.proofs.IntoZeros.{zero-more}
+use Rattle.tree_word.proofs.Empty.{zero-more}
 use borrow.Author.Needs.{needs}
-use Rattle.tree_decode.proofs.zeros.Statement.{statement}
-use Rattle.tree_decode.proofs.zeros.Tie as tie
+use Rattle.tree_word.proofs.zeros.Statement.{statement}
+use Rattle.tree_word.proofs.zeros.Tie as tie
 
 abbrev Inv-loop : tie.InvT-loop
 Inv-loop out₀ from n i₀ out i = (i ≤ n) × (length out ≡ length out₀) × (out ≡ splice out₀ from (replicate i 0))
@@ -26,8 +26,8 @@ add-out c = search needs
 mul-out : tie.Need-mul-out Inv-loop μ-loop
 mul-out c = search needs
 
-slice-write-out : tie.Need-slice-write-out Inv-loop μ-loop
-slice-write-out c = search needs
+element-write-out : tie.Need-element-write-out Inv-loop μ-loop
+element-write-out c = search needs
 
 add-i : tie.Need-add-i Inv-loop μ-loop
 add-i c = search needs
@@ -43,9 +43,6 @@ loop-again c =
       length-set (l .out) _ _ ∙ l .inv .1,
       zero-more (a .out .now) (l .out) (a .from) (l .i) (omega arith) (l .inv .1) (l .inv .2),
     )
-
-same-length : tie.Need-same-length Inv-loop μ-loop
-same-length c = search needs
 
 returns : tie.Need-returns Inv-loop μ-loop
 returns c =
@@ -63,9 +60,8 @@ zeros-spec =
     loop-holds
     add-out
     mul-out
-    slice-write-out
+    element-write-out
     add-i
     loop-less
     loop-again
-    same-length
     returns)

@@ -1,0 +1,2 @@
+-- What the code hands on; its definitions are those of `reserve`.
+pub mod Code
