@@ -4,7 +4,7 @@ use mathlib.Core.Bool.{true}
 use mathlib.Core.List.{List}
 use Prim.Native.Nat.{ℕ, zero, suc, _+_, _-_, _*_, _^_, _≤_, _<_}
 use native.Mathlib.Omega.{arith}
-use lib.ListN.{length}
+use lib.ListN.{length, take}
 use lib.Pow.{pow-mono}
 use Rattle.lists.specs.Lists.{part, splice, sum}
 use Rattle.bits.specs.Bits.{bits}
@@ -64,6 +64,10 @@ module _ (s : List ℕ) (a : accepted s ≡ true) where
     sums : sumOf s p ≡ sum (page e xs p)
     sums = ap (λ (z : List ℕ). sumOf z p) same ∙ sum-is e xs limits p inside
 
+    -- what its root is above the coins before it
+    pub sum-above : root e xs p ≡ sum (take (2 ^ e * p) xs) + sumOf s p
+    sum-above = omega (arith, sums, page-sum e xs p)
+
     tree-there : part (bits s) (treeAt s p) (reserve e (sum (page e xs p))) ≡ tree e (page e xs p)
     tree-there = ap (λ (z : List ℕ). part (bits z) (treeAt z p) (reserve e (sum (page e xs p)))) same ∙ tree-is e xs limits p inside
 
@@ -109,21 +113,21 @@ unfolding beforeOf
 before-next s zero l = absurd (omega arith)
 before-next s (suc p) l = ap (rootOf s) {x = suc p - 1} {y = p} (omega arith)
 
--- what was read of it and of the header: its root r, the root x before it, its start bit b, and a root's width w
-pub record Numbers (s : List ℕ) (h : Head) (p r x b w : ℕ) : Type 0 where
+-- its sum, by its root and the one before it
+pub sum-read : (s : List ℕ) (p : ℕ) {r x : ℕ} → r ≡ rootOf s p → x ≡ beforeOf s p → r - x ≡ sumOf s p
+unfolding sumOf
+sum-read s p er ex = ap₂ _-_ er ex
+
+-- what was read of it and of the header: its sum t, its start bit b, and a root's width w
+pub record Numbers (s : List ℕ) (h : Head) (p t b w : ℕ) : Type 0 where
   pub page : Page s p
   pub head : HeadOf s h
-  pub root-is : r ≡ rootOf s p
-  pub before-is : x ≡ beforeOf s p
+  pub sum-is : t ≡ sumOf s p
   pub start-is : b ≡ startOf s p
   pub width-is : w ≡ widthOf s
 
 -- its tree: what decoding asks, and what it gives
-module _ {s : List ℕ} {h : Head} {p r x b w : ℕ} (n : Numbers s h p r x b w) where
-  sum-same : r - x ≡ sumOf s p
-  unfolding sumOf
-  sum-same = ap₂ _-_ (n .root-is) (n .before-is)
-
+module _ {s : List ℕ} {h : Head} {p t b w : ℕ} (n : Numbers s h p t b w) where
   tree-same : h .code + b + w ≡ treeAt s p
   unfolding treeAt
   tree-same = omega (arith, n .head .code-is, n .start-is, n .width-is)
@@ -131,28 +135,28 @@ module _ {s : List ℕ} {h : Head} {p r x b w : ℕ} (n : Numbers s h p r x b w)
   pub tree-small : h .code + b + w ≤ 4295491711
   tree-small = omega (arith, n .page .code-low, n .page .end-low, n .head .code-is, n .start-is, n .width-is)
 
-  pub tree-lies : Lies s (h .code + b + w) (h .e) (r - x)
+  pub tree-lies : Lies s (h .code + b + w) (h .e) t
   tree-lies =
       let g = n .page in
-      let own : reserve (h .e) (r - x) ≡ reserve (eOf s) (sumOf s p) = ap₂ reserve (n .head .e-is) sum-same in
+      let own : reserve (h .e) t ≡ reserve (eOf s) (sumOf s p) = ap₂ reserve (n .head .e-is) (n .sum-is) in
       record {
         height = omega (arith, g .e-high, n .head .e-is);
-        total = omega (arith, sum-same, g .sum-small);
+        total = omega (arith, n .sum-is, g .sum-small);
         long = omega (arith, g .entry-in);
         inside = omega (arith, g .end-in, n .head .code-is, n .start-is, n .width-is);
         small = omega (arith, g .end-low, g .code-low, n .head .code-is, n .start-is, n .width-is);
       }
 
-  pub tree-coded : exact (h .e) (r - x) (bits s) (h .code + b + w) ≡ true
-  tree-coded = ap₂ (λ (y z : ℕ). exact y z (bits s) (h .code + b + w)) (n .head .e-is) sum-same ∙ ap (exact (eOf s) (sumOf s p) (bits s)) tree-same ∙ n .page .coded
+  pub tree-coded : exact (h .e) t (bits s) (h .code + b + w) ≡ true
+  tree-coded = ap₂ (λ (y z : ℕ). exact y z (bits s) (h .code + b + w)) (n .head .e-is) (n .sum-is) ∙ ap (exact (eOf s) (sumOf s p) (bits s)) tree-same ∙ n .page .coded
 
-  pub sum-fits : r - x < 4294967296
-  sum-fits = omega (arith, sum-same, n .page .sum-small)
+  pub sum-fits : t < 4294967296
+  sum-fits = omega (arith, n .sum-is, n .page .sum-small)
 
   pub room : (k : ℕ) → 256 ≤ k → 0 + 2 ^ h .e ≤ k
   room k l = omega (arith, pow-mono {i = h .e} {j = 8} (omega (arith, n .page .e-high, n .head .e-is)))
 
-  pub decoded : (o o₁ : List ℕ) → o₁ ≡ splice o 0 (counts (h .e) (r - x) (bits s) (h .code + b + w)) → o₁ ≡ splice o 0 (page (eOf s) (listOf s) p)
+  pub decoded : (o o₁ : List ℕ) → o₁ ≡ splice o 0 (counts (h .e) t (bits s) (h .code + b + w)) → o₁ ≡ splice o 0 (page (eOf s) (listOf s) p)
   decoded o o₁ q =
-      q ∙ ap (splice o 0) (ap₂ (λ (y z : ℕ). counts y z (bits s) (h .code + b + w)) (n .head .e-is) sum-same
+      q ∙ ap (splice o 0) (ap₂ (λ (y z : ℕ). counts y z (bits s) (h .code + b + w)) (n .head .e-is) (n .sum-is)
       ∙ ap (counts (eOf s) (sumOf s p) (bits s)) tree-same ∙ n .page .counts-are)

@@ -13,7 +13,7 @@ ghost use Rattle.sum_table.specs.Code.Sums.{Sums};
 ghost use Rattle.image.specs.Check.{accepted};
 ghost use Rattle.image.specs.Code.Head.{HeadOf};
 ghost use Rattle.image.specs.Image.{page, root};
-ghost use Rattle.image.specs.Read.{beforeOf, eOf, listOf, pagesOf, rootOf, startOf, widthOf};
+ghost use Rattle.image.specs.Read.{beforeOf, eOf, listOf, pagesOf, rootOf, startOf, sumOf, widthOf};
 
 // Where page p starts in the code, from the table.
 fn start_of(s: &[u8], h: Head, p: usize) -> usize
@@ -50,15 +50,24 @@ pub fn page_root(s: &[u8], h: Head, p: usize) -> u64
     known_root(s, h, reserve::digits_of(h.total), p)
 }
 
-// Puts the 2^e counts of page p of the image s, whose header is h, at the front of counts, zeros from hour N on among them. What stands
-// in counts behind them is left as it is. The table of small sums is lent.
+// Puts the 2^e counts of page p of the image s, whose header is h, at the front of counts, zeros from hour N on among them; the page's sum is
+// known. What stands in counts behind them is left as it is. The table of small sums is lent.
+pub fn counts_of(s: &[u8], table: &[u8; 704], h: Head, p: usize, sum: u64, counts: &mut [u32; 256])
+    requires { ⌜ (accepted (now s) ≡ true) × HeadOf (now s) h × (p < pagesOf (now s)) × (length (now counts) ≡ 256) ⌝ }
+    requires { ⌜ Sums (now table) × (sum ≡ sumOf (now s) p) ⌝ }
+    ensures { λ _. ⌜ now (counts .exit) ≡ splice (now (counts .entry)) 0 (page (eOf (now (s .entry))) (listOf (now (s .entry))) p) ⌝ }
+{
+    let w = reserve::digits_of(h.total);
+    let tree = h.code + start_of(s, h, p) + (w as usize);
+    decode(s, table, tree, h.e, sum, counts, 0);
+}
+
+// The same, where the sum is what the page's root is above the one before.
 pub fn page_counts(s: &[u8], table: &[u8; 704], h: Head, p: usize, counts: &mut [u32; 256])
     requires { ⌜ (accepted (now s) ≡ true) × HeadOf (now s) h × (p < pagesOf (now s)) × (length (now counts) ≡ 256) × Sums (now table) ⌝ }
     ensures { λ _. ⌜ now (counts .exit) ≡ splice (now (counts .entry)) 0 (page (eOf (now (s .entry))) (listOf (now (s .entry))) p) ⌝ }
 {
     let w = reserve::digits_of(h.total);
-    let root = known_root(s, h, w, p);
-    let before = known_before(s, h, w, p);
-    let tree = h.code + start_of(s, h, p) + (w as usize);
-    decode(s, table, tree, h.e, root - before, counts, 0);
+    let sum = known_root(s, h, w, p) - known_before(s, h, w, p);
+    counts_of(s, table, h, p, sum, counts);
 }

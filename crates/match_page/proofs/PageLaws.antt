@@ -6,19 +6,20 @@ use Prim.Native.Nat.{ℕ, suc, _+_, _-_, _*_, _/_, _%_, _^_, _≤_, _<_}
 use native.Mathlib.Nat.{add-mod-right, mul-suc, zero-mod}
 use native.Mathlib.Decide.{decLe}
 use native.Mathlib.Omega.{arith}
-use lib.ListN.{length, getD, drop}
+use lib.ListN.{length, getD, take, drop}
 use lib.Seq.{take-all}
 use Rattle.lists.specs.Lists.{reading, sum}
 use Rattle.lists.proofs.Sums.{sum-take-le}
 use Rattle.image.specs.Check.{accepted}
 use Rattle.image.specs.Code.Head.{HeadOf}
 use Rattle.image.specs.Image.{root}
-use Rattle.image.specs.Read.{eOf, listOf}
+use Rattle.image.specs.Read.{eOf, listOf, sumOf}
 use Rattle.image.specs.declared.head.Head.{Head}
 use Rattle.image.proofs.Accepted.{accepted-only, length-list}
 use Rattle.image.proofs.PageLaws.{hour-low, hour-split}
 use Rattle.image_cursor.specs.Code.Cursor.{Ahead, Ready}
-use Rattle.image_cursor.proofs.CursorLaws.{count-of, page-small as pages-small}
+use Rattle.image_page.proofs.AcceptedPage.{sum-above}
+use Rattle.image_cursor.proofs.CursorLaws.{count-of, page-in, page-small as pages-small}
 use Rattle.runs.specs.Runs.{runSum}
 use Rattle.runs.proofs.PrefixSums.{reading-grows, reading-held, run-reading}
 use Rattle.sum_marks.specs.Code.Marks.{Marked}
@@ -83,12 +84,18 @@ module _ (s : List ℕ) (a : accepted s ≡ true) {h : Head} (o : HeadOf s h) wh
       above : r ≡ b + runSum (listOf s) first n
       above = omega (arith, root-reading first r e, ends, run-reading (listOf s) first n)
 
+      sum-is : r - b ≡ sumOf s p
+      sum-is =
+          let g : 2 ^ eOf s * p ≡ first = ap (λ (z : ℕ). 2 ^ z * p) (sym (o .e-is)) ∙ starts in
+          omega (arith, e, f, sum-above s a p (page-in s o first l), ap (λ (z : ℕ). sum (take z (listOf s))) g)
+
       pub front-page-is : (stamp : ℕ) → FrontPageOf s h (record { first = first; hours = n; sum = r - b; stamp = stamp })
       front-page-is stamp = record {
         logged = l;
         meets = z;
         whole = d;
         run-is = record { inside = omega (arith, d .inside, hours); sum-is = omega (arith, above) };
+        sum-of = sum-is;
       }
 
   -- its counts read, and their sums marked

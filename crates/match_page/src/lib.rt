@@ -1,7 +1,7 @@
 // The page at the front, where runs may end: its sum by its root, and its counts read and their sums marked.
 use image::head::Head;
 use image_cursor::cursor::ahead;
-use image_cursor::cursor::read_page;
+use image_page::counts_of;
 use image_page::page_root;
 use sum_marks::marks::mark;
 ghost use mathlib.Core.Bool.{true};
@@ -57,6 +57,7 @@ pub fn mark_page(
     requires { ⌜ (length (now counts) ≡ 256) × (length (now marks) ≡ marksLength) × Sums (now table) ⌝ }
     ensures { λ _. ⌜ InHand (listOf (now (s .entry))) page (now (counts .exit)) (now (marks .exit)) × (length (now (counts .exit)) ≡ 256) ⌝ }
 {
-    read_page(s, table, h, page.first, counts);
+    let p = page.first >> h.e;
+    counts_of(s, table, h, p as usize, page.sum, counts);
     mark(counts, page.hours, page.stamp, marks);
 }

@@ -7,6 +7,7 @@ use tree::node::fours_in_words;
 use tree::node::one_word;
 use tree::node::root_by_shifts;
 use tree_word::eight;
+use tree_word::eight_of;
 use tree_word::four;
 use tree_word::whole::decode_word;
 use tree_word::whole::fits;
@@ -57,7 +58,7 @@ fn low_node(
     ensures { λ _. ⌜ now (out .exit) ≡ splice (now (out .entry)) from (counts h s (bits (now (now (b .entry)))) at) ⌝ }
 {
     if eight_in_table(h, s) {
-        eight(front::load(*b, at), table, s, out, from);
+        eight_of(front::load(*b, at), table, s, out, from);
         return;
     }
     if fours_in_words(h, s) {

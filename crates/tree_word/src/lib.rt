@@ -72,6 +72,18 @@ fn four_small(w: u64, table: &[u8; 704], s: u64, out: &mut [u32; 256], from: usi
 }
 
 // The eight counts with sum s below 256, which own 52 bits at most. The right four stand behind the left sum and the left four.
+pub fn eight_of(w: u64, table: &[u8; 704], s: u64, out: &mut [u32; 256], from: usize)
+    requires { ⌜ Sums (now table) × (exact 3 s (field 64 w) 0 ≡ true) × (s < 256) × (length (now out) ≡ 256) × (from + 8 ≤ 256) ⌝ }
+    ensures { λ _. ⌜ now (out .exit) ≡ splice (now (out .entry)) from (counts 3 s (field 64 w) 0) ⌝ }
+{
+    let t = digits_in(table, s);
+    let left = front::part(w, 0, t);
+    four_small(w << t, table, left, out, from);
+    let k = t + four_in(table, left);
+    four_small(w << k, table, s - left, out, from + 4);
+}
+
+// The same, where a sum of 0 is told first. The compiler puts this test where it is called, so that empty eights need no call.
 pub fn eight(w: u64, table: &[u8; 704], s: u64, out: &mut [u32; 256], from: usize)
     requires { ⌜ Sums (now table) × (exact 3 s (field 64 w) 0 ≡ true) × (s < 256) × (length (now out) ≡ 256) × (from + 8 ≤ 256) ⌝ }
     ensures { λ _. ⌜ now (out .exit) ≡ splice (now (out .entry)) from (counts 3 s (field 64 w) 0) ⌝ }
@@ -80,11 +92,7 @@ pub fn eight(w: u64, table: &[u8; 704], s: u64, out: &mut [u32; 256], from: usiz
         zeros(out, from, 8);
         return;
     }
-    let t = digits_in(table, s);
-    let left = front::part(w, 0, t);
-    four_small(w << t, table, left, out, from);
-    let k = t + four_in(table, left);
-    four_small(w << k, table, s - left, out, from + 4);
+    eight_of(w, table, s, out, from);
 }
 
 // The sixteen counts with sum s, which own 57 bits at most.

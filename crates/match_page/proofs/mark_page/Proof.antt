@@ -1,27 +1,48 @@
 -- `match_page::mark_page` meets its contract. Assumes nothing.
-use borrow.Author.Needs.{needs}
+use native.Mathlib.Omega.{arith}
+use Rattle.image_cursor.specs.Code.Cursor.{Ready}
+use Rattle.image_cursor.proofs.CursorLaws.{page-in, ready-read, small}
 use Rattle.match_page.proofs.PageLaws.{held-long, held-page, held-small}
+use borrow.Author.Needs.{needs}
 use Rattle.match_page.proofs.mark_page.Statement.{statement}
 use Rattle.match_page.proofs.mark_page.Tie as tie
 
-read-page-requires : tie.Need-read-page-requires
-read-page-requires c κs = search needs
+-- where the page's counts were read
+module _ (c : tie.After-counts-of) where
+  abbrev call : tie.Start
+  call = c .before .before .before .before .before .before
+
+  read : Ready (call .args .s .now) (call .args .page .first) (c .counts-of .last .1 .1 .1 .1 .1 .0)
+  read = let q = call .pre in ready-read _ (q .0 .1) (q .0 .0) (call .args .page .first) _ _ (q .1 .0) (c .counts-of .ensures)
+
+cast-p : tie.Need-cast-p
+cast-p c = search needs
+
+shr-p : tie.Need-shr-p
+shr-p c = let a = c .before .before .before .before .pre .0 in omega (arith, small _ (a .1) (a .0))
+
+counts-of-requires : tie.Need-counts-of-requires
+counts-of-requires c κs =
+    let q = c .before .before .before .before .before .pre in
+    let a = q .0 in
+    ((a .0, a .1, page-in _ (a .1) _ (a .2 .logged), q .1 .0), (q .1 .2, a .2 .sum-of))
 
 mark-requires : tie.Need-mark-requires
 mark-requires c κs =
-    let a = c .before .before .before .before .before .before .before .pre in
-    let g = a .0 .2 in
-    let r = c .before .before .before .read-page .ensures in
-    (held-long _ (a .0 .0) (a .0 .1) _ _ g r, held-small _ (a .0 .0) (a .0 .1) _ _ g r, a .1 .1)
+    let k = c .before .before .before in
+    let q = call k .pre in
+    let a = q .0 in
+    (held-long _ (a .0) (a .1) _ _ (a .2) (read k), held-small _ (a .0) (a .1) _ _ (a .2) (read k), q .1 .1)
 
 same-length : tie.Need-same-length
 same-length c = search needs
 
 returns : tie.Need-returns
 returns c =
-    let a = c .before .before .before .before .before .before .before .before .before .before .pre in
-    let r = c .before .before .before .before .before .before .read-page .ensures in
-    (held-page _ (a .0 .0) (a .0 .1) _ _ (a .0 .2) r _ (c .before .before .mark .ensures), r .long)
+    let k = c .before .before .before .before .before .before in
+    let a = call k .pre .0 in
+    (held-page _ (a .0) (a .1) _ _ (a .2) (read k) _ (c .before .before .mark .ensures), read k .long)
 
 pub mark-page-spec : {M : Type 1} → statement M
-mark-page-spec = tie.close (tie.spec read-page-requires mark-requires same-length returns)
+mark-page-spec =
+    tie.close (tie.spec cast-p shr-p counts-of-requires mark-requires same-length returns)

@@ -1,10 +1,10 @@
 -- The page at the front, where runs may end. Assumes nothing.
 use mathlib.Core.List.{List}
 use mathlib.Core.Path.{_≡_}
-use Prim.Native.Nat.{ℕ, _+_, _%_, _^_, _≤_, _<_}
+use Prim.Native.Nat.{ℕ, _+_, _/_, _%_, _^_, _≤_, _<_}
 use lib.ListN.{length, drop}
 use Rattle.lists.specs.Lists.{reading}
-use Rattle.image.specs.Read.{listOf}
+use Rattle.image.specs.Read.{listOf, sumOf}
 use Rattle.image.specs.declared.head.Head.{Head}
 use Rattle.image_cursor.specs.Code.Cursor.{Ahead}
 use Rattle.runs.specs.Runs.{runSum}
@@ -31,6 +31,7 @@ pub record FrontPageOf (s : List ℕ) (h : Head) (page : FrontPage) : Type 0 whe
   pub meets : page .first % 2 ^ h .e ≡ 0
   pub whole : Ahead h (page .first) (page .hours)
   pub run-is : RunOf (listOf s) page
+  pub sum-of : page .sum ≡ sumOf s (page .first / 2 ^ h .e)
 
 -- the page in an array and a table of marks
 pub record InHand (xs : List ℕ) (page : FrontPage) (counts marks : List ℕ) : Type 0 where

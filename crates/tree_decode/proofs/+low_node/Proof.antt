@@ -26,7 +26,7 @@ use Rattle.tree.proofs.node.one_word.Reads as one-word-reads
 use Rattle.tree.proofs.node.root_by_shifts.Reads as root-by-shifts-reads
 use Rattle.tree_decode.proofs.eight_in_table.Reads as eight-in-table-reads
 use Rattle.tree_decode.proofs.fours.Reads as fours-reads
-use Rattle.tree_word.proofs.eight.Reads as eight-reads
+use Rattle.tree_word.proofs.eight_of.Reads as eight-of-reads
 use Rattle.tree_word.proofs.four.Reads as four-reads
 use Rattle.tree_decode.proofs.+low_node.{statement}
 use Rattle.tree_decode.proofs.+low_node.Tie.{close}
@@ -47,8 +47,8 @@ callees t = (
   eight-in-table-reads.Learnt,
   load-reads.Asked,
   load-reads.Learnt,
-  eight-reads.Asked,
-  eight-reads.Learnt,
+  eight-of-reads.Asked,
+  eight-of-reads.Learnt,
   fours-in-words-reads.Asked,
   fours-in-words-reads.Learnt,
   fours-reads.Asked,
@@ -133,8 +133,8 @@ low-node-eight-in-table-requires t c κs = search needs
 low-node-load-requires : (t : ℕ) → low-node-lts.Need-load-requires (callees t) (low-node-at t) low-node.Post
 low-node-load-requires t c κs = search needs
 
-low-node-eight-requires : (t : ℕ) → low-node-lts.Need-eight-requires (callees t) (low-node-at t) low-node.Post
-low-node-eight-requires t c κs =
+low-node-eight-of-requires : (t : ℕ) → low-node-lts.Need-eight-of-requires (callees t) (low-node-at t) low-node.Post
+low-node-eight-of-requires t c κs =
     let d = c .before in
     let q = eights-of t d in
     let p = q .pre .1 in
@@ -147,7 +147,7 @@ low-node-returns t c =
     let q = eights-of t d in
     let p = q .pre .1 in
     let f = eight-few t d in
-    eight-written (f .0) (f .1) (p .0 .1) (p .0 .2) _ (d .load .ensures) (q .args .out .now) _ (q .args .from) (c .eight .ensures)
+    eight-written (f .0) (f .1) (p .0 .1) (p .0 .2) _ (d .load .ensures) (q .args .out .now) _ (q .args .from) (c .eight-of .ensures)
 
 low-node-fours-in-words-requires : (t : ℕ) → low-node-lts.Need-fours-in-words-requires (callees t) (low-node-at t) low-node.Post
 low-node-fours-in-words-requires t c κs = search needs
@@ -252,7 +252,7 @@ pub +low-node-spec : {M : Type 1} → statement M
     low-node.Post
     (low-node-eight-in-table-requires t)
     (low-node-load-requires t)
-    (low-node-eight-requires t)
+    (low-node-eight-of-requires t)
     (low-node-returns t)
     (low-node-fours-in-words-requires t)
     (low-node-fours-requires t)
