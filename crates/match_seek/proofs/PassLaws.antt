@@ -1,7 +1,7 @@
 -- Hours of an accepted image passed over, in the numbers that the code has. Assumes nothing.
 use mathlib.Core.Bool.{true}
 use mathlib.Core.List.{List}
-use mathlib.Core.Path.{_≡_, ap}
+use mathlib.Core.Path.{_≡_, refl, sym, ap, _∙_, subst}
 use Prim.Native.Nat.{ℕ, _+_, _%_, _^_, _≤_, _<_}
 use native.Mathlib.Omega.{arith}
 use lib.ListN.{length, getD}
@@ -14,16 +14,11 @@ use Rattle.image_cursor.proofs.CursorLaws.{count-of, place-in}
 use Rattle.runs.specs.Code.{NoneBefore}
 use Rattle.sum_marks.specs.Code.Marks.{Unmarked}
 use Rattle.match_page.specs.Code.Page.{MarksOf, RunOf}
-use Rattle.match_seek.specs.Code.Seek.{Later, Seeks}
+use Rattle.match_seek.specs.Code.Seek.{Later, Passing, Seeks}
 use Rattle.match_seek.specs.declared.Aim.{Aim}
 use Rattle.match_page.specs.declared.FrontPage.{FrontPage}
 use Rattle.match_page.proofs.PageLaws.{hours}
 use Rattle.match_seek.proofs.SeekLaws.{over-unmarked, seeks-on}
-
--- i hours from lo on are passed over, and the next is as well
-abbrev pub Passing : List ℕ → ℕ → FrontPage → ℕ → ℕ → ℕ → Type 0
-Passing xs q page lo i want =
-    Seeks xs q (page .first) (record { lo = lo + i; want = want }) × (want ≤ page .sum) × NoneBefore xs q (lo + i + 1)
 
 pub passing-first : (xs : List ℕ) (q : ℕ) (page : FrontPage) (at : Aim) → Seeks xs q (page .first) at → at .want ≤ page .sum
     → NoneBefore xs q (at .lo + 1) → Passing xs q page (at .lo) 0 (at .want)
@@ -76,3 +71,24 @@ module _ (s : List ℕ) (a : accepted s ≡ true) {h : Head} (o : HeadOf s h) (l
     passing-on marks g v l m u =
         let x = ends-here l .seeks in
         (x, m, over-unmarked (listOf s) q page g _ x m marks v u)
+
+  -- four of them
+  module _ (q : ℕ) (page : FrontPage) (back : List ℕ) (r : Ready s lo back) (marks : List ℕ) (g : RunOf (listOf s) page) (v : MarksOf (listOf s) page marks) where
+    -- the next hour, by its place j and what is then wanted
+    passing-at : (i want j x : ℕ) → Passing (listOf s) q page lo i want → j ≡ p + i → x ≡ want + getD back j 0 → i < n → x ≤ page .sum
+        → Unmarked marks (page .stamp) x → Passing (listOf s) q page lo (i + 1) x
+    passing-at i want j x w ej ex l m u =
+        let f : x ≡ want + getD back (p + i) 0 = ex ∙ ap (λ (z : ℕ). want + getD back z 0) ej in
+        subst (Passing (listOf s) q page lo (i + 1)) (sym f)
+        (passing-on q page back r want i w marks g v l (omega (arith, f)) (subst (Unmarked marks (page .stamp)) f u))
+
+    pub passing-four : (i want : ℕ) → Passing (listOf s) q page lo i want → i + 4 ≤ n → (x y z t : ℕ) → x ≡ want + getD back (p + i) 0
+        → y ≡ x + getD back (p + i + 1) 0 → z ≡ y + getD back (p + i + 2) 0 → t ≡ z + getD back (p + i + 3) 0 → t ≤ page .sum
+        → Unmarked marks (page .stamp) x × Unmarked marks (page .stamp) y × Unmarked marks (page .stamp) z × Unmarked marks (page .stamp) t
+        → Passing (listOf s) q page lo (i + 4) t
+    passing-four i want w l x y z t ex ey ez et m u =
+        let one = passing-at i want (p + i) x w refl ex (omega arith) (omega arith) (u .0) in
+        let two = passing-at (i + 1) x (p + i + 1) y one (omega arith) ey (omega arith) (omega arith) (u .1) in
+        let three = passing-at (i + 1 + 1) y (p + i + 2) z two (omega arith) ez (omega arith) (omega arith) (u .2) in
+        subst (λ (k : ℕ). Passing (listOf s) q page lo k t) {x = i + 1 + 1 + 1 + 1} {y = i + 4} (omega arith)
+        (passing-at (i + 1 + 1 + 1) z (p + i + 3) t three (omega arith) et (omega arith) m (u .3))

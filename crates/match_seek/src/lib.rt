@@ -8,22 +8,23 @@ use image_cursor::cursor::ahead;
 use image_cursor::cursor::turn;
 use match_page::FrontPage;
 use match_page::mark_page;
+use sum_marks::marks::any_carries;
 use sum_marks::marks::carries;
 use sum_marks::prefix::Prefix;
 use sum_marks::prefix::attempt;
 ghost use mathlib.Core.Bool.{true};
 ghost use mathlib.Core.Path.{_≡_};
-ghost use Prim.Native.Nat.{_+_, _≤_};
+ghost use Prim.Native.Nat.{_+_, _-_, _%_, _^_, _≤_};
 ghost use lib.ListN.{length};
 ghost use Rattle.sum_table.specs.Code.Sums.{Sums};
 ghost use Rattle.image.specs.Check.{accepted};
 ghost use Rattle.image.specs.Code.Head.{HeadOf};
 ghost use Rattle.image.specs.Read.{listOf};
-ghost use Rattle.image_cursor.specs.Code.Cursor.{Ready};
+ghost use Rattle.image_cursor.specs.Code.Cursor.{Ahead, Ready};
 ghost use Rattle.runs.specs.Code.{NoneBefore};
 ghost use Rattle.sum_marks.specs.Code.Marks.{marksLength};
 ghost use Rattle.match_page.specs.Code.Page.{FrontPageOf, InHand, MarksOf, RunOf};
-ghost use Rattle.match_seek.specs.Code.Seek.{Brings, Later, Seeks};
+ghost use Rattle.match_seek.specs.Code.Seek.{Brings, Later, Passing, Seeks};
 
 // The first hour of the runs that are tried, and how many coins more than before the page at the front are wanted where one of them ends.
 pub struct Aim {
@@ -37,6 +38,46 @@ pub enum PageSearch {
     Beyond(Aim),
 }
 
+// Passes over hour lo, and over the next ones of the n from it on, four at a time, as long as none of the four may be met: two jumps for four
+// hours. The first count is at place b of back.
+fn skip(
+    s: &[u8],
+    h: Head,
+    q: u64,
+    page: FrontPage,
+    at: Aim,
+    marks: &[u8],
+    back: &[u32],
+    b: usize,
+    n: usize,
+) -> Aim
+    requires { ⌜ (accepted (now s) ≡ true) × HeadOf (now s) h × RunOf (listOf (now s)) page ⌝ }
+    requires { ⌜ Passing (listOf (now s)) q page (at .lo) 0 (at .want) × Ahead h (at .lo) n × (b ≡ at .lo % 2 ^ h .e) ⌝ }
+    requires { ⌜ Ready (now s) (at .lo) (now back) × MarksOf (listOf (now s)) page (now marks) ⌝ }
+    ensures { λ r. ⌜ (at .lo ≤ r .lo) × (r .lo - at .lo ≤ n) × Passing (listOf (now (s .entry))) q page (at .lo) (r .lo - at .lo) (r .want) ⌝ }
+{
+    let mut want = at.want;
+    let mut i = 0;
+    while i + 4 <= n {
+        let first = want + (back[b + i] as u64);
+        let second = first + (back[b + i + 1] as u64);
+        let third = second + (back[b + i + 2] as u64);
+        let fourth = third + (back[b + i + 3] as u64);
+        if page.sum < fourth {
+            break;
+        }
+        if any_carries(marks, first, second, third, fourth, page.stamp) {
+            break;
+        }
+        want = fourth;
+        i = i + 4;
+    }
+    Aim {
+        lo: at.lo + (i as u64),
+        want,
+    }
+}
+
 // Passes over hour lo, and over the next ones of its page, which back has, until the coins that one wants may be met in the page at the front,
 // or are more than this has.
 fn pass(s: &[u8], h: Head, q: u64, page: FrontPage, at: Aim, marks: &[u8], back: &[u32]) -> Aim
@@ -47,8 +88,9 @@ fn pass(s: &[u8], h: Head, q: u64, page: FrontPage, at: Aim, marks: &[u8], back:
 {
     let b = low_bits(at.lo, h.e) as usize;
     let n = ahead(h, at.lo);
-    let mut want = at.want;
-    let mut i = 0;
+    let gone = skip(s, h, q, page, at, marks, back, b, n);
+    let mut want = gone.want;
+    let mut i = (gone.lo - at.lo) as usize;
     while i < n {
         want = want + (back[b + i] as u64);
         i = i + 1;

@@ -1,5 +1,5 @@
 -- Sums of counts, marked one after another, and looked up. Assumes nothing.
-use mathlib.Core.Bool.{false}
+use mathlib.Core.Bool.{Bool, false, true, _||_, true≢false}
 use mathlib.Core.List.{List}
 use mathlib.Core.Path.{_≡_, refl, ap, sym, _∙_}
 use Prim.Native.Nat.{ℕ, _+_, _%_, _≤_, _<_}
@@ -64,3 +64,11 @@ unmarked marks stamp t e xs n m k a b g =
 pub sum-fits : (xs : List ℕ) (n i t : ℕ) → n ≤ length xs → reading xs n ≤ 4294967295 → i < n → t ≡ reading xs i
     → t + getD xs i 0 < 18446744073709551616
 sum-fits xs n i t l h b e = omega (arith, reading-next xs i (omega arith), reading-grows xs (i + 1) n (omega arith))
+
+-- none of four
+pub none-of : (a b c d : Bool) → (a || b) || (c || d) ≡ false → (a ≡ false) × (b ≡ false) × (c ≡ false) × (d ≡ false)
+none-of false false false false e = (refl, refl, refl, refl)
+none-of false false false true e = absurd (true≢false e)
+none-of false false true d e = absurd (true≢false e)
+none-of false true c d e = absurd (true≢false e)
+none-of true b c d e = absurd (true≢false e)

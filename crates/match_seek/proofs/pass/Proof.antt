@@ -6,7 +6,8 @@ use borrow.Author.Needs.{needs}
 use Rattle.image.specs.Read.{listOf}
 use Rattle.image_cursor.proofs.CursorLaws.{small}
 use Rattle.match_page.proofs.PageLaws.{hours, page-small}
-use Rattle.match_seek.proofs.PassLaws.{Passing, ends-all, ends-as, ends-here, later-of, passing-first, passing-on, place-here}
+use Rattle.match_seek.specs.Code.Seek.{Passing}
+use Rattle.match_seek.proofs.PassLaws.{ends-all, ends-as, ends-here, later-of, passing-first, passing-on, place-here}
 use Rattle.match_seek.proofs.SeekLaws.{first-low}
 use Rattle.match_seek.proofs.pass.Statement.{statement}
 use Rattle.match_seek.proofs.pass.Tie as tie
@@ -27,43 +28,50 @@ ahead-requires c κs =
     let a = c .before .before .before .before .pre in
     (small _ (a .0 .1) (a .0 .0), a .0 .1 .hours-small, omega (arith, a .1 .0 .0 .inside, hours _ (a .0 .0) (a .0 .1)))
 
-loop-holds : tie.Need-loop-holds Inv-loop μ-loop
-loop-holds c =
+skip-requires : tie.Need-skip-requires Inv-loop μ-loop
+skip-requires c κs =
     let g = c .before .before .before .before .before in
-    let a = g .pre .1 .0 in
-    (omega arith, passing-first _ _ (g .args .page) _ (a .0) (a .1) (a .2))
+    let a = g .pre in
+    let f = passing-first _ _ (g .args .page) _ (a .1 .0 .0) (a .1 .0 .1) (a .1 .0 .2) in
+    ((a .0 .0, a .0 .1, a .0 .3), ((f, c .ahead .ensures, c .before .low-bits .ensures), a .1 .1))
+
+sub-i : tie.Need-sub-i Inv-loop μ-loop
+sub-i c = c .before .before .skip .ensures .0
+
+loop-holds : tie.Need-loop-holds Inv-loop μ-loop
+loop-holds c = let v = c .before .before .skip .ensures in (v .1, v .2)
 
 add-want : tie.Need-add-want Inv-loop μ-loop
 add-want c =
     let b = c .before in
-    let a = b .before .before .before .before .before .before .pre .0 in
-    let p = place-here _ (a .0) (a .1) _ _ _ (b .before .ahead .ensures) (b .before .before .low-bits .ensures) _ (c .loop-test .taken) in
+    let a = b .before .before .before .before .before .before .before .before .before .pre .0 in
+    let p = place-here _ (a .0) (a .1) _ _ _ (b .before .before .before .before .ahead .ensures) (b .before .before .before .before .before .low-bits .ensures) _ (c .loop-test .taken) in
     record { fits = omega (arith, p) }
 
 mul-want : tie.Need-mul-want Inv-loop μ-loop
 mul-want c =
     let b = c .before in
-    let a = b .before .before .before .before .before .before .pre .0 in
-    let p = place-here _ (a .0) (a .1) _ _ _ (b .before .ahead .ensures) (b .before .before .low-bits .ensures) _ (c .loop-test .taken) in
+    let a = b .before .before .before .before .before .before .before .before .before .pre .0 in
+    let p = place-here _ (a .0) (a .1) _ _ _ (b .before .before .before .before .ahead .ensures) (b .before .before .before .before .before .low-bits .ensures) _ (c .loop-test .taken) in
     record { fits = omega (arith, p) }
 
 shared-slice-read-want : tie.Need-shared-slice-read-want Inv-loop μ-loop
 shared-slice-read-want c =
     let b = c .before .before in
-    let a = b .before .before .before .before .before .before .pre in
-    let p = place-here _ (a .0 .0) (a .0 .1) _ _ _ (b .before .ahead .ensures) (b .before .before .low-bits .ensures) _ (c .before .loop-test .taken) in
+    let a = b .before .before .before .before .before .before .before .before .before .pre in
+    let p = place-here _ (a .0 .0) (a .0 .1) _ _ _ (b .before .before .before .before .ahead .ensures) (b .before .before .before .before .before .low-bits .ensures) _ (c .before .loop-test .taken) in
     omega (arith, p, a .1 .1 .0 .long)
 
 cast-want : tie.Need-cast-want Inv-loop μ-loop
 cast-want c =
     let b = c .before .before in
-    omega (arith, c .shared-slice-known4 .given (b .before .before .low-bits .result + b .loop .i))
+    omega (arith, c .shared-slice-known4 .given (b .before .before .before .before .before .low-bits .result + b .loop .i))
 
 add-want-2 : tie.Need-add-want-2 Inv-loop μ-loop
 add-want-2 c =
     let b = c .before .before in
-    let a = b .before .before .before .before .before .before .pre .0 in
-    let v = c .shared-slice-known4 .given (b .before .before .low-bits .result + b .loop .i) in
+    let a = b .before .before .before .before .before .before .before .before .before .pre .0 in
+    let v = c .shared-slice-known4 .given (b .before .before .before .before .before .low-bits .result + b .loop .i) in
     record { fits = omega (arith, v, b .loop .inv .1 .1, page-small _ (a .0) (a .1) _ (a .3)) }
 
 add-i : tie.Need-add-i Inv-loop μ-loop
@@ -72,7 +80,7 @@ add-i c = search needs
 carries-requires : tie.Need-carries-requires Inv-loop μ-loop
 carries-requires c κs =
     let b = c .before .before .before .before in
-    b .before .before .before .before .before .before .pre .1 .1 .1 .long
+    b .before .before .before .before .before .before .before .before .before .pre .1 .1 .1 .long
 
 loop-less : tie.Need-loop-less Inv-loop μ-loop
 loop-less c = search needs
@@ -80,10 +88,10 @@ loop-less c = search needs
 loop-again : tie.Need-loop-again Inv-loop μ-loop
 loop-again c =
     let b = c .before .before .before .before .before .before in
-    let g = b .before .before .before .before .before .before in
+    let g = b .before .before .before .before .before .before .before .before .before in
     let a = g .pre in
-    let k = b .before .ahead .ensures in
-    let m = b .before .before .low-bits .ensures in
+    let k = b .before .before .before .before .ahead .ensures in
+    let m = b .before .before .before .before .before .low-bits .ensures in
     let l = c .before .before .before .before .before .loop-test .taken in
     let u = c .before .carries .ensures (c .if2 .left) in (
       omega (arith, l),
@@ -93,10 +101,10 @@ loop-again c =
 returns : tie.Need-returns Inv-loop μ-loop
 returns c =
     let b = c .before .before .before in
-    let g = b .before .before .before .before .before .before in
+    let g = b .before .before .before .before .before .before .before .before .before in
     let a = g .pre in
-    let k = b .before .ahead .ensures in
-    let m = b .before .before .low-bits .ensures in
+    let k = b .before .before .before .before .ahead .ensures in
+    let m = b .before .before .before .before .before .low-bits .ensures in
     let v = b .loop .inv in
     let f = first-low _ _ _ (a .0 .3) _ (a .1 .0 .0) (a .1 .0 .1) (a .0 .2) in
     let y = ends-all _ (a .0 .0) (a .0 .1) _ _ _ k m _ (g .args .page) _ (a .1 .1 .0) _ _ (v .1) f (v .0) in
@@ -106,9 +114,9 @@ returns c =
     (⊎-elim (λ x. ends-as _ _ _ _ _ _ _ _ _ (x .4) (x .5) (n (x .0 .taken))) (λ x. ends-as _ _ _ _ _ _ _ _ _ (x .6) (x .7) (n (x .0 .taken))))
     (c .before .before .loop-test .came))
 
-add-t20 : tie.Need-add-t20 Inv-loop μ-loop
-add-t20 c =
-    let a = c .before .before .before .before .before .before .before .before .before .pre .0 in
+add-t21 : tie.Need-add-t21 Inv-loop μ-loop
+add-t21 c =
+    let a = c .before .before .before .before .before .before .before .before .before .before .before .before .pre .0 in
     record { fits = omega (arith, returns c .seeks .inside, hours _ (a .0) (a .1), a .1 .hours-small) }
 
 pub pass-spec : {M : Type 1} → statement M
@@ -119,6 +127,8 @@ pass-spec =
     μ-loop
     low-bits-requires
     ahead-requires
+    skip-requires
+    sub-i
     loop-holds
     add-want
     mul-want
@@ -129,5 +139,5 @@ pass-spec =
     carries-requires
     loop-less
     loop-again
-    add-t20
+    add-t21
     returns)

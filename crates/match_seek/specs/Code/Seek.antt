@@ -22,6 +22,11 @@ pub record Seeks (xs : List ℕ) (q first : ℕ) (at : Aim) : Type 0 where
   pub some : 1 ≤ at .want
   pub none-before : NoneBefore xs q (at .lo)
 
+-- i hours from lo on are passed over, and the next is as well: no run from it on has the sum
+abbrev pub Passing : List ℕ → ℕ → FrontPage → ℕ → ℕ → ℕ → Type 0
+Passing xs q page lo i want =
+    Seeks xs q (page .first) (record { lo = lo + i; want = want }) × (want ≤ page .sum) × NoneBefore xs q (lo + i + 1)
+
 -- where it stands some hours later, no further than at the first hour of the next page
 pub record Later (xs : List ℕ) (h : Head) (q first : ℕ) (at r : Aim) : Type 0 where
   pub seeks : Seeks xs q first r
