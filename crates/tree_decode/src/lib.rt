@@ -124,7 +124,7 @@ fn decode_node(
 }
 
 // Puts the counts of the tree of 2^h counts with sum s at bit at, which is some list's code, into out from index from on. The table of small
-// sums is lent.
+// sums is lent. A page with few coins needs no call of the recursion.
 pub fn decode(
     b: &[u8],
     table: &[u8; 704],
@@ -138,6 +138,10 @@ pub fn decode(
     requires { ⌜ (s < 4294967296) × (length (now out) ≡ 256) × (from + 2 ^ h ≤ 256) ⌝ }
     ensures { λ _. ⌜ now (out .exit) ≡ splice (now (out .entry)) from (counts h s (bits (now (b .entry))) at) ⌝ }
 {
+    if fits(h, s) {
+        decode_word(front::load(b, at), table, h, s, out, from);
+        return;
+    }
     if h < 4 {
         low_node(&b, table, at, h, s, out, from);
         return;
