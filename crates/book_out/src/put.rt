@@ -19,12 +19,13 @@ pub(crate) fn put_book(s: &[u8], table: &[u8; 704], h: Head, book: &mut [u8])
     ensures { λ _. ⌜ now (book .exit) ≡ splice (now (book .entry)) 0 (bookOf (listOf (now (s .entry)))) ⌝ }
 {
     let m = reserve::power(h.e) as usize;
+    let w = reserve::digits_of(h.total);
     let pages = h.pages as usize;
     let n = h.hours as usize;
     let mut counts = [0u32; 256];
     let mut p = 0;
     while p < pages {
-        page_counts(s, table, h, p, &mut counts);
+        page_counts(s, table, h.table, h.code, w, h.e, p, &mut counts);
         let from = m * p;
         let some = lists::smaller(m, n - from);
         put_hours(book, from, &counts, some);

@@ -37,7 +37,9 @@ pub fn read_page(s: &[u8], table: &[u8; 704], h: Head, i: u64, counts: &mut [u32
     if h.hours <= i {
         return;
     }
-    page_counts(s, table, h, (i >> h.e) as usize, counts);
+    let w = reserve::digits_of(h.total);
+    let p = (i >> h.e) as usize;
+    page_counts(s, table, h.table, h.code, w, h.e, p, counts);
 }
 
 // From hour i, whose page is in counts, n hours on: no further than to the first hour of the next page, which is then read.

@@ -20,6 +20,7 @@ use Rattle.image.specs.Code.Head.{HeadOf}
 use Rattle.image.specs.Image.{Limits, bytesFor, code, codeStart, image, page, pages, root, size, start, tableAt}
 use Rattle.image.specs.Read.{beforeOf, codeAt, eOf, listOf, pagesOf, rootOf, startOf, sumOf, treeAt, widthOf}
 use Rattle.image.specs.declared.head.Head.{Head}
+use Rattle.image_page.specs.Code.Places.{Places}
 use Rattle.image.proofs.Accepted.{accepted-only}
 use Rattle.image.proofs.ReadLaws.{before-is, code-is, length-image, pages-is, root-is, start-is, sum-is, tree-is, width-is}
 use Rattle.image.proofs.PageLaws.{code-most, length-page, page-le, page-sum, pages-few, start-within, width-most}
@@ -97,10 +98,10 @@ module _ (s : List ℕ) (a : accepted s ≡ true) where
               ∙ counts-tree e (page e xs p) (bits s) (treeAt s p) (length-page e xs p) tree-there;
         }
 
--- a root's width, as the code works it out
-pub head-width : {s : List ℕ} {h : Head} {w : ℕ} → HeadOf s h → w ≡ digits (h .total) → w ≡ widthOf s
+-- where the parts stand, as the code works it out of the header
+pub places : {s : List ℕ} {h : Head} {w : ℕ} → HeadOf s h → w ≡ digits (h .total) → Places s (h .table) (h .code) w
 unfolding widthOf
-head-width d q = q ∙ ap digits (d .total-is)
+places d q = record { entries-are = d .table-is; code-is = d .code-is; width-is = q ∙ ap digits (d .total-is) }
 
 -- page 0 has no page before it, another one has
 pub before-first : (s : List ℕ) (p : ℕ) → p ≡ 0 → 0 ≡ beforeOf s p
@@ -118,45 +119,39 @@ pub sum-read : (s : List ℕ) (p : ℕ) {r x : ℕ} → r ≡ rootOf s p → x �
 unfolding sumOf
 sum-read s p er ex = ap₂ _-_ er ex
 
--- what was read of it and of the header: its sum t, its start bit b, and a root's width w
-pub record Numbers (s : List ℕ) (h : Head) (p t b w : ℕ) : Type 0 where
+-- what was worked out of it: its sum t, and where its tree starts
+pub record Numbers (s : List ℕ) (e p t a : ℕ) : Type 0 where
   pub page : Page s p
-  pub head : HeadOf s h
+  pub e-is : e ≡ eOf s
   pub sum-is : t ≡ sumOf s p
-  pub start-is : b ≡ startOf s p
-  pub width-is : w ≡ widthOf s
+  pub tree-is : a ≡ treeAt s p
 
--- its tree: what decoding asks, and what it gives
-module _ {s : List ℕ} {h : Head} {p t b w : ℕ} (n : Numbers s h p t b w) where
-  tree-same : h .code + b + w ≡ treeAt s p
+-- what decoding asks, and what it gives
+module _ {s : List ℕ} {e p t a : ℕ} (n : Numbers s e p t a) where
+  pub tree-lies : Lies s a e t
   unfolding treeAt
-  tree-same = omega (arith, n .head .code-is, n .start-is, n .width-is)
-
-  pub tree-small : h .code + b + w ≤ 4295491711
-  tree-small = omega (arith, n .page .code-low, n .page .end-low, n .head .code-is, n .start-is, n .width-is)
-
-  pub tree-lies : Lies s (h .code + b + w) (h .e) t
   tree-lies =
       let g = n .page in
-      let own : reserve (h .e) t ≡ reserve (eOf s) (sumOf s p) = ap₂ reserve (n .head .e-is) (n .sum-is) in
+      let own : reserve e t ≡ reserve (eOf s) (sumOf s p) = ap₂ reserve (n .e-is) (n .sum-is) in
+      let at : a ≡ codeAt s + startOf s p + widthOf s = n .tree-is in
       record {
-        height = omega (arith, g .e-high, n .head .e-is);
+        height = omega (arith, g .e-high, n .e-is);
         total = omega (arith, n .sum-is, g .sum-small);
         long = omega (arith, g .entry-in);
-        inside = omega (arith, g .end-in, n .head .code-is, n .start-is, n .width-is);
-        small = omega (arith, g .end-low, g .code-low, n .head .code-is, n .start-is, n .width-is);
+        inside = omega (arith, g .end-in);
+        small = omega (arith, g .end-low, g .code-low);
       }
 
-  pub tree-coded : exact (h .e) t (bits s) (h .code + b + w) ≡ true
-  tree-coded = ap₂ (λ (y z : ℕ). exact y z (bits s) (h .code + b + w)) (n .head .e-is) (n .sum-is) ∙ ap (exact (eOf s) (sumOf s p) (bits s)) tree-same ∙ n .page .coded
+  pub tree-coded : exact e t (bits s) a ≡ true
+  tree-coded = ap₂ (λ (y z : ℕ). exact y z (bits s) a) (n .e-is) (n .sum-is) ∙ ap (exact (eOf s) (sumOf s p) (bits s)) (n .tree-is) ∙ n .page .coded
 
   pub sum-fits : t < 4294967296
   sum-fits = omega (arith, n .sum-is, n .page .sum-small)
 
-  pub room : (k : ℕ) → 256 ≤ k → 0 + 2 ^ h .e ≤ k
-  room k l = omega (arith, pow-mono {i = h .e} {j = 8} (omega (arith, n .page .e-high, n .head .e-is)))
+  pub room : (k : ℕ) → 256 ≤ k → 0 + 2 ^ e ≤ k
+  room k l = omega (arith, pow-mono {i = e} {j = 8} (omega (arith, n .page .e-high, n .e-is)))
 
-  pub decoded : (o o₁ : List ℕ) → o₁ ≡ splice o 0 (counts (h .e) t (bits s) (h .code + b + w)) → o₁ ≡ splice o 0 (page (eOf s) (listOf s) p)
+  pub decoded : (o o₁ : List ℕ) → o₁ ≡ splice o 0 (counts e t (bits s) a) → o₁ ≡ splice o 0 (page (eOf s) (listOf s) p)
   decoded o o₁ q =
-      q ∙ ap (splice o 0) (ap₂ (λ (y z : ℕ). counts y z (bits s) (h .code + b + w)) (n .head .e-is) (n .sum-is)
-      ∙ ap (counts (eOf s) (sumOf s p) (bits s)) tree-same ∙ n .page .counts-are)
+      q ∙ ap (splice o 0) (ap₂ (λ (y z : ℕ). counts y z (bits s) a) (n .e-is) (n .sum-is)
+      ∙ ap (counts (eOf s) (sumOf s p) (bits s)) (n .tree-is) ∙ n .page .counts-are)

@@ -1,1 +1,2 @@
--- Definitions of the crate: none; its contracts are over those of image.
+-- Definitions of the crate: what its functions are handed. Its contracts are over those of image.
+pub mod Code

@@ -18,21 +18,21 @@ start-of-requires c κs = search needs
 
 add-get-field : tie.Need-add-get-field
 add-get-field c =
-    let g = page (c .before .before .before) in
-    omega (arith, g .end-low, g .code-low, c .before .before .before .pre .1 .code-is, c .before .start-of .ensures)
+    let g = page (c .before .before) in
+    omega (arith, g .end-low, g .code-low, c .before .before .pre .1 .code-is, c .start-of .ensures)
 
 get-field-requires : tie.Need-get-field-requires
 get-field-requires c κs =
-    let a = c .before .before .before in
+    let a = c .before .before in
     let g = page a in
-    omega (arith, g .end-low, g .code-low, g .end-in, g .narrow, g .entry-in, a .pre .1 .code-is, c .before .start-of .ensures)
+    omega (arith, g .end-low, g .code-low, g .end-in, g .narrow, g .entry-in, a .pre .1 .code-is, a .pre .1 .width-is, c .start-of .ensures)
 
 returns : tie.Need-returns
 unfolding rootOf
 returns c =
-    let a = c .before .before .before .before in
+    let a = c .before .before .before in
     c .get-field .ensures
-    ∙ ap₂ (λ (x y : ℕ). value (part (bits (a .args .s .now)) x y)) (ap₂ _+_ (a .pre .1 .code-is) (c .before .before .start-of .ensures)) (a .pre .3)
+    ∙ ap₂ (λ (x y : ℕ). value (part (bits (a .args .s .now)) x y)) (ap₂ _+_ (a .pre .1 .code-is) (c .before .start-of .ensures)) (a .pre .1 .width-is)
 
 pub known-root-spec : {M : Type 1} → statement M
 known-root-spec = tie.close (tie.spec start-of-requires add-get-field get-field-requires returns)

@@ -1,40 +1,60 @@
 -- `image_page::page_counts` meets its contract. Assumes nothing.
+use Prim.Native.Nat.{_-_}
 use native.Mathlib.Omega.{arith}
-use Rattle.image_page.proofs.AcceptedPage.{accepted-page, head-width, sum-read}
 use borrow.Author.Needs.{needs}
+use Rattle.image_page.proofs.AcceptedPage.{Numbers, accepted-page, decoded, room, sum-fits, sum-read, tree-coded, tree-lies}
 use Rattle.image_page.proofs.page_counts.Statement.{statement}
 use Rattle.image_page.proofs.page_counts.Tie as tie
 
-digits-of-requires : tie.Need-digits-of-requires
-digits-of-requires c κs = search needs
+-- the page's numbers
+module _ (c : tie.After-tree-of) where
+  abbrev call : tie.Start
+  call = c .before .before .before .before
+
+  numbers : Numbers (call .args .s .now) (call .args .e) (call .args .p) (c .before .before .known-root .result - c .before .known-before .result)
+      (c .tree-of .result)
+  numbers =
+      let p = call .pre .0 in
+      let s = call .args .s .now in
+      record {
+        page = accepted-page s (p .0) (call .args .p) (p .3);
+        e-is = p .2;
+        sum-is = sum-read s (call .args .p) (c .before .before .known-root .ensures) (c .before .known-before .ensures);
+        tree-is = c .tree-of .ensures;
+      }
 
 known-root-requires : tie.Need-known-root-requires
-known-root-requires c κs = let p = c .before .before .pre in (p .0, p .1, p .2, head-width (p .1) (c .digits-of .ensures))
+known-root-requires c κs = search needs
 
 known-before-requires : tie.Need-known-before-requires
-known-before-requires c κs = let p = c .before .before .before .pre in (p .0, p .1, p .2, head-width (p .1) (c .before .digits-of .ensures))
+known-before-requires c κs = search needs
 
 sub-sum : tie.Need-sub-sum
 sub-sum c =
-    let a = c .before .before .before .before in
-    omega (arith, accepted-page (a .args .s .now) (a .pre .0) (a .args .p) (a .pre .2) .rises, c .before .known-root .ensures, c .known-before .ensures)
+    let a = c .before .before .before in
+    let p = a .pre .0 in
+    omega (arith, accepted-page (a .args .s .now) (p .0) (a .args .p) (p .3) .rises, c .before .known-root .ensures, c .known-before .ensures)
 
-counts-of-requires : tie.Need-counts-of-requires
-counts-of-requires c κs =
-    let k = c .before in
-    let a = k .before .before .before .before in
-    ((a .pre .0, a .pre .1, a .pre .2, a .pre .3), (a .pre .4, sum-read (a .args .s .now) (a .args .p) (k .before .known-root .ensures) (k .known-before .ensures)))
+tree-of-requires : tie.Need-tree-of-requires
+tree-of-requires c κs = search needs
+
+decode-requires : tie.Need-decode-requires
+decode-requires c κs =
+    let d = c .before in
+    let n = numbers d in
+    let p = call d .pre in
+    ((p .1 .1, tree-lies n, tree-coded n), (sum-fits n, p .1 .0, room n 256 (omega arith)))
 
 returns : tie.Need-returns
-returns c = search needs
+returns c = decoded (numbers (c .before .before)) _ _ (c .decode .ensures)
 
 pub page-counts-spec : {M : Type 1} → statement M
 page-counts-spec =
     tie.close
     (tie.spec
-    digits-of-requires
     known-root-requires
     known-before-requires
     sub-sum
-    counts-of-requires
+    tree-of-requires
+    decode-requires
     returns)

@@ -1,8 +1,7 @@
 -- `image_page::page_root` meets its contract. Assumes nothing.
 use mathlib.Core.Path.{_∙_}
-use native.Mathlib.Omega.{arith}
 use borrow.Author.Needs.{needs}
-use Rattle.image_page.proofs.AcceptedPage.{head-width, roots}
+use Rattle.image_page.proofs.AcceptedPage.{places, roots}
 use Rattle.image_page.proofs.page_root.Statement.{statement}
 use Rattle.image_page.proofs.page_root.Tie as tie
 
@@ -10,9 +9,7 @@ digits-of-requires : tie.Need-digits-of-requires
 digits-of-requires c κs = search needs
 
 known-root-requires : tie.Need-known-root-requires
-known-root-requires c κs =
-    let a = c .before .before in
-    (a .pre .0, a .pre .1, omega (arith, a .pre .2), head-width (a .pre .1) (c .digits-of .ensures))
+known-root-requires c κs = let p = c .before .before .pre in (p .0, places (p .1) (c .digits-of .ensures), p .2)
 
 returns : tie.Need-returns
 returns c =

@@ -12,7 +12,7 @@ page : (c : tie.Start) → Page (c .args .s .now) (c .args .p)
 page c = accepted-page (c .args .s .now) (c .pre .0) (c .args .p) (c .pre .2)
 
 table-at-requires : tie.Need-table-at-requires
-table-at-requires c κs = (c .before .pre .1 .table-is, omega (arith, page (c .before) .few))
+table-at-requires c κs = (c .before .pre .1, omega (arith, page (c .before) .few))
 
 get4-requires : tie.Need-get4-requires
 get4-requires c κs = omega (arith, page (c .before .before) .entry-in, c .table-at .ensures)

@@ -10,34 +10,38 @@ use Rattle.lists.specs.Lists.{splice}
 use Rattle.book.specs.Book.{bookOf}
 use Rattle.image.specs.Read.{eOf, listOf}
 use Rattle.image.proofs.Accepted.{accepted-only, length-list}
+use Rattle.image_page.proofs.AcceptedPage.{places}
 use Rattle.book_out.proofs.OutLaws.{Sizes, all-put, none-put, put-long, read-four, read-long, read-more, sizes}
 use Rattle.book_out.proofs.put.put_book.Statement.{statement}
 use Rattle.book_out.proofs.put.put_book.Tie as tie
 
 abbrev Inv-loop : tie.InvT-loop
-Inv-loop s table h book₀ m pages n counts₀ p₀ book counts p =
+Inv-loop s table h book₀ m w pages n counts₀ p₀ book counts p =
     (length counts ≡ 256) × (book ≡ splice book₀ 0 (bookOf (take (2 ^ eOf s * p) (listOf s))))
 
 abbrev μ-loop : tie.MeasureT-loop
-μ-loop s table h book₀ m pages n counts₀ p₀ book counts p = pages - p
+μ-loop s table h book₀ m w pages n counts₀ p₀ book counts p = pages - p
 
 power-requires : tie.Need-power-requires Inv-loop μ-loop
 power-requires c κs = omega (arith, accepted-only _ (c .before .before .pre .0) .limits .e-high, c .before .before .pre .1 .e-is)
 
+digits-of-requires : tie.Need-digits-of-requires Inv-loop μ-loop
+digits-of-requires c κs = search needs
+
 loop-holds : tie.Need-loop-holds Inv-loop μ-loop
 loop-holds c =
-    let a = c .before .before .before .args in
+    let a = c .before .before .before .before .args in
     (refl, none-put (eOf (a .s .now)) (listOf (a .s .now)) (a .book .now))
 
 module _ (l : tie.At-loop Inv-loop μ-loop) where
   abbrev call : tie.Start Inv-loop μ-loop
-  call = l .before .before .before .before
+  call = l .before .before .before .before .before
 
   abbrev s : List ℕ
   s = call .args .s .now
 
-  sizes-are : Sizes s (call .args .h) (l .before .power .result)
-  sizes-are = sizes (l .before .power .result) (call .pre .0) (call .pre .1) (l .before .power .ensures)
+  sizes-are : Sizes s (call .args .h) (l .before .before .power .result)
+  sizes-are = sizes (l .before .before .power .result) (call .pre .0) (call .pre .1) (l .before .before .power .ensures)
 
   book-long : length (l .loop .book) ≡ length (call .args .book .now)
   book-long =
@@ -46,7 +50,8 @@ module _ (l : tie.At-loop Inv-loop μ-loop) where
 page-counts-requires : tie.Need-page-counts-requires Inv-loop μ-loop
 page-counts-requires c κs =
     let a = call (c .before .before) in
-    (a .pre .0, a .pre .1, omega (arith, a .pre .1 .pages-are), c .before .before .loop .inv .0, a .pre .4)
+    let l = c .before .before in
+    ((a .pre .0, places (a .pre .1) (l .before .digits-of .ensures), a .pre .1 .e-is, omega (arith, a .pre .1 .pages-are)), (l .loop .inv .0, a .pre .4))
 
 -- page p was read
 module _ (c : tie.After-page-counts Inv-loop μ-loop) where
@@ -54,12 +59,12 @@ module _ (c : tie.After-page-counts Inv-loop μ-loop) where
   at = c .before .before .before
 
   abbrev counts : List ℕ
-  counts = c .page-counts .last .1 .1 .1 .1 .0
+  counts = c .page-counts .last .1 .1 .1 .1 .1 .1 .1 .0
 
   long : length counts ≡ 256
   long = read-long (sizes-are at) (at .loop .p) (at .loop .counts) counts (c .page-counts .ensures) (at .loop .inv .0)
 
-  from-in : at .before .power .result * at .loop .p < length (listOf (s at))
+  from-in : at .before .before .power .result * at .loop .p < length (listOf (s at))
   from-in = sizes-are at .inside (at .loop .p) (c .before .before .loop-test .taken)
 
 mul-from : tie.Need-mul-from Inv-loop μ-loop
@@ -118,6 +123,7 @@ put-book-spec =
     Inv-loop
     μ-loop
     power-requires
+    digits-of-requires
     loop-holds
     page-counts-requires
     mul-from
