@@ -14,7 +14,7 @@ ghost use Rattle.image.specs.Code.Head.{HeadOf};
 ghost use Rattle.image.specs.Read.{listOf, nOf};
 
 // Page by page, the last up to hour N.
-pub(crate) fn put_book(s: &[u8], table: &[u8; 704], h: Head, book: &mut [u8])
+pub(crate) fn put_book(s: &[u8], table: &[u8; 864], h: Head, book: &mut [u8])
     requires { ⌜ (accepted (now s) ≡ true) × HeadOf (now s) h × (fourDigits (listOf (now s)) ≡ true) × (2 * nOf (now s) ≤ length (now book)) × Sums (now table) ⌝ }
     ensures { λ _. ⌜ now (book .exit) ≡ splice (now (book .entry)) 0 (bookOf (listOf (now (s .entry)))) ⌝ }
 {

@@ -83,7 +83,7 @@ fn first_sum(s: &[u8], h: Head, k: u64) -> u64
 }
 
 // The busiest window of k hours.
-pub(crate) fn best_window(s: &[u8], table: &[u8; 704], h: Head, k: u64) -> Window
+pub(crate) fn best_window(s: &[u8], table: &[u8; 864], h: Head, k: u64) -> Window
     requires { ⌜ (accepted (now s) ≡ true) × HeadOf (now s) h × (1 ≤ k) × (k ≤ h .hours) × Sums (now table) ⌝ }
     ensures { λ r. ⌜ Busiest (listOf (now (s .entry))) k (r .best) (r .most) ⌝ }
 {

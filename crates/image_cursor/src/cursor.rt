@@ -30,7 +30,7 @@ pub fn ahead(h: Head, i: u64) -> usize
 }
 
 // Reads the page of hour i of the image s, whose header is h, if this hour is logged.
-pub fn read_page(s: &[u8], table: &[u8; 704], h: Head, i: u64, counts: &mut [u32; 256])
+pub fn read_page(s: &[u8], table: &[u8; 864], h: Head, i: u64, counts: &mut [u32; 256])
     requires { ⌜ (accepted (now s) ≡ true) × HeadOf (now s) h × (length (now counts) ≡ 256) × Sums (now table) ⌝ }
     ensures { λ _. ⌜ Ready (now (s .entry)) i (now (counts .exit)) ⌝ }
 {
@@ -43,7 +43,7 @@ pub fn read_page(s: &[u8], table: &[u8; 704], h: Head, i: u64, counts: &mut [u32
 }
 
 // From hour i, whose page is in counts, n hours on: no further than to the first hour of the next page, which is then read.
-pub fn turn(s: &[u8], table: &[u8; 704], h: Head, i: u64, n: u64, counts: &mut [u32; 256])
+pub fn turn(s: &[u8], table: &[u8; 864], h: Head, i: u64, n: u64, counts: &mut [u32; 256])
     requires { ⌜ (accepted (now s) ≡ true) × HeadOf (now s) h × Ready (now s) i (now counts) ⌝ }
     requires { ⌜ (i ≤ h .hours) × (i % 2 ^ h .e + n ≤ 2 ^ h .e) × Sums (now table) ⌝ }
     ensures { λ _. ⌜ Ready (now (s .entry)) (i + n) (now (counts .exit)) ⌝ }
@@ -70,7 +70,7 @@ fn copy_page(m: usize, lead: &[u32], counts: &mut [u32; 256])
 // As turn, behind a cursor that has the page of hour j in lead: where it is the next page, it is copied, and not read again.
 pub fn follow(
     s: &[u8],
-    table: &[u8; 704],
+    table: &[u8; 864],
     h: Head,
     i: u64,
     n: u64,

@@ -17,7 +17,7 @@ ghost use Rattle.image.specs.Read.{listOf};
 ghost use Rattle.image_match.specs.Code.Find.{Finds};
 
 // The first hours with sum q, of these the fewest.
-pub(crate) fn find(s: &[u8], table: &[u8; 704], h: Head, q: u64) -> Bag
+pub(crate) fn find(s: &[u8], table: &[u8; 864], h: Head, q: u64) -> Bag
     requires { ⌜ (accepted (now s) ≡ true) × HeadOf (now s) h × (1 ≤ q) × Sums (now table) ⌝ }
     ensures { λ r. ⌜ Finds (listOf (now (s .entry))) q r ⌝ }
 {

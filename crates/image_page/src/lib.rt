@@ -63,7 +63,7 @@ pub fn page_root(s: &[u8], h: Head, p: usize) -> u64
 
 // Puts the 2^e counts of page p of the image s, whose header is h, at the front of counts, zeros from hour N on among them; the page's sum is
 // known. What stands in counts behind them is left as it is. The table of small sums is lent.
-pub fn counts_of(s: &[u8], table: &[u8; 704], h: Head, p: usize, sum: u64, counts: &mut [u32; 256])
+pub fn counts_of(s: &[u8], table: &[u8; 864], h: Head, p: usize, sum: u64, counts: &mut [u32; 256])
     requires { ⌜ (accepted (now s) ≡ true) × HeadOf (now s) h × (p < pagesOf (now s)) × (length (now counts) ≡ 256) ⌝ }
     requires { ⌜ Sums (now table) × (sum ≡ sumOf (now s) p) ⌝ }
     ensures { λ _. ⌜ now (counts .exit) ≡ splice (now (counts .entry)) 0 (page (eOf (now (s .entry))) (listOf (now (s .entry))) p) ⌝ }
@@ -76,7 +76,7 @@ pub fn counts_of(s: &[u8], table: &[u8; 704], h: Head, p: usize, sum: u64, count
 // The same, where the sum is what the page's root is above the one before.
 pub fn page_counts(
     s: &[u8],
-    table: &[u8; 704],
+    table: &[u8; 864],
     entries: usize,
     code: usize,
     w: u32,

@@ -47,7 +47,7 @@ pub fn front_page(s: &[u8], h: Head, first: u64, before: u64) -> FrontPage
 // Reads the page's counts, and marks their sums.
 pub fn mark_page(
     s: &[u8],
-    table: &[u8; 704],
+    table: &[u8; 864],
     h: Head,
     page: FrontPage,
     counts: &mut [u32; 256],

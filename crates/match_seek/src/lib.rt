@@ -110,7 +110,7 @@ fn pass(s: &[u8], h: Head, q: u64, page: FrontPage, at: Aim, marks: &[u8], back:
 // The search as far as the page at the front goes, whose counts are in front; back has the page of hour lo.
 fn seek(
     s: &[u8],
-    table: &[u8; 704],
+    table: &[u8; 864],
     h: Head,
     q: u64,
     page: FrontPage,
@@ -142,7 +142,7 @@ fn seek(
 // ends in it: that is known by its sum alone, and its counts need not be decoded.
 pub fn visit(
     s: &[u8],
-    table: &[u8; 704],
+    table: &[u8; 864],
     h: Head,
     q: u64,
     page: FrontPage,

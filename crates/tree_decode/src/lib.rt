@@ -46,7 +46,7 @@ fn fours(b: &[u8], at: usize, s: u64, out: &mut [u32; 256], from: usize)
 // The counts of a node of eight counts at most, at bit at, and below it.
 fn low_node(
     b: &&[u8],
-    table: &[u8; 704],
+    table: &[u8; 864],
     at: usize,
     h: u32,
     s: u64,
@@ -81,7 +81,7 @@ fn low_node(
 }
 
 // The eight counts with sum s at bit at: most sums are the table's, and need no call of the recursion.
-fn eights(b: &&[u8], table: &[u8; 704], at: usize, s: u64, out: &mut [u32; 256], from: usize)
+fn eights(b: &&[u8], table: &[u8; 864], at: usize, s: u64, out: &mut [u32; 256], from: usize)
     requires { ⌜ Sums (now table) × Lies (now (now b)) at 3 s × (exact 3 s (bits (now (now b))) at ≡ true) ⌝ }
     requires { ⌜ (s < 4294967296) × (length (now out) ≡ 256) × (from + 8 ≤ 256) ⌝ }
     ensures { λ _. ⌜ now (out .exit) ≡ splice (now (out .entry)) from (counts 3 s (bits (now (now (b .entry)))) at) ⌝ }
@@ -96,7 +96,7 @@ fn eights(b: &&[u8], table: &[u8; 704], at: usize, s: u64, out: &mut [u32; 256],
 // The counts of a node of sixteen counts or more, at bit at, and below it.
 fn decode_node(
     b: &&[u8],
-    table: &[u8; 704],
+    table: &[u8; 864],
     at: usize,
     h: u32,
     s: u64,
@@ -127,7 +127,7 @@ fn decode_node(
 // sums is lent. A page with few coins needs no call of the recursion.
 pub fn decode(
     b: &[u8],
-    table: &[u8; 704],
+    table: &[u8; 864],
     at: usize,
     h: u32,
     s: u64,

@@ -28,7 +28,7 @@ counts-four : (s l x y : ℕ) (b : List ℕ) (a : ℕ) → leftOf s b a ≡ l �
 unfolding counts
 counts-four s l x y b a el ex ey = rw (el, ex, ey)
 
-put-four : (l : List ℕ) (i c d e f : ℕ) → i + 4 ≤ length l
+pub put-four : (l : List ℕ) (i c d e f : ℕ) → i + 4 ≤ length l
     → set (set (set (set l i c) (i + 1) d) (i + 2) e) (i + 3) f ≡ splice l i (c ∷ d ∷ e ∷ f ∷ [])
 put-four l i c d e f h = rw (one, two, three) (sets-splice (c ∷ d ∷ e ∷ f ∷ []) l i h)
   where

@@ -5,6 +5,7 @@ pub mod whole;
 use bits_field::front;
 use reserve::digits_of;
 use sum_table::digits_in;
+use sum_table::few_in;
 use sum_table::four_in;
 use sum_table::reserve_in;
 ghost use mathlib.Core.Bool.{true};
@@ -14,7 +15,7 @@ ghost use lib.ListN.{length, replicate};
 ghost use Rattle.lists.specs.Lists.{splice};
 ghost use Rattle.bits.specs.Bits.{field};
 ghost use Rattle.reserve.specs.Reserve.{digits};
-ghost use Rattle.sum_table.specs.Code.Sums.{Sums};
+ghost use Rattle.sum_table.specs.Code.Sums.{Sums, quarters};
 ghost use Rattle.tree.specs.Read.{counts};
 ghost use Rattle.tree.specs.Code.Exact.{exact};
 ghost use Rattle.tree_word.specs.Code.FitsWord.{FitsWord};
@@ -60,7 +61,7 @@ pub fn four(w: u64, s: u64, out: &mut [u32; 256], from: usize)
 }
 
 // The same of a sum that the table has.
-fn four_small(w: u64, table: &[u8; 704], s: u64, out: &mut [u32; 256], from: usize)
+fn four_small(w: u64, table: &[u8; 864], s: u64, out: &mut [u32; 256], from: usize)
     requires { ⌜ Sums (now table) × (exact 2 s (field 64 w) 0 ≡ true) × (s < 256) × (length (now out) ≡ 256) × (from + 4 ≤ 256) ⌝ }
     ensures { λ _. ⌜ now (out .exit) ≡ splice (now (out .entry)) from (counts 2 s (field 64 w) 0) ⌝ }
 {
@@ -72,7 +73,7 @@ fn four_small(w: u64, table: &[u8; 704], s: u64, out: &mut [u32; 256], from: usi
 }
 
 // The eight counts with sum s below 256, which own 52 bits at most. The right four stand behind the left sum and the left four.
-pub fn eight_of(w: u64, table: &[u8; 704], s: u64, out: &mut [u32; 256], from: usize)
+pub fn eight_of(w: u64, table: &[u8; 864], s: u64, out: &mut [u32; 256], from: usize)
     requires { ⌜ Sums (now table) × (exact 3 s (field 64 w) 0 ≡ true) × (s < 256) × (length (now out) ≡ 256) × (from + 8 ≤ 256) ⌝ }
     ensures { λ _. ⌜ now (out .exit) ≡ splice (now (out .entry)) from (counts 3 s (field 64 w) 0) ⌝ }
 {
@@ -84,7 +85,7 @@ pub fn eight_of(w: u64, table: &[u8; 704], s: u64, out: &mut [u32; 256], from: u
 }
 
 // The same, where a sum of 0 is told first. The compiler puts this test where it is called, so that empty eights need no call.
-pub fn eight(w: u64, table: &[u8; 704], s: u64, out: &mut [u32; 256], from: usize)
+pub fn eight(w: u64, table: &[u8; 864], s: u64, out: &mut [u32; 256], from: usize)
     requires { ⌜ Sums (now table) × (exact 3 s (field 64 w) 0 ≡ true) × (s < 256) × (length (now out) ≡ 256) × (from + 8 ≤ 256) ⌝ }
     ensures { λ _. ⌜ now (out .exit) ≡ splice (now (out .entry)) from (counts 3 s (field 64 w) 0) ⌝ }
 {
@@ -95,8 +96,44 @@ pub fn eight(w: u64, table: &[u8; 704], s: u64, out: &mut [u32; 256], from: usiz
     eight_of(w, table, s, out, from);
 }
 
+// Four counts of two bits each, out of a byte.
+fn spread(x: u8, out: &mut [u32; 256], from: usize)
+    requires { ⌜ (length (now out) ≡ 256) × (from + 4 ≤ 256) ⌝ }
+    ensures { λ _. ⌜ now (out .exit) ≡ splice (now (out .entry)) from (quarters x) ⌝ }
+{
+    let four = x as u32;
+    out[from] = four % 4;
+    out[from + 1] = four / 4 % 4;
+    out[from + 2] = four / 16 % 4;
+    out[from + 3] = four / 64 % 4;
+}
+
+// The eight counts with sum s below 3, looked up by their code, which has three bits a coin.
+fn eight_looked_up(w: u64, table: &[u8; 864], s: u64, out: &mut [u32; 256], from: usize)
+    requires { ⌜ Sums (now table) × (exact 3 s (field 64 w) 0 ≡ true) × (s < 3) × (length (now out) ≡ 256) × (from + 8 ≤ 256) ⌝ }
+    ensures { λ _. ⌜ now (out .exit) ≡ splice (now (out .entry)) from (counts 3 s (field 64 w) 0) ⌝ }
+{
+    let v = front::part(w, 0, 3 * (s as u32));
+    let few = few_in(table, s, v);
+    spread(few.left, out, from);
+    spread(few.right, out, from + 4);
+}
+
+// The eight counts with sum s below 256 among few coins: most have two at most, and which of these sums it is nothing foretells, so that no
+// jump asks for it.
+fn eight_sparse(w: u64, table: &[u8; 864], s: u64, out: &mut [u32; 256], from: usize)
+    requires { ⌜ Sums (now table) × (exact 3 s (field 64 w) 0 ≡ true) × (s < 256) × (length (now out) ≡ 256) × (from + 8 ≤ 256) ⌝ }
+    ensures { λ _. ⌜ now (out .exit) ≡ splice (now (out .entry)) from (counts 3 s (field 64 w) 0) ⌝ }
+{
+    if s < 3 {
+        eight_looked_up(w, table, s, out, from);
+        return;
+    }
+    eight_of(w, table, s, out, from);
+}
+
 // The sixteen counts with sum s, which own 57 bits at most.
-pub(crate) fn sixteen(w: u64, table: &[u8; 704], s: u64, out: &mut [u32; 256], from: usize)
+pub(crate) fn sixteen(w: u64, table: &[u8; 864], s: u64, out: &mut [u32; 256], from: usize)
     requires { ⌜ Sums (now table) × FitsWord 4 s × (exact 4 s (field 64 w) 0 ≡ true) × (length (now out) ≡ 256) × (from + 16 ≤ 256) ⌝ }
     ensures { λ _. ⌜ now (out .exit) ≡ splice (now (out .entry)) from (counts 4 s (field 64 w) 0) ⌝ }
 {
@@ -106,7 +143,7 @@ pub(crate) fn sixteen(w: u64, table: &[u8; 704], s: u64, out: &mut [u32; 256], f
     }
     let t = digits_in(table, s);
     let left = front::part(w, 0, t);
-    eight(w << t, table, left, out, from);
+    eight_sparse(w << t, table, left, out, from);
     let k = t + reserve_in(table, 3, left);
-    eight(w << k, table, s - left, out, from + 8);
+    eight_sparse(w << k, table, s - left, out, from + 8);
 }

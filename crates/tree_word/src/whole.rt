@@ -34,7 +34,7 @@ pub fn fits(h: u32, s: u64) -> bool
 }
 
 // All 2^h counts with sum s. A recursion in which h falls to 4, or which ends at a sum of 0.
-pub fn decode_word(w: u64, table: &[u8; 704], h: u32, s: u64, out: &mut [u32; 256], from: usize)
+pub fn decode_word(w: u64, table: &[u8; 864], h: u32, s: u64, out: &mut [u32; 256], from: usize)
     requires { ⌜ Sums (now table) × FitsWord h s × (exact h s (field 64 w) 0 ≡ true) × (length (now out) ≡ 256) × (from + 2 ^ h ≤ 256) ⌝ }
     ensures { λ _. ⌜ now (out .exit) ≡ splice (now (out .entry)) from (counts h s (field 64 w) 0) ⌝ }
 {

@@ -29,8 +29,8 @@ module _ (c : tie.After-reserve-in) where
   within : read .before .digits-in .result + c .reserve-in .result ≤ 57
   within = behind (top read) _ _ (c .reserve-in .ensures) (omega (arith, left-le (top read)))
 
-  long : length (c .before .eight .last .1 .1 .1 .0) ≡ 256
-  long = let p = call read .pre in still-long 3 _ _ _ _ _ (call read .args .from) 256 (p .3) (omega (arith, p .4)) (c .before .eight .ensures)
+  long : length (c .before .eight-sparse .last .1 .1 .1 .0) ≡ 256
+  long = let p = call read .pre in still-long 3 _ _ _ _ _ (call read .args .from) 256 (p .3) (omega (arith, p .4)) (c .before .eight-sparse .ensures)
 
 zeros-requires : tie.Need-zeros-requires
 zeros-requires c κs = search needs
@@ -47,14 +47,14 @@ digits-in-requires c κs = (c .before .pre .0, omega (arith, c .before .pre .1 .
 part-requires : tie.Need-part-requires
 part-requires c κs = omega (arith, c .digits-in .ensures, digits-le (c .before .before .args .s) 6 (c .before .before .pre .1 .few))
 
-cast-eight : tie.Need-cast-eight
-cast-eight c = search needs
+cast-eight-sparse : tie.Need-cast-eight-sparse
+cast-eight-sparse c = search needs
 
-shl-eight : tie.Need-shl-eight
-shl-eight c = omega (arith, short (top c))
+shl-eight-sparse : tie.Need-shl-eight-sparse
+shl-eight-sparse c = omega (arith, short (top c))
 
-eight-requires : tie.Need-eight-requires
-eight-requires c κs =
+eight-sparse-requires : tie.Need-eight-sparse-requires
+eight-sparse-requires c κs =
     let d = c .before in
     let p = call d .pre in
     (p .0, left-exact (top d), omega (arith, left-le (top d), p .1 .few), p .3, omega (arith, p .4))
@@ -67,20 +67,20 @@ reserve-in-requires c κs =
 add-k : tie.Need-add-k
 add-k c = omega (arith, within c)
 
-cast-eight-2 : tie.Need-cast-eight-2
-cast-eight-2 c = omega (arith, within c)
+cast-eight-sparse-2 : tie.Need-cast-eight-sparse-2
+cast-eight-sparse-2 c = omega (arith, within c)
 
-shl-eight-2 : tie.Need-shl-eight-2
-shl-eight-2 c = omega (arith, within c)
+shl-eight-sparse-2 : tie.Need-shl-eight-sparse-2
+shl-eight-sparse-2 c = omega (arith, within c)
 
-sub-eight : tie.Need-sub-eight
-sub-eight c = left-le (top (read c))
+sub-eight-sparse : tie.Need-sub-eight-sparse
+sub-eight-sparse c = left-le (top (read c))
 
-add-eight : tie.Need-add-eight
-add-eight c = search needs
+add-eight-sparse : tie.Need-add-eight-sparse
+add-eight-sparse c = search needs
 
-eight-requires-2 : tie.Need-eight-requires-2
-eight-requires-2 c κs =
+eight-sparse-requires-2 : tie.Need-eight-sparse-requires-2
+eight-sparse-requires-2 c κs =
     let n = c .before in
     let d = read n in
     let p = call d .pre in
@@ -91,8 +91,8 @@ returns-2 c =
     let n = c .before .before in
     let d = read n in
     let a = call d .args in
-    word-written (top d) _ (n .reserve-in .ensures) (a .out .now) _ _ (a .from) 8 refl (omega (arith, call d .pre .3, call d .pre .4)) (n .before .eight .ensures)
-    (c .eight2 .ensures)
+    word-written (top d) _ (n .reserve-in .ensures) (a .out .now) _ _ (a .from) 8 refl (omega (arith, call d .pre .3, call d .pre .4)) (n .before .eight-sparse .ensures)
+    (c .eight-sparse2 .ensures)
 
 pub sixteen-spec : {M : Type 1} → statement M
 sixteen-spec =
@@ -102,14 +102,14 @@ sixteen-spec =
     returns
     digits-in-requires
     part-requires
-    cast-eight
-    shl-eight
-    eight-requires
+    cast-eight-sparse
+    shl-eight-sparse
+    eight-sparse-requires
     reserve-in-requires
     add-k
-    cast-eight-2
-    shl-eight-2
-    sub-eight
-    add-eight
-    eight-requires-2
+    cast-eight-sparse-2
+    shl-eight-sparse-2
+    sub-eight-sparse
+    add-eight-sparse
+    eight-sparse-requires-2
     returns-2)
