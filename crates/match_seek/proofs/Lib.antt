@@ -1,3 +1,4 @@
 -- Laws of the crate.
 pub mod SeekLaws
 pub mod PassLaws
+pub mod AboveLaws

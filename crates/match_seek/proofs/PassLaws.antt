@@ -2,9 +2,11 @@
 use mathlib.Core.Bool.{true}
 use mathlib.Core.List.{List}
 use mathlib.Core.Path.{_≡_, refl, sym, ap, _∙_, subst}
-use Prim.Native.Nat.{ℕ, _+_, _%_, _^_, _≤_, _<_}
+use Prim.Native.Nat.{ℕ, _+_, _-_, _%_, _^_, _≤_, _<_}
+use native.Mathlib.Decide.{decLe}
 use native.Mathlib.Omega.{arith}
 use lib.ListN.{length, getD}
+use Rattle.lists.specs.Lists.{reading}
 use Rattle.image.specs.Check.{accepted}
 use Rattle.image.specs.Code.Head.{HeadOf}
 use Rattle.image.specs.Read.{listOf}
@@ -14,7 +16,8 @@ use Rattle.image_cursor.proofs.CursorLaws.{count-of, place-in}
 use Rattle.runs.specs.Code.{NoneBefore}
 use Rattle.sum_marks.specs.Code.Marks.{Unmarked}
 use Rattle.match_page.specs.Code.Page.{MarksOf, RunOf}
-use Rattle.match_seek.specs.Code.Seek.{Later, Passing, Seeks}
+use Rattle.match_seek.specs.Code.Seek.{FirstAbove, Later, Passing, Reached, Seeks}
+use Rattle.match_seek.specs.Code.Seek.FirstAbove.{at-first, at-second, at-third, at-fourth}
 use Rattle.match_seek.specs.declared.Aim.{Aim}
 use Rattle.match_page.specs.declared.FrontPage.{FrontPage}
 use Rattle.match_page.proofs.PageLaws.{hours}
@@ -42,6 +45,21 @@ later-of xs q first n i want at d x = record {
   on = omega (arith, x .some);
   room = omega (arith, x .inside, d .room);
 }
+
+-- the hour that is reached wants more than the page has
+pub later-above : (xs : List ℕ) (q n : ℕ) (page : FrontPage) (at r : Aim) {h : Head} → Ahead h (at .lo) n → Seeks xs q (page .first) at
+    → at .want ≤ page .sum → (at .lo ≤ r .lo) × (r .lo - at .lo ≤ n) × Reached xs q page (at .lo) (r .lo - at .lo) (r .want)
+    → page .sum < r .want → Later xs h q (page .first) at r
+later-above xs q n page at r d w l x m =
+    let e : at .lo + (r .lo - at .lo) ≡ r .lo = omega (arith, x .0) in
+    let y : Seeks xs q (page .first) r = subst (λ (k : ℕ). Seeks xs q (page .first) (record { lo = k; want = r .want })) e (x .2 .0) in
+    record { seeks = y; on = go y (decLe (r .lo) (at .lo)); room = omega (arith, x .1, d .room) }
+  where
+    go : Seeks xs q (page .first) r → Dec (r .lo ≤ at .lo) → at .lo < r .lo
+    go y (yes k) =
+        let e : r .lo ≡ at .lo = omega (arith, x .0) in
+        omega (arith, w .wants, y .wants, ap (reading xs) e)
+    go y (no k) = omega arith
 
 module _ (s : List ℕ) (a : accepted s ≡ true) {h : Head} (o : HeadOf s h) (lo n p : ℕ) (d : Ahead h lo n) (e : p ≡ lo % 2 ^ h .e) where
   -- the place of a count in the page of hour lo
@@ -73,7 +91,8 @@ module _ (s : List ℕ) (a : accepted s ≡ true) {h : Head} (o : HeadOf s h) (l
         (x, m, over-unmarked (listOf s) q page g _ x m marks v u)
 
   -- four of them
-  module _ (q : ℕ) (page : FrontPage) (back : List ℕ) (r : Ready s lo back) (marks : List ℕ) (g : RunOf (listOf s) page) (v : MarksOf (listOf s) page marks) where
+  module _ (q : ℕ) (page : FrontPage) (back : List ℕ) (r : Ready s lo back) (marks : List ℕ) (g : RunOf (listOf s) page)
+      (v : MarksOf (listOf s) page marks) where
     -- the next hour, by its place j and what is then wanted
     passing-at : (i want j x : ℕ) → Passing (listOf s) q page lo i want → j ≡ p + i → x ≡ want + getD back j 0 → i < n → x ≤ page .sum
         → Unmarked marks (page .stamp) x → Passing (listOf s) q page lo (i + 1) x
@@ -82,13 +101,36 @@ module _ (s : List ℕ) (a : accepted s ≡ true) {h : Head} (o : HeadOf s h) (l
         subst (Passing (listOf s) q page lo (i + 1)) (sym f)
         (passing-on q page back r want i w marks g v l (omega (arith, f)) (subst (Unmarked marks (page .stamp)) f u))
 
-    pub passing-four : (i want : ℕ) → Passing (listOf s) q page lo i want → i + 4 ≤ n → (x y z t : ℕ) → x ≡ want + getD back (p + i) 0
-        → y ≡ x + getD back (p + i + 1) 0 → z ≡ y + getD back (p + i + 2) 0 → t ≡ z + getD back (p + i + 3) 0 → t ≤ page .sum
-        → Unmarked marks (page .stamp) x × Unmarked marks (page .stamp) y × Unmarked marks (page .stamp) z × Unmarked marks (page .stamp) t
-        → Passing (listOf s) q page lo (i + 4) t
-    passing-four i want w l x y z t ex ey ez et m u =
-        let one = passing-at i want (p + i) x w refl ex (omega arith) (omega arith) (u .0) in
-        let two = passing-at (i + 1) x (p + i + 1) y one (omega arith) ey (omega arith) (omega arith) (u .1) in
-        let three = passing-at (i + 1 + 1) y (p + i + 2) z two (omega arith) ez (omega arith) (omega arith) (u .2) in
-        subst (λ (k : ℕ). Passing (listOf s) q page lo k t) {x = i + 1 + 1 + 1 + 1} {y = i + 4} (omega arith)
-        (passing-at (i + 1 + 1 + 1) z (p + i + 3) t three (omega arith) et (omega arith) m (u .3))
+    -- the next hour wants more than the page has
+    above-at : (i want j x : ℕ) → Passing (listOf s) q page lo i want → j ≡ p + i → x ≡ want + getD back j 0 → i < n → page .sum < x
+        → (k : ℕ) → k ≡ lo + i + 1 → (lo ≤ k) × (k - lo ≤ n) × Reached (listOf s) q page lo (k - lo) x
+    above-at i want j x w ej ex l m k ek =
+        let f : x ≡ want + getD back (p + i) 0 = ex ∙ ap (λ (z : ℕ). want + getD back z 0) ej in
+        let e : k - lo ≡ i + 1 = omega arith in
+        let y : Seeks (listOf s) q (page .first) (record { lo = lo + (i + 1); want = x }) = rw f (ends-here q page back r want i w l .seeks) in
+        (omega arith, omega arith, rw e (y, λ (h : x ≤ page .sum). absurd (omega arith)))
+
+    module _ (i want : ℕ) (w : Passing (listOf s) q page lo i want) (l : i + 4 ≤ n) (x y z t : ℕ) (ex : x ≡ want + getD back (p + i) 0)
+        (ey : y ≡ x + getD back (p + i + 1) 0) (ez : z ≡ y + getD back (p + i + 2) 0) (et : t ≡ z + getD back (p + i + 3) 0)
+        (u : Unmarked marks (page .stamp) x × Unmarked marks (page .stamp) y × Unmarked marks (page .stamp) z × Unmarked marks (page .stamp) t) where
+      one : x ≤ page .sum → Passing (listOf s) q page lo (i + 1) x
+      one m = passing-at i want (p + i) x w refl ex (omega arith) m (u .0)
+
+      two : y ≤ page .sum → Passing (listOf s) q page lo (i + 1 + 1) y
+      two m = passing-at (i + 1) x (p + i + 1) y (one (omega arith)) (omega arith) ey (omega arith) m (u .1)
+
+      three : z ≤ page .sum → Passing (listOf s) q page lo (i + 1 + 1 + 1) z
+      three m = passing-at (i + 1 + 1) y (p + i + 2) z (two (omega arith)) (omega arith) ez (omega arith) m (u .2)
+
+      pub passing-four : t ≤ page .sum → Passing (listOf s) q page lo (i + 4) t
+      passing-four m =
+          subst (λ (k : ℕ). Passing (listOf s) q page lo k t) {x = i + 1 + 1 + 1 + 1} {y = i + 4} (omega arith)
+          (passing-at (i + 1 + 1 + 1) z (p + i + 3) t (three (omega arith)) (omega arith) et (omega arith) m (u .3))
+
+      -- one of them wants more than the page has
+      pub above-four : (a : Aim) → FirstAbove (page .sum) (lo + i) x y z t a
+          → (lo ≤ a .lo) × (a .lo - lo ≤ n) × Reached (listOf s) q page lo (a .lo - lo) (a .want)
+      above-four a (at-first m) = above-at i want (p + i) x w refl ex (omega arith) m _ refl
+      above-four a (at-second k m) = above-at (i + 1) x (p + i + 1) y (one k) (omega arith) ey (omega arith) m _ (omega arith)
+      above-four a (at-third k m) = above-at (i + 1 + 1) y (p + i + 2) z (two k) (omega arith) ez (omega arith) m _ (omega arith)
+      above-four a (at-fourth k m) = above-at (i + 1 + 1 + 1) z (p + i + 3) t (three k) (omega arith) et (omega arith) m _ (omega arith)

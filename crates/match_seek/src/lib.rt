@@ -6,6 +6,7 @@ use bits_word::low_bits;
 use image::head::Head;
 use image_cursor::cursor::ahead;
 use image_cursor::cursor::turn;
+use lists::either;
 use match_page::FrontPage;
 use match_page::mark_page;
 use sum_marks::marks::any_carries;
@@ -14,7 +15,7 @@ use sum_marks::prefix::Prefix;
 use sum_marks::prefix::attempt;
 ghost use mathlib.Core.Bool.{true};
 ghost use mathlib.Core.Path.{_≡_};
-ghost use Prim.Native.Nat.{_+_, _-_, _%_, _^_, _≤_};
+ghost use Prim.Native.Nat.{_+_, _-_, _%_, _^_, _≤_, _<_};
 ghost use lib.ListN.{length};
 ghost use Rattle.sum_table.specs.Code.Sums.{Sums};
 ghost use Rattle.image.specs.Check.{accepted};
@@ -24,7 +25,7 @@ ghost use Rattle.image_cursor.specs.Code.Cursor.{Ahead, Ready};
 ghost use Rattle.runs.specs.Code.{NoneBefore};
 ghost use Rattle.sum_marks.specs.Code.Marks.{marksLength};
 ghost use Rattle.match_page.specs.Code.Page.{FrontPageOf, InHand, MarksOf, RunOf};
-ghost use Rattle.match_seek.specs.Code.Seek.{Brings, Later, Passing, Seeks};
+ghost use Rattle.match_seek.specs.Code.Seek.{Brings, FirstAbove, Later, Passing, Reached, Seeks};
 
 // The first hour of the runs that are tried, and how many coins more than before the page at the front are wanted where one of them ends.
 pub struct Aim {
@@ -38,8 +39,23 @@ pub enum PageSearch {
     Beyond(Aim),
 }
 
+// The first of the four hours after lo that wants more than sum. They want a, b, c and d, each no less than the one before, and d is more than
+// sum. No jump: which of the four it is, a processor cannot foretell.
+fn first_above(sum: u64, lo: u64, a: u64, b: u64, c: u64, d: u64) -> Aim
+    requires { ⌜ (a ≤ b) × (b ≤ c) × (sum < d) × (lo ≤ 4294967295) ⌝ }
+    ensures { λ r. ⌜ FirstAbove sum lo a b c d r ⌝ }
+{
+    let past = either(a <= sum, 1, 0) + either(b <= sum, 1, 0) + either(c <= sum, 1, 0);
+    let late = either(c <= sum, d, c);
+    let later = either(b <= sum, late, b);
+    Aim {
+        lo: lo + 1 + past,
+        want: either(a <= sum, later, a),
+    }
+}
+
 // Passes over hour lo, and over the next ones of the n from it on, four at a time, as long as none of the four may be met: two jumps for four
-// hours. The first count is at place b of back.
+// hours. Where one of the four wants more than the page has, it goes as far as that. The first count is at place b of back.
 fn skip(
     s: &[u8],
     h: Head,
@@ -54,7 +70,7 @@ fn skip(
     requires { ⌜ (accepted (now s) ≡ true) × HeadOf (now s) h × RunOf (listOf (now s)) page ⌝ }
     requires { ⌜ Passing (listOf (now s)) q page (at .lo) 0 (at .want) × Ahead h (at .lo) n × (b ≡ at .lo % 2 ^ h .e) ⌝ }
     requires { ⌜ Ready (now s) (at .lo) (now back) × MarksOf (listOf (now s)) page (now marks) ⌝ }
-    ensures { λ r. ⌜ (at .lo ≤ r .lo) × (r .lo - at .lo ≤ n) × Passing (listOf (now (s .entry))) q page (at .lo) (r .lo - at .lo) (r .want) ⌝ }
+    ensures { λ r. ⌜ (at .lo ≤ r .lo) × (r .lo - at .lo ≤ n) × Reached (listOf (now (s .entry))) q page (at .lo) (r .lo - at .lo) (r .want) ⌝ }
 {
     let mut want = at.want;
     let mut i = 0;
@@ -63,11 +79,11 @@ fn skip(
         let second = first + (back[b + i + 1] as u64);
         let third = second + (back[b + i + 2] as u64);
         let fourth = third + (back[b + i + 3] as u64);
-        if page.sum < fourth {
-            break;
-        }
         if any_carries(marks, first, second, third, fourth, page.stamp) {
             break;
+        }
+        if page.sum < fourth {
+            return first_above(page.sum, at.lo + (i as u64), first, second, third, fourth);
         }
         want = fourth;
         i = i + 4;
@@ -79,7 +95,7 @@ fn skip(
 }
 
 // Passes over hour lo, and over the next ones of its page, which back has, until the coins that one wants may be met in the page at the front,
-// or are more than this has.
+// or are more than this has. Single steps are left for four hours of which one may be met, and for the last of their page.
 fn pass(s: &[u8], h: Head, q: u64, page: FrontPage, at: Aim, marks: &[u8], back: &[u32]) -> Aim
     requires { ⌜ (accepted (now s) ≡ true) × HeadOf (now s) h × (1 ≤ q) × RunOf (listOf (now s)) page ⌝ }
     requires { ⌜ Seeks (listOf (now s)) q (page .first) at × (at .want ≤ page .sum) × NoneBefore (listOf (now s)) q (at .lo + 1) ⌝ }
@@ -89,6 +105,9 @@ fn pass(s: &[u8], h: Head, q: u64, page: FrontPage, at: Aim, marks: &[u8], back:
     let b = low_bits(at.lo, h.e) as usize;
     let n = ahead(h, at.lo);
     let gone = skip(s, h, q, page, at, marks, back, b, n);
+    if page.sum < gone.want {
+        return gone;
+    }
     let mut want = gone.want;
     let mut i = (gone.lo - at.lo) as usize;
     while i < n {

@@ -5,8 +5,8 @@ use native.Mathlib.Omega.{arith}
 use Rattle.image.specs.Read.{listOf}
 use Rattle.image_cursor.proofs.CursorLaws.{page-small}
 use Rattle.match_page.proofs.PageLaws.{hours, page-small as sum-small}
-use Rattle.match_seek.specs.Code.Seek.{Passing}
-use Rattle.match_seek.proofs.PassLaws.{passing-four, place-here}
+use Rattle.match_seek.specs.Code.Seek.{Passing, Reached}
+use Rattle.match_seek.proofs.PassLaws.{above-four, passing-four, place-here}
 use Rattle.match_seek.proofs.skip.Statement.{statement}
 use Rattle.match_seek.proofs.skip.Tie as tie
 
@@ -73,7 +73,13 @@ cast-second : tie.Need-cast-second Inv-loop μ-loop
 cast-second c = omega (arith, c .shared-slice-known5 .given (there (c .before .before) + 1))
 
 add-second-3 : tie.Need-add-second-3 Inv-loop μ-loop
-add-second-3 c = omega (arith, c .shared-slice-known5 .given (there (c .before .before) + 1), c .before .shared-slice-known4 .given (there (c .before .before)), low (c .before .before))
+add-second-3 c =
+    omega (
+      arith,
+      c .shared-slice-known5 .given (there (c .before .before) + 1),
+      c .before .shared-slice-known4 .given (there (c .before .before)),
+      low (c .before .before),
+    )
 
 add-third : tie.Need-add-third Inv-loop μ-loop
 add-third c = omega (arith, place (c .before .before))
@@ -91,7 +97,14 @@ cast-third : tie.Need-cast-third Inv-loop μ-loop
 cast-third c = omega (arith, c .shared-slice-known6 .given (there (c .before .before .before) + 2))
 
 add-third-3 : tie.Need-add-third-3 Inv-loop μ-loop
-add-third-3 c = omega (arith, c .shared-slice-known6 .given (there (c .before .before .before) + 2), c .before .shared-slice-known5 .given (there (c .before .before .before) + 1), c .before .before .shared-slice-known4 .given (there (c .before .before .before)), low (c .before .before .before))
+add-third-3 c =
+    omega (
+      arith,
+      c .shared-slice-known6 .given (there (c .before .before .before) + 2),
+      c .before .shared-slice-known5 .given (there (c .before .before .before) + 1),
+      c .before .before .shared-slice-known4 .given (there (c .before .before .before)),
+      low (c .before .before .before),
+    )
 
 add-fourth : tie.Need-add-fourth Inv-loop μ-loop
 add-fourth c = omega (arith, place (c .before .before .before))
@@ -109,42 +122,79 @@ cast-fourth : tie.Need-cast-fourth Inv-loop μ-loop
 cast-fourth c = omega (arith, c .shared-slice-known7 .given (there (c .before .before .before .before) + 3))
 
 add-fourth-3 : tie.Need-add-fourth-3 Inv-loop μ-loop
-add-fourth-3 c = omega (arith, c .shared-slice-known7 .given (there (c .before .before .before .before) + 3), c .before .shared-slice-known6 .given (there (c .before .before .before .before) + 2), c .before .before .shared-slice-known5 .given (there (c .before .before .before .before) + 1), c .before .before .before .shared-slice-known4 .given (there (c .before .before .before .before)), low (c .before .before .before .before))
+add-fourth-3 c =
+    omega (
+      arith,
+      c .shared-slice-known7 .given (there (c .before .before .before .before) + 3),
+      c .before .shared-slice-known6 .given (there (c .before .before .before .before) + 2),
+      c .before .before .shared-slice-known5 .given (there (c .before .before .before .before) + 1),
+      c .before .before .before .shared-slice-known4 .given (there (c .before .before .before .before)),
+      low (c .before .before .before .before),
+    )
 
 any-carries-requires : tie.Need-any-carries-requires Inv-loop μ-loop
-any-carries-requires c κs = call (c .before .before .before .before .before .before) .pre .1 .1 .1 .long
+any-carries-requires c κs = call (c .before .before .before .before) .pre .1 .1 .1 .long
+
+-- none of the four has a mark
+module _ (c : tie.Else1 Inv-loop μ-loop) where
+  abbrev here : tie.In-loop Inv-loop μ-loop
+  here = c .before .before .before .before .before .before
+
+  hours-low : call here .args .at .lo + (here .before .loop .i + 4) ≤ 4294967295
+  hours-low =
+      let a = call here .pre in
+      omega (arith, here .loop-test .taken, a .1 .0 .1 .inside, a .0 .1 .hours-small)
+
+add-first-above : tie.Need-add-first-above Inv-loop μ-loop
+add-first-above c = omega (arith, hours-low (c .before .before .before))
+
+first-above-requires : tie.Need-first-above-requires Inv-loop μ-loop
+first-above-requires c κs = (omega arith, omega arith, c .before .if2 .taken, omega (arith, hours-low (c .before .before .before)))
+
+returns : tie.Need-returns Inv-loop μ-loop
+returns c =
+    let e = c .before .before .before .before in
+    let k = here e in
+    let g = call k in
+    let a = g .pre in
+    let u = e .before .any-carries .ensures (e .if1 .left) in
+    above-four _ (a .0 .0) (a .0 .1) _ _ _ (a .1 .0 .1) (a .1 .0 .2) _ (g .args .page) _ (a .1 .1 .0) _ (a .0 .2) (a .1 .1 .1)
+    _ _ (k .before .loop .inv .1) (k .loop-test .taken) _ _ _ _ refl refl refl refl u _ (c .first-above .ensures)
 
 add-i : tie.Need-add-i Inv-loop μ-loop
-add-i c = omega (arith, ahead-low (call (c .before .before .before .before .before .before .before .before)), c .before .before .before .before .before .before .before .before .loop-test .taken)
+add-i c = omega (arith, hours-low (c .before .before))
 
 loop-less : tie.Need-loop-less Inv-loop μ-loop
-loop-less c = omega (arith, c .before .before .before .before .before .before .before .before .loop-test .taken)
+loop-less c = omega (arith, here (c .before .before) .loop-test .taken)
 
 loop-again : tie.Need-loop-again Inv-loop μ-loop
 loop-again c =
-    let k = c .before .before .before .before .before .before .before .before in
+    let e = c .before .before in
+    let k = here e in
     let g = call k in
     let a = g .pre in
-    let l = k .loop-test .taken in (
-      l,
-      passing-four _ (a .0 .0) (a .0 .1) _ _ _ (a .1 .0 .1) (a .1 .0 .2) _ (g .args .page) _ (a .1 .1 .0) _ (a .0 .2) (a .1 .1 .1) _ _ (k .before .loop .inv .1) l
-          _ _ _ _ refl refl refl refl (omega (arith, c .before .before .if1 .left)) (c .before .any-carries .ensures (c .if2 .left)),
-    )
+    let l = k .loop-test .taken in
+    let u = e .before .any-carries .ensures (e .if1 .left) in
+    let v =
+    passing-four _ (a .0 .0) (a .0 .1) _ _ _ (a .1 .0 .1) (a .1 .0 .2) _ (g .args .page) _ (a .1 .1 .0) _ (a .0 .2) (a .1 .1 .1)
+    _ _ (k .before .loop .inv .1) l _ _ _ _ refl refl refl refl u in
+    (l, v (c .if2 .left))
 
-add-t28 : tie.Need-add-t28 Inv-loop μ-loop
-add-t28 c =
+add-t30 : tie.Need-add-t30 Inv-loop μ-loop
+add-t30 c =
     let l = c .before .before in
     let g = l .before .before .before .before in
     let a = g .pre in
     omega (arith, ahead-low g, l .loop .inv .0, a .1 .0 .0 .0 .inside, hours _ (a .0 .0) (a .0 .1), a .0 .1 .hours-small)
 
-returns : tie.Need-returns Inv-loop μ-loop
-returns c =
+returns-2 : tie.Need-returns-2 Inv-loop μ-loop
+returns-2 c =
     let l = c .before .before in
     let v = l .loop .inv in
     let a = l .before .before .before .before .args in
     let e : a .at .lo + l .loop .i - a .at .lo ≡ l .loop .i = omega arith in
-    (omega arith, omega (arith, v .0), subst (λ (k : ℕ). Passing (listOf (a .s .now)) (a .q) (a .page) (a .at .lo) k (l .loop .want)) (sym e) (v .1))
+    let x = subst (λ (k : ℕ). Reached (listOf (a .s .now)) (a .q) (a .page) (a .at .lo) k (l .loop .want)) (sym e) (v .1 .0, λ _. v .1 .2) in
+    (omega arith, omega (arith, v .0), x)
 
 pub skip-spec : {M : Type 1} → statement M
 skip-spec =
@@ -178,8 +228,11 @@ skip-spec =
     cast-fourth
     add-fourth-3
     any-carries-requires
+    add-first-above
+    first-above-requires
+    returns
     add-i
     loop-less
     loop-again
-    add-t28
-    returns)
+    add-t30
+    returns-2)

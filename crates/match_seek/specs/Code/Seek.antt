@@ -27,6 +27,18 @@ abbrev pub Passing : List ℕ → ℕ → FrontPage → ℕ → ℕ → ℕ → 
 Passing xs q page lo i want =
     Seeks xs q (page .first) (record { lo = lo + i; want = want }) × (want ≤ page .sum) × NoneBefore xs q (lo + i + 1)
 
+-- i hours from lo on are passed over, and the next is as well, unless it wants more than the page has
+abbrev pub Reached : List ℕ → ℕ → FrontPage → ℕ → ℕ → ℕ → Type 0
+Reached xs q page lo i want =
+    Seeks xs q (page .first) (record { lo = lo + i; want = want }) × (want ≤ page .sum → NoneBefore xs q (lo + i + 1))
+
+-- the first of the four hours after lo that wants more than sum, where they want a, b, c and d, each no less than the one before
+pub data FirstAbove (sum lo a b c d : ℕ) : Aim → Type 0 where
+  at-first : sum < a → FirstAbove sum lo a b c d (record { lo = lo + 1; want = a })
+  at-second : a ≤ sum → sum < b → FirstAbove sum lo a b c d (record { lo = lo + 2; want = b })
+  at-third : b ≤ sum → sum < c → FirstAbove sum lo a b c d (record { lo = lo + 3; want = c })
+  at-fourth : c ≤ sum → sum < d → FirstAbove sum lo a b c d (record { lo = lo + 4; want = d })
+
 -- where it stands some hours later, no further than at the first hour of the next page
 pub record Later (xs : List ℕ) (h : Head) (q first : ℕ) (at r : Aim) : Type 0 where
   pub seeks : Seeks xs q first r
