@@ -54,8 +54,8 @@ fn first_above(sum: u64, lo: u64, a: u64, b: u64, c: u64, d: u64) -> Aim
     }
 }
 
-// Passes over hour lo, and over the next ones of the n from it on, four at a time, as long as none of the four may be met: two jumps for four
-// hours. Where one of the four wants more than the page has, it goes as far as that. The first count is at place b of back.
+// Passes over hour lo, and over the next ones of the n from it on, four at a time, as long as none of the four may be met. Where one of the
+// four wants more than the page has, it goes as far as that. The first count is at place b of back.
 fn skip(
     s: &[u8],
     h: Head,

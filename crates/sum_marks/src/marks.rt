@@ -32,7 +32,7 @@ pub fn carries(marks: &[u8], sum: u64, stamp: u8) -> bool
     marks[(sum % MARKS_LENGTH) as usize] == stamp
 }
 
-// Whether there is one at the place of one of four sums. No jump on the marks: one for all four is enough.
+// Whether there is one at the place of one of four sums.
 pub fn any_carries(marks: &[u8], a: u64, b: u64, c: u64, d: u64, stamp: u8) -> bool
     requires { ⌜ length (now marks) ≡ marksLength ⌝ }
     ensures { λ r. ⌜ (r ≡ false → Unmarked (now (marks .entry)) stamp a × Unmarked (now (marks .entry)) stamp b
