@@ -30,7 +30,8 @@ fn write_book(s: &[u8], h: Head, book: &mut [u8]) -> Answer
     if (book.len() as u64) < n {
         return Answer::Refused(refusal::BUFFER);
     }
-    let table = sum_table::sums();
+    let mut table = [0u8; 864];
+    sum_table::put_sums(&mut table);
     put_book(s, &table, h, book);
     Answer::Number(n)
 }

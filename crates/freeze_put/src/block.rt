@@ -16,7 +16,8 @@ pub(crate) fn unpack(s: &[u8], pages: usize, first: usize, list: &mut [u32; 256]
     ensures { λ _. ⌜ now (list .exit) ≡ window (listIn (now (s .entry))) (64 * first) 256 ⌝ }
 {
     let some = lists::smaller(pages - first, 4);
-    let table = sum_table::sums();
+    let mut table = [0u8; 864];
+    sum_table::put_sums(&mut table);
     let mut j = 0;
     while j < some {
         let p = first + j;

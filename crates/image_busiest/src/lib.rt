@@ -24,7 +24,8 @@ fn among(s: &[u8], h: Head, k: u64) -> Stretch
     if h.hours < k {
         return Stretch::Refused(refusal::STRETCH);
     }
-    let table = sum_table::sums();
+    let mut table = [0u8; 864];
+    sum_table::put_sums(&mut table);
     let w = best_window(s, &table, h, k);
     Stretch::Run(w.best, w.most)
 }

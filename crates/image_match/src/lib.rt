@@ -24,7 +24,8 @@ fn among(s: &[u8], h: Head, q: u64) -> Bag
     if h.total < q {
         return Bag::None;
     }
-    let table = sum_table::sums();
+    let mut table = [0u8; 864];
+    sum_table::put_sums(&mut table);
     find(s, &table, h, q)
 }
 

@@ -28,7 +28,8 @@ pub fn counts_at(s: &[u8], base: usize, p: usize, sum: u64, k: usize) -> [u32; H
     ensures { λ r. ⌜ r ≡ page (listIn (now (s .entry))) p ⌝ }
 {
     let code = gather_at(s, base, p, k);
-    let table = sum_table::sums();
+    let mut table = [0u8; 864];
+    sum_table::put_sums(&mut table);
     let mut room = [0u32; 256];
     tree_decode::decode(&code, &table, 0, 6, sum, &mut room, 0);
     first_counts(&room)

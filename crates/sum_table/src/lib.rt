@@ -19,11 +19,11 @@ pub struct Few {
     pub right: u8,
 }
 
-// The table. The compiler builds it on the caller's stack at each call: whoever needs it many times makes it once and lends it.
-pub fn sums() -> [u8; 864]
-    ensures { λ r. ⌜ Sums r ⌝ }
+// Puts the table's entries into a lent array. Whoever needs it many times makes it once and lends it.
+pub fn put_sums(table: &mut [u8; 864])
+    ensures { λ _. ⌜ Sums (now (table .exit)) ⌝ }
 {
-    SUMS
+    *table = SUMS;
 }
 
 // A byte as a number.

@@ -25,15 +25,15 @@ returns c =
     let a = c .before .before .before .before in
     book-4 (xs a) (a .args .book .now) (2 * a .args .h .hours) (a .pre .2) (size a) (c .if1 .taken)
 
-sums-requires : tie.Need-sums-requires
-sums-requires c κs = search needs
+put-sums-requires : tie.Need-put-sums-requires
+put-sums-requires c κs = search needs
 
 put-book-requires : tie.Need-put-book-requires
 put-book-requires c κs =
     let t = c .before .before in
-    let e = t .before in
+    let e = t .before .before in
     let a = e .before .before .before .before in
-    (a .pre .0, a .pre .1, a .pre .2, omega (arith, e .if1 .left, a .pre .1 .hours-is), t .sums .ensures)
+    (a .pre .0, a .pre .1, a .pre .2, omega (arith, e .if1 .left, a .pre .1 .hours-is), t .put-sums .ensures)
 
 same-length : tie.Need-same-length
 same-length c = search needs
@@ -41,11 +41,11 @@ same-length c = search needs
 returns-2 : tie.Need-returns-2
 returns-2 c =
     let p = c .before .before in
-    let e = p .before .before .before .before in
+    let e = p .before .before .before .before .before in
     let a = e .before .before .before .before in
     book-put (xs a) (a .args .book .now) (p .put-book .last .1 .1 .1 .0) (2 * a .args .h .hours) (a .pre .2) (size a) (e .if1 .left) (p .put-book .ensures)
 
 pub write-book-spec : {M : Type 1} → statement M
 write-book-spec =
     tie.close
-    (tie.spec mul-n returns sums-requires put-book-requires same-length returns-2)
+    (tie.spec mul-n returns put-sums-requires put-book-requires same-length returns-2)

@@ -15,16 +15,16 @@ returns-2 c =
     let a = c .before .before .before .before in
     no-such-run (a .pre .0) (inr (omega (arith, hours _ (a .pre .0) (a .pre .1), c .if2 .taken)))
 
-sums-requires : tie.Need-sums-requires
-sums-requires c κs = search needs
+put-sums-requires : tie.Need-put-sums-requires
+put-sums-requires c κs = search needs
 
 best-window-requires : tie.Need-best-window-requires
 best-window-requires c κs = search needs
 
 returns-3 : tie.Need-returns-3
 returns-3 c =
-    let e = c .before .before .before .before .before in
+    let e = c .before .before .before .before .before .before in
     the-run (e .before .before .pre .0) (omega (arith, e .if1 .left)) _ _ (c .best-window .ensures)
 
 pub among-spec : {M : Type 1} → statement M
-among-spec = tie.close (tie.spec returns returns-2 sums-requires best-window-requires returns-3)
+among-spec = tie.close (tie.spec returns returns-2 put-sums-requires best-window-requires returns-3)

@@ -15,20 +15,20 @@ returns-2 c =
     let a = e .before .before .pre in
     none (a .0) (omega (arith, e .if1 .left)) (none-larger _ _ (a .0) _ (a .1) (c .if2 .taken))
 
-sums-requires : tie.Need-sums-requires
-sums-requires c κs = search needs
+put-sums-requires : tie.Need-put-sums-requires
+put-sums-requires c κs = search needs
 
 find-requires : tie.Need-find-requires
 find-requires c κs =
     let t = c .before in
-    let e = t .before .before .before in
+    let e = t .before .before .before .before in
     let a = e .before .before .pre in
-    (a .0, a .1, omega (arith, e .if1 .left), t .sums .ensures)
+    (a .0, a .1, omega (arith, e .if1 .left), t .put-sums .ensures)
 
 returns-3 : tie.Need-returns-3
 returns-3 c =
-    let e = c .before .before .before .before .before in
+    let e = c .before .before .before .before .before .before in
     found-answer _ _ (e .before .before .pre .0) (omega (arith, e .if1 .left)) _ (c .find .ensures)
 
 pub among-spec : {M : Type 1} → statement M
-among-spec = tie.close (tie.spec returns returns-2 sums-requires find-requires returns-3)
+among-spec = tie.close (tie.spec returns returns-2 put-sums-requires find-requires returns-3)

@@ -32,8 +32,8 @@ sub-smaller c = omega (arith, c .before .pre .2)
 smaller-requires : tie.Need-smaller-requires Inv-loop μ-loop
 smaller-requires c κs = search needs
 
-sums-requires : tie.Need-sums-requires Inv-loop μ-loop
-sums-requires c κs = search needs
+put-sums-requires : tie.Need-put-sums-requires Inv-loop μ-loop
+put-sums-requires c κs = search needs
 
 loop-holds : tie.Need-loop-holds Inv-loop μ-loop
 loop-holds c = (omega arith, refl, none-put _ _)
@@ -41,10 +41,10 @@ loop-holds c = (omega arith, refl, none-put _ _)
 -- the page is one of the store
 module _ (c : tie.In-loop Inv-loop μ-loop) where
   abbrev call : tie.Start Inv-loop μ-loop
-  call = c .before .before .before .before .before
+  call = c .before .before .before .before .before .before
 
   inside : call .args .first + c .before .loop .j < pagesOf (call .args .s .now)
-  inside = omega (arith, c .loop-test .taken, c .before .before .before .smaller .ensures, call .pre .1, call .pre .2)
+  inside = omega (arith, c .loop-test .taken, c .before .before .before .before .smaller .ensures, call .pre .1, call .pre .2)
 
   few : pagesOf (call .args .s .now) ≤ 1024
   few = facts (call .args .s .now) (call .pre .0) .pages-high
@@ -53,7 +53,7 @@ module _ (c : tie.In-loop Inv-loop μ-loop) where
   long = ap length (call .pre .3) ∙ length-replicate {A = ℕ} 256 0
 
   short : c .before .loop .j < 4
-  short = omega (arith, c .loop-test .taken, c .before .before .before .smaller .ensures)
+  short = omega (arith, c .loop-test .taken, c .before .before .before .before .smaller .ensures)
 
 add-p : tie.Need-add-p Inv-loop μ-loop
 add-p c = omega (arith, inside c, few c)
@@ -75,7 +75,7 @@ decode-requires c κs =
     let g = c .before .before .before in
     let o = g .before .entry-of .ensures in
     let n = g .before .before in (
-      (n .before .before .sums .ensures, lies (g .gather-at .result) _ (omega arith) (sum-small o), page-decoded o (g .gather-at .ensures) .0),
+      (n .before .before .put-sums .ensures, lies (g .gather-at .result) _ (omega arith) (sum-small o), page-decoded o (g .gather-at .ensures) .0),
       (sum-small o, n .before .loop .inv .1 ∙ long n, omega (arith, short n)),
     )
 
@@ -99,11 +99,11 @@ loop-again c =
 returns : tie.Need-returns Inv-loop μ-loop
 returns c =
     let l = c .before .loop in
-    let a = c .before .before .before .before .before in
-    let k : l .j ≡ c .before .before .before .smaller .result = omega (arith, l .inv .0, c .loop-test .left) in
+    let a = c .before .before .before .before .before .before in
+    let k : l .j ≡ c .before .before .before .before .smaller .result = omega (arith, l .inv .0, c .loop-test .left) in
     let f = facts (a .args .s .now) (a .pre .0) in
     block-is (listIn (a .args .s .now)) (a .args .list .now) (l .list) (a .args .pages) (a .args .first) (l .j)
-    (omega (arith, f .hours-are, f .hours-fit, a .pre .1)) (k ∙ c .before .before .before .smaller .ensures) (a .pre .3) (l .inv .2)
+    (omega (arith, f .hours-are, f .hours-fit, a .pre .1)) (k ∙ c .before .before .before .before .smaller .ensures) (a .pre .3) (l .inv .2)
 
 pub unpack-spec : {M : Type 1} → statement M
 unpack-spec =
@@ -113,7 +113,7 @@ unpack-spec =
     μ-loop
     sub-smaller
     smaller-requires
-    sums-requires
+    put-sums-requires
     loop-holds
     add-p
     entry-of-requires

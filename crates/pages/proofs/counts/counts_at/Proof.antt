@@ -14,8 +14,8 @@ use Rattle.pages.proofs.counts.counts_at.Tie as tie
 gather-at-requires : tie.Need-gather-at-requires
 gather-at-requires c κs = as-said (c .before .pre)
 
-sums-requires : tie.Need-sums-requires
-sums-requires c κs = search needs
+put-sums-requires : tie.Need-put-sums-requires
+put-sums-requires c κs = search needs
 
 slice-aggregate-decode : tie.Need-slice-aggregate-decode
 slice-aggregate-decode c = search needs
@@ -23,12 +23,13 @@ slice-aggregate-decode c = search needs
 decode-requires : tie.Need-decode-requires
 decode-requires c κs =
     let t = c .before .before .before in
-    let g = t .before .gather-at in
-    let a = t .before .before .before .args in
-    let o = t .before .before .before .pre in
+    let w = t .before .before in
+    let g = w .gather-at in
+    let a = w .before .before .args in
+    let o = w .before .before .pre in
     let xs = listIn (a .s .now) in (
       (
-        t .sums .ensures,
+        t .put-sums .ensures,
         lies (g .result) (a .sum) (omega arith) (sum-small o),
         code-exact (g .result) (page xs (a .p)) _ (a .sum) (page-length xs (a .p)) (sum-same o) (g .ensures .code-is),
       ),
@@ -44,7 +45,7 @@ first-counts-requires c κs = still-long 6 _ _ _ _ _ 0 256 refl (omega arith) (c
 returns : tie.Need-returns
 returns c =
     let d = c .before .before .decode in
-    let w = c .before .before .before .before .before .before .before in
+    let w = c .before .before .before .before .before .before .before .before in
     let g = w .gather-at in
     let a = w .before .before .args in
     let o = w .before .before .pre in
@@ -56,7 +57,7 @@ counts-at-spec =
     tie.close
     (tie.spec
     gather-at-requires
-    sums-requires
+    put-sums-requires
     slice-aggregate-decode
     decode-requires
     slice-aggregate-first-counts
