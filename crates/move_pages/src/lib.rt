@@ -12,6 +12,7 @@ ghost use lib.Dec.{leb, ltb};
 ghost use lib.ListN.{length};
 ghost use Rattle.lists.specs.Lists.{pick};
 ghost use Rattle.store.specs.Reading.{listIn};
+ghost use Rattle.sum_table.specs.Code.Sums.{Sums};
 ghost use Rattle.move_plan.specs.Code.Plan.{shifted};
 ghost use Rattle.move_pages.specs.Code.Pass.{Enough, PassTo, Settles, Some, pagesIn};
 
@@ -36,8 +37,9 @@ fn pass_page(
     hours: usize,
     late: bool,
     p: usize,
+    table: &[u8; 864],
 )
-    requires { ⌜ Some base m (now leaving) (now old) (now new) hours late p (now s) × (m .first ≤ p) × (p < m .end) ⌝ }
+    requires { ⌜ Some base m (now leaving) (now old) (now new) hours late p (now s) × (m .first ≤ p) × (p < m .end) × Sums (now table) ⌝ }
     ensures { λ _. ⌜ PassTo base m (now (leaving .entry)) (now (old .entry)) (now (new .entry)) hours late p (λ _. p + 1) (now (s .entry)) (now (s .exit)) ⌝ }
 {
     let has = old[p] as usize;
@@ -53,7 +55,7 @@ fn pass_page(
         old: has,
         new: gets,
     };
-    move_page(s, base, change, hours);
+    move_page(s, base, change, hours, table);
 }
 
 // One pass, over all pages that move.
@@ -66,14 +68,16 @@ fn pass(
     new: &[u8],
     hours: usize,
     late: bool,
+    table: &[u8; 864],
 )
     requires { ⌜ Some base m (now leaving) (now old) (now new) hours late 0 (now s) ⌝ }
+    requires { ⌜ Sums (now table) ⌝ }
     ensures { λ _. ⌜ PassTo base m (now (leaving .entry)) (now (old .entry)) (now (new .entry)) hours late 0 pagesIn (now (s .entry)) (now (s .exit)) ⌝ }
 {
     let end = m.end;
     let mut p = m.first;
     while p < end {
-        pass_page(s, base, m, leaving, old, new, hours, late, p);
+        pass_page(s, base, m, leaving, old, new, hours, late, p, table);
         p = p + 1;
     }
 }
@@ -92,8 +96,10 @@ pub fn move_all(
     requires { ⌜ Enough (now s) base m (now leaving) (now old) (now new) all × (hours ≡ length (shifted m (listIn (now s)))) ⌝ }
     ensures { λ _. ⌜ Settles (now (s .entry)) m (now (s .exit)) ⌝ }
 {
+    let mut table = [0u8; 864];
+    sum_table::put_sums(&mut table);
     put_four(s, 12, all as u64);
-    pass(s, base, m, leaving, old, new, all, false);
-    pass(s, base, m, leaving, old, new, all, true);
+    pass(s, base, m, leaving, old, new, all, false, &table);
+    pass(s, base, m, leaving, old, new, all, true, &table);
     put_four(s, 12, hours as u64);
 }

@@ -11,23 +11,23 @@ use Rattle.move_pages.proofs.pass.Statement.{statement}
 use Rattle.move_pages.proofs.pass.Tie as tie
 
 abbrev Inv-loop : tie.InvT-loop
-Inv-loop s₀ base m leaving old new hours late end p₀ s p =
+Inv-loop s₀ base m leaving old new hours late table end p₀ s p =
     (m .first ≤ p) × (p ≤ end) × (length s ≡ length s₀)
     × ((z : List ℕ) → Enough z base m leaving old new hours → Stands z m late 0 s₀ → Stands z m late p s)
 
 abbrev μ-loop : tie.MeasureT-loop
-μ-loop s₀ base m leaving old new hours late end p₀ s p = end - p
+μ-loop s₀ base m leaving old new hours late table end p₀ s p = end - p
 
 loop-holds : tie.Need-loop-holds Inv-loop μ-loop
 loop-holds c =
     let b = c .before .before .before .before in
-    (omega arith, omega (arith, some-page (b .pre .1)), refl, λ z h e. pass-begins h (b .args .late) e)
+    (omega arith, omega (arith, some-page (b .pre .0 .1)), refl, λ z h e. pass-begins h (b .args .late) e)
 
 pass-page-requires : tie.Need-pass-page-requires Inv-loop μ-loop
 pass-page-requires c κs =
     let b = c .before .before .before .before .before .before .before in
     let l = c .before .before .loop in
-    ((b .pre .0, b .pre .1, l .inv .3 (b .pre .0) (b .pre .1) (b .pre .2)), l .inv .0, omega arith)
+    ((b .pre .0 .0, b .pre .0 .1, l .inv .3 (b .pre .0 .0) (b .pre .0 .1) (b .pre .0 .2)), l .inv .0, omega arith, b .pre .1)
 
 add-p : tie.Need-add-p Inv-loop μ-loop
 add-p c = search needs

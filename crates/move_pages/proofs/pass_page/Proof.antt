@@ -44,8 +44,9 @@ move-page-requires c κs =
     let b = c .before .before .before .before .before .before .before .before .before .before .before in
     let h = b .pre .0 .1 in
     let d = due-yes (b .args .late) _ _ (c .before .before .before .before .due .ensures) (not-false (c .before .before .before .before .due .result) (c .before .before .before .if1 .left)) in
-    movable h (b .args .late) (b .pre .1) (b .pre .2) (b .pre .0 .2) (due-at h (b .args .late) (b .pre .1) (b .pre .2) (b .pre .0 .2) d) (c .before .before .near .ensures .0)
-    (c .before .coming .ensures) refl refl
+    let m = movable h (b .args .late) (b .pre .1) (b .pre .2) (b .pre .0 .2) (due-at h (b .args .late) (b .pre .1) (b .pre .2) (b .pre .0 .2) d)
+    (c .before .before .near .ensures .0) (c .before .coming .ensures) refl refl in
+    (m, b .pre .3)
 
 same-length : tie.Need-same-length
 same-length c = search needs

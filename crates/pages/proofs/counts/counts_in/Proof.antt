@@ -1,4 +1,4 @@
--- `pages::counts::counts_at` meets its contract. Assumes nothing.
+-- `pages::counts::counts_in` meets its contract. Assumes nothing.
 use mathlib.Core.Path.{refl, sym}
 use native.Mathlib.Omega.{arith}
 use Rattle.store.specs.Plain.{page}
@@ -8,28 +8,24 @@ use Rattle.tree.proofs.Shape.{still-long}
 use Rattle.pages.proofs.Coding.{code-exact, decoded, lies}
 use Rattle.pages.proofs.SoundPage.{as-said, sum-same, sum-small}
 use borrow.Author.Needs.{needs}
-use Rattle.pages.proofs.counts.counts_at.Statement.{statement}
-use Rattle.pages.proofs.counts.counts_at.Tie as tie
+use Rattle.pages.proofs.counts.counts_in.Statement.{statement}
+use Rattle.pages.proofs.counts.counts_in.Tie as tie
 
 gather-at-requires : tie.Need-gather-at-requires
-gather-at-requires c κs = as-said (c .before .pre)
-
-put-sums-requires : tie.Need-put-sums-requires
-put-sums-requires c κs = search needs
+gather-at-requires c κs = as-said (c .before .pre .0)
 
 slice-aggregate-decode : tie.Need-slice-aggregate-decode
 slice-aggregate-decode c = search needs
 
 decode-requires : tie.Need-decode-requires
 decode-requires c κs =
-    let t = c .before .before .before in
-    let w = t .before .before in
+    let w = c .before .before in
     let g = w .gather-at in
     let a = w .before .before .args in
-    let o = w .before .before .pre in
+    let o = w .before .before .pre .0 in
     let xs = listIn (a .s .now) in (
       (
-        t .put-sums .ensures,
+        w .before .before .pre .1,
         lies (g .result) (a .sum) (omega arith) (sum-small o),
         code-exact (g .result) (page xs (a .p)) _ (a .sum) (page-length xs (a .p)) (sum-same o) (g .ensures .code-is),
       ),
@@ -45,19 +41,18 @@ first-counts-requires c κs = still-long 6 _ _ _ _ _ 0 256 refl (omega arith) (c
 returns : tie.Need-returns
 returns c =
     let d = c .before .before .decode in
-    let w = c .before .before .before .before .before .before .before .before in
+    let w = c .before .before .before .before .before in
     let g = w .gather-at in
     let a = w .before .before .args in
-    let o = w .before .before .pre in
+    let o = w .before .before .pre .0 in
     let xs = listIn (a .s .now) in
     decoded (g .result) (page xs (a .p)) _ (a .sum) (page-length xs (a .p)) (sum-same o) (g .ensures .code-is) _ _ _ (d .ensures) (c .first-counts .ensures)
 
-pub counts-at-spec : {M : Type 1} → statement M
-counts-at-spec =
+pub counts-in-spec : {M : Type 1} → statement M
+counts-in-spec =
     tie.close
     (tie.spec
     gather-at-requires
-    put-sums-requires
     slice-aggregate-decode
     decode-requires
     slice-aggregate-first-counts
