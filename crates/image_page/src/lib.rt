@@ -1,6 +1,5 @@
 // The counts of a page of an image that the full check has accepted, and its root. Nothing is tested here: a caller checks once, reads the
-// header once, and then goes page by page over one lent array. What of the header is needed for each page is handed on as plain numbers: the
-// header as a struct would be copied at each call, which takes as long as the rest of what is read for a page.
+// header once, and then goes page by page over one lent array.
 use bits::numbers::get4;
 use image::head::Head;
 use image::head::table_at;
@@ -73,7 +72,8 @@ pub fn counts_of(s: &[u8], table: &[u8; 864], h: Head, p: usize, sum: u64, count
     decode(s, table, tree, h.e, sum, counts, 0);
 }
 
-// The same, where the sum is what the page's root is above the one before.
+// The same, where the sum is what the page's root is above the one before. What it needs of the header comes as plain numbers: it has several
+// callers, and a struct would be copied at each call, which takes as long as reading both roots.
 pub fn page_counts(
     s: &[u8],
     table: &[u8; 864],
