@@ -1,7 +1,6 @@
--- Laws of the counts: half by half, out of a word's own bits, both halves out of one word, four at a time, with two coins at most, and of an empty tree.
+-- Laws of the counts: half by half, out of a word's own bits, both halves out of one word, four at a time, and of an empty tree.
 pub mod Decoding
 pub mod WordBits
 pub mod WordHalves
 pub mod FourCounts
-pub mod FewCounts
 pub mod Empty

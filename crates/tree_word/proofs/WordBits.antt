@@ -13,27 +13,11 @@ use Rattle.bits.proofs.Packing.{Bits, bits-bytes, bits-field, field-piece, valu
 use Rattle.bits_field.specs.Code.Front.{Front}
 use Rattle.bits_field.proofs.Leading.{up-part}
 use Rattle.reserve.specs.Reserve.{digits, reserve}
-use Rattle.reserve.proofs.Fit.{bound}
-use Rattle.reserve.proofs.Line.{A, B}
 use Rattle.tree.specs.Read.{leftOf, counts}
 use Rattle.tree.specs.Code.Exact.{exact}
 use Rattle.tree.specs.Code.Node.{Lies}
 use Rattle.tree.proofs.Exacts.{field-part, counts-local}
 use Rattle.tree.proofs.Local.{exact-local}
-use Rattle.tree_word.specs.Code.FitsWord.{FitsWord}
-
--- ---- what small trees own
-pub sixteen : {h s : ℕ} → h ≡ 4 → s < 37 → FitsWord h s
-unfolding A B
-sixteen {h} {s} e l = rw e (omega (arith, bound 4 s 6))
-
-pub thirty-two : {h s : ℕ} → h ≡ 5 → s < 17 → FitsWord h s
-unfolding A B
-thirty-two {h} {s} e l = rw e (omega (arith, bound 5 s 5))
-
-pub sixty-four : {h s : ℕ} → h ≡ 6 → s < 13 → FitsWord h s
-unfolding A B
-sixty-four {h} {s} e l = rw e (omega (arith, bound 6 s 4))
 
 -- ---- the bits that a tree owns in b from bit a on stand at the high end of w
 pub record HighEnd (b : List ℕ) (a h s w : ℕ) : Type 0 where

@@ -1,3 +1,2 @@
 -- What one function hands the next, by the file that has it.
-pub mod FitsWord
 pub mod Fields

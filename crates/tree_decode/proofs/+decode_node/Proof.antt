@@ -7,7 +7,7 @@ use Rattle.lists.specs.Lists.{splice}
 use Rattle.bits.specs.Bits.{bits}
 use Rattle.tree.proofs.Rooting.{top, halved, left-lies, right-lies}
 use Rattle.tree.proofs.Shape.{still-long}
-use Rattle.tree_word.specs.Code.FitsWord.{FitsWord}
+use Rattle.tree_whole.specs.Code.FitsWord.{FitsWord}
 use Rattle.tree_word.proofs.Decoding.{Unfolded, unfolded, both-halves, height-written}
 use Rattle.tree_word.proofs.WordBits.{HighEnd, loaded, word-exact, word-counts}
 use mathlib.Core.Bool.{true}
@@ -26,8 +26,8 @@ use Rattle.bits_field.proofs.front.load.Reads as load-reads
 use Rattle.reserve.proofs.power.Reads as power-reads
 use Rattle.tree.proofs.node.root_by_shifts.Reads as root-by-shifts-reads
 use Rattle.tree_decode.proofs.eights.Reads as eights-reads
-use Rattle.tree_word.proofs.whole.decode_word.Reads as decode-word-reads
-use Rattle.tree_word.proofs.whole.fits.Reads as fits-reads
+use Rattle.tree_whole.proofs.decode_word.Reads as decode-word-reads
+use Rattle.tree_whole.proofs.fits.Reads as fits-reads
 use Rattle.tree_decode.proofs.+decode_node.{statement}
 use Rattle.tree_decode.proofs.+decode_node.Tie.{close}
 

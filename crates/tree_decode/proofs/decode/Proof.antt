@@ -2,7 +2,7 @@
 use mathlib.Core.Path.{ap, _∙_}
 use Rattle.lists.specs.Lists.{splice}
 use Rattle.bits.specs.Bits.{bits}
-use Rattle.tree_word.specs.Code.FitsWord.{FitsWord}
+use Rattle.tree_whole.specs.Code.FitsWord.{FitsWord}
 use Rattle.tree_word.proofs.WordBits.{HighEnd, loaded, word-exact, word-counts}
 use borrow.Author.Needs.{needs}
 use Rattle.tree_decode.proofs.decode.Statement.{statement}

@@ -1,10 +1,12 @@
 // A tree of 16 counts or more whose bits one word has.
-use crate::sixteen;
-use crate::zeros;
+mod sparse;
+
+use crate::sparse::sixteen;
 use bits_field::front;
 use reserve::power;
 use sum_table::digits_in;
 use sum_table::reserve_in;
+use tree_word::zeros;
 ghost use mathlib.Core.Bool.{true};
 ghost use mathlib.Core.Path.{_≡_};
 ghost use Prim.Native.Nat.{_+_, _≤_, _^_};
@@ -14,7 +16,7 @@ ghost use Rattle.bits.specs.Bits.{field};
 ghost use Rattle.sum_table.specs.Code.Sums.{Sums};
 ghost use Rattle.tree.specs.Read.{counts};
 ghost use Rattle.tree.specs.Code.Exact.{exact};
-ghost use Rattle.tree_word.specs.Code.FitsWord.{FitsWord};
+ghost use Rattle.tree_whole.specs.Code.FitsWord.{FitsWord};
 
 // Whether a tree of 2^h counts with sum s is one of 16, 32 or 64 that own 57 bits at most. A sum one higher owns more. Most sums are told by the
 // first test.

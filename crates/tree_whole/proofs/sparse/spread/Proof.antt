@@ -1,9 +1,9 @@
--- `tree_word::spread` meets its contract. Assumes nothing.
+-- `tree_whole::sparse::spread` meets its contract. Assumes nothing.
 use native.Mathlib.Omega.{arith}
 use borrow.Author.Needs.{needs}
-use Rattle.tree_word.proofs.FewCounts.{quarters-put}
-use Rattle.tree_word.proofs.spread.Statement.{statement}
-use Rattle.tree_word.proofs.spread.Tie as tie
+use Rattle.tree_whole.proofs.FewCounts.{quarters-put}
+use Rattle.tree_whole.proofs.sparse.spread.Statement.{statement}
+use Rattle.tree_whole.proofs.sparse.spread.Tie as tie
 
 mul-out : tie.Need-mul-out
 mul-out c = search needs

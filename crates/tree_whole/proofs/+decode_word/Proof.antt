@@ -1,4 +1,4 @@
--- `tree_word::whole::decode_word` meets its contract. Assumes nothing.
+-- `tree_whole::decode_word` meets its contract. Assumes nothing.
 use mathlib.Core.Path.{_≡_, sym, ap, _∙_}
 use mathlib.Core.List.{List}
 use Prim.Native.Nat.{suc, _+_, _-_, _*_, _^_, _≤_}
@@ -10,26 +10,26 @@ use Rattle.bits.specs.Bits.{field}
 use Rattle.reserve.proofs.Exact.{digits-le}
 use Rattle.tree.specs.Read.{counts}
 use Rattle.tree.specs.Code.Exact.{exact}
-use Rattle.tree_word.specs.Code.FitsWord.{FitsWord}
+use Rattle.tree_whole.specs.Code.FitsWord.{FitsWord}
 use Rattle.tree_word.proofs.Decoding.{height-written}
 use Rattle.tree.proofs.Shape.{still-long}
 use Rattle.tree_word.proofs.Empty.{zeros-written}
 use Rattle.tree_word.proofs.WordHalves.{Top, short, left-le, room, behind, left-exact, right-exact, word-written}
 use borrow.Author.Needs.{needs}
 use Prim.Native.Nat.{ℕ, _<_}
 use borrow.Fn.Kinds.{In}
 use borrow.Fn.PlainCycle.{Measures, is, falls, and}
-use Rattle.tree_word.proofs.whole.decode_word.Reads as decode-word
-use Rattle.tree_word.proofs.whole.decode_word.Kinds as decode-word-kinds
-use Rattle.tree_word.proofs.whole.+decode_word.Lts-decode_word as decode-word-lts
+use Rattle.tree_whole.proofs.decode_word.Reads as decode-word
+use Rattle.tree_whole.proofs.decode_word.Kinds as decode-word-kinds
+use Rattle.tree_whole.proofs.+decode_word.Lts-decode_word as decode-word-lts
 use Rattle.bits_field.proofs.front.part.Reads as part-reads
 use Rattle.reserve.proofs.power.Reads as power-reads
 use Rattle.sum_table.proofs.digits_in.Reads as digits-in-reads
 use Rattle.sum_table.proofs.reserve_in.Reads as reserve-in-reads
-use Rattle.tree_word.proofs.sixteen.Reads as sixteen-reads
+use Rattle.tree_whole.proofs.sparse.sixteen.Reads as sixteen-reads
 use Rattle.tree_word.proofs.zeros.Reads as zeros-reads
-use Rattle.tree_word.proofs.whole.+decode_word.{statement}
-use Rattle.tree_word.proofs.whole.+decode_word.Tie.{close}
+use Rattle.tree_whole.proofs.+decode_word.{statement}
+use Rattle.tree_whole.proofs.+decode_word.Tie.{close}
 
 abbrev μ-decode-word : Measures 2 decode-word-kinds.ps ℕ
 μ-decode-word κs a = a .1 .1 .0

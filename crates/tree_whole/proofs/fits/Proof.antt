@@ -1,11 +1,11 @@
--- `tree_word::whole::fits` meets its contract. Assumes nothing.
+-- `tree_whole::fits` meets its contract. Assumes nothing.
 use mathlib.Core.Path.{_≡_}
 use Prim.Native.Nat.{ℕ}
 use native.Mathlib.Omega.{arith}
 use borrow.Author.Tests.{ltb-true, eqb-true}
-use Rattle.tree_word.proofs.WordBits.{sixteen, thirty-two, sixty-four}
-use Rattle.tree_word.proofs.whole.fits.Statement.{statement}
-use Rattle.tree_word.proofs.whole.fits.Tie as tie
+use Rattle.tree_whole.proofs.SmallTrees.{sixteen, thirty-two, sixty-four}
+use Rattle.tree_whole.proofs.fits.Statement.{statement}
+use Rattle.tree_whole.proofs.fits.Tie as tie
 
 returns : tie.Need-returns
 returns c = λ e. let z : _≡_ {A = ℕ} 0 1 = cc in absurd (omega arith)

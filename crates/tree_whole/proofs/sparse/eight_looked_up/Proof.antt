@@ -1,10 +1,10 @@
--- `tree_word::eight_looked_up` meets its contract. Assumes nothing.
+-- `tree_whole::sparse::eight_looked_up` meets its contract. Assumes nothing.
 use mathlib.Core.Path.{_∙_}
 use native.Mathlib.Omega.{arith}
 use borrow.Author.Needs.{needs}
-use Rattle.tree_word.proofs.FewCounts.{FewCode, below, few-written, quarters-long}
-use Rattle.tree_word.proofs.eight_looked_up.Statement.{statement}
-use Rattle.tree_word.proofs.eight_looked_up.Tie as tie
+use Rattle.tree_whole.proofs.FewCounts.{FewCode, below, few-written, quarters-long}
+use Rattle.tree_whole.proofs.sparse.eight_looked_up.Statement.{statement}
+use Rattle.tree_whole.proofs.sparse.eight_looked_up.Tie as tie
 
 -- where the code was read
 module _ (c : tie.After-part) where

@@ -1,4 +1,4 @@
--- `tree_word::sixteen` meets its contract. Assumes nothing.
+-- `tree_whole::sparse::sixteen` meets its contract. Assumes nothing.
 use mathlib.Core.Path.{_≡_, refl}
 use Prim.Native.Nat.{_+_, _≤_}
 use native.Mathlib.Omega.{arith}
@@ -6,11 +6,11 @@ use lib.ListN.{length}
 use Rattle.bits.specs.Bits.{field}
 use Rattle.reserve.proofs.Exact.{digits-le}
 use Rattle.tree.proofs.Shape.{still-long}
 use Rattle.tree_word.proofs.Empty.{zeros-written}
 use Rattle.tree_word.proofs.WordHalves.{Top, short, left-le, behind, left-exact, right-exact, word-written}
 use borrow.Author.Needs.{needs}
-use Rattle.tree_word.proofs.sixteen.Statement.{statement}
-use Rattle.tree_word.proofs.sixteen.Tie as tie
+use Rattle.tree_whole.proofs.sparse.sixteen.Statement.{statement}
+use Rattle.tree_whole.proofs.sparse.sixteen.Tie as tie
 
 -- where the left sum was read
 module _ (c : tie.After-part) where
