@@ -1,15 +1,14 @@
 -- Laws of a page of an image held in an array, hour after hour. Assumes nothing.
 use mathlib.Core.Bool.{true}
-use mathlib.Core.List.{List, [], _∷_, _++_}
-use mathlib.Core.Path.{_≡_, ap, ap₂, sym, _∙_}
+use mathlib.Core.List.{List}
+use mathlib.Core.Path.{_≡_, ap, sym, _∙_}
 use Prim.Native.Nat.{ℕ, _+_, _-_, _*_, _/_, _%_, _^_, _≤_, _<_, min}
 use native.Mathlib.Nat.{lt-of-mul-lt-mul-left}
 use native.Mathlib.Decide.{decLe}
-use native.Mathlib.Numerals.{add-one}
 use native.Mathlib.Omega.{arith}
-use lib.ListN.{length, getD, take, drop, set, length-set}
+use lib.ListN.{length, getD, take, drop}
 use lib.Pow.{pow-mono}
-use lib.Seq.{getD-set-same, getD-take, take-at, take-set-le, take-suc}
+use lib.Seq.{getD-take, take-at}
 use Rattle.lists.specs.Lists.{splice}
 use Rattle.lists.proofs.Parts.{length-splice}
 use Rattle.image.specs.Check.{accepted}
