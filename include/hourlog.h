@@ -51,7 +51,7 @@
  * WebAssembly, whose figures docs/BOARDS.md has: those here are of x86-64.  The
  * bytes of a store or an image mean the same on every machine.
  * Memory: the buffers, which the macros below measure (the largest store has
- * 63,760 bytes); 35 KiB of code; memcpy and memset of the C library.
+ * 63,760 bytes); 44 KiB of code; memcpy and memset of the C library.
  * Stack: HOURLOG_STACK, for insert and strike HOURLOG_MOVE_STACK, for freeze
  * HOURLOG_FREEZE_STACK.  A board that has not so much sends its store's bytes as
  * they are, and the laptop freezes them.
