@@ -3,6 +3,7 @@ use mathlib.Core.Path.{_≡_, refl, sym, ap, ap₂, _∙_}
 use mathlib.Core.List.{List, [], _∷_, _++_, append-assoc}
 use Prim.Native.Nat.{ℕ}
 use native.Mathlib.Omega.{arith}
+use lib.ListN.{take}
 use Rattle.lists.specs.Lists.{concat}
 use Rattle.session_input.specs.Lines.{holds, completes, gathered}
 use Rattle.session_print.specs.Printed.{printed}
@@ -12,7 +13,7 @@ use Rattle.replies.specs.Session.{turn, replies, output}
 use Rattle.replies.specs.PlainSession.{plainOutput}
 use Rattle.replies.proofs.SessionLaws.{session-is-plain}
 use Rattle.dialogue.specs.Dialogue.{State, start, prints, leaves, next, fed, said, last}
-use Rattle.dialogue.specs.Feed.{Loops, at-end, reads}
+use Rattle.dialogue.specs.Feed.{Closes, Feeds, Loops, at-end, reads}
 
 -- commands in two parts
 prints-append : (cs ds : List Command) (s : List ℕ) → prints (cs ++ ds) s ≡ prints cs s ++ prints ds (leaves cs s)
@@ -52,6 +53,14 @@ to-the-end (b ∷ bs) p =
 pub byte-by-byte : (input : List ℕ) → said input start ++ last (fed input start) ≡ output input
 unfolding output prints
 byte-by-byte input = to-the-end input start ∙ ap (λ (cs : List Command). prints cs []) (one-for-each-line 41 input (omega arith))
+
+-- a loop that hands a chunk to `feed` once and goes on where that left off is one of `Loops`, and so is one that ends
+pub loop-goes-on : {p q : State} {chunk : List ℕ} {n : ℕ} {before out : List ℕ} {chunks : List (List ℕ)} {rest : List ℕ}
+    → Feeds chunk p 0 before q n out → Loops q chunks rest → Loops p (chunk ∷ chunks) (take n out ++ rest)
+loop-goes-on w r = reads w r
+
+pub loop-ends : {p : State} {n : ℕ} {out : List ℕ} → Closes p n out → Loops p [] (take n out)
+loop-ends w = at-end w
 
 -- what is left to write is what the bytes that are left print
 loops-said : {p : State} {chunks : List (List ℕ)} {text : List ℕ} → Loops p chunks text
