@@ -3,7 +3,7 @@ use Rattle.image.proofs.CallLaws.{length-only}
 use Rattle.demands.specs.Demand2.{Demand2}
 use Rattle.demands.proofs.ImageRanges.{in-cells, in-image, ranges-of}
 use Rattle.demands.proofs.Theorems.{accepted-exactly, check-accepted, check-holds, count-accepted, reach-accepted, reading-accepted, reads-back}
-use Rattle.demands.proofs.Written.{freeze-is, length-is, write-is, write-only}
+use Rattle.demands.proofs.Written.{freeze-is, freeze-only, length-is, write-is, write-only}
 
 pub demand-2 : Demand2
 demand-2 =
@@ -23,4 +23,5 @@ demand-2 =
       writes = write-is;
       only-these = write-only;
       freezes = freeze-is;
+      only-sound = freeze-only;
     }

@@ -8,8 +8,9 @@ use native.Mathlib.Omega.{arith}
 use native.Mathlib.Decide.{decLe}
 use lib.ListN.{length, getD, take, set, List·getD-eq-default}
 use borrow.Author.Tests.{le-ltb, lt-leb}
-use Rattle.lists.specs.Lists.{pick}
+use Rattle.lists.specs.Lists.{pick, sum}
 use Rattle.store.specs.Fitting.{Fitting}
+use Rattle.store.specs.Limits.{Limits, maxTotal}
 use Rattle.store.specs.Call.{Result, call, freshCall, storeAnswers, storeEnd}
 use Rattle.store.specs.Layout.{Model, bytesOf, fresh}
 use Rattle.store.specs.Plain.{Append, Call, Count, Day, Free, Insert, Outcome, Plain, Reach, Reading, Set, Strike}
@@ -20,6 +21,7 @@ use Rattle.store.specs.Sound.{Good, sound}
 use Rattle.store.proofs.ChainLaws.{Says, says}
 use Rattle.store.proofs.LimitLaws.{fitting-exactly}
 use Rattle.store.proofs.FreshLaws.{fresh-good}
+use Rattle.store.proofs.Inserting.{sum-struck}
 use Rattle.store.proofs.ItemLaws.{sound-items}
 use Rattle.store.proofs.Unchanged.{kept-at}
 use Rattle.store.proofs.Whole.{answer-at, change-never, change-when, end-cells, end-pages, ends, length-answers}
@@ -52,13 +54,15 @@ step-never (Reach p) L h = pick-never _ 8 L _ (λ e. omega arith) (tell-never _ 
 step-never (Day d cs) L h = pick-never _ 16 L _ (λ e. omega arith) (pick-never _ 7 L _ (λ e. omega arith) (tell-never _ L))
 step-never Free L h = tell-never _ L
 
-step-when : (c : Call) (L : Plain) (ys : List ℕ) → Passes c L ys → (step c L .answer ≡ refused 12) ↔ (L .cells < need ys (L .pages))
+step-when : (c : Call) (L : Plain) (ys : List ℕ) → sum (L .counts) ≤ maxTotal → Passes c L ys
+    → (step c L .answer ≡ refused 12) ↔ (L .cells < need ys (L .pages))
 unfolding step pick
-step-when c L ys (appends v M a t) = rw (lt-leb (64 * L .pages) (length (L .counts)) a) (change-when L (L .counts ++ v ∷ []) t)
-step-when c L ys (sets i v M a t) = rw (lt-leb (length (L .counts)) i a) (change-when L (set (L .counts) i v) t)
-step-when c L ys (inserts i v M a b t) =
+step-when c L ys f (appends v M a t) = rw (lt-leb (64 * L .pages) (length (L .counts)) a) (change-when L (L .counts ++ v ∷ []) t)
+step-when c L ys f (sets i v M a t) = rw (lt-leb (length (L .counts)) i a) (change-when L (set (L .counts) i v) t)
+step-when c L ys f (inserts i v M a b t) =
     rw (le-ltb (length (L .counts)) i a, lt-leb (64 * L .pages) (length (L .counts)) b) (change-when L (inserted (L .counts) i v) t)
-step-when c L ys (strikes i M a t) = rw (lt-leb (length (L .counts)) i a) (change-when L (struck (L .counts) i) t)
+step-when c L ys f (strikes i M a) =
+    rw (lt-leb (length (L .counts)) i a) (change-when L (struck (L .counts) i) (omega (arith, f, sum-struck (L .counts) i)))
 
 -- ---- what is said of one store, said of another name for it
 carry : {s t : List ℕ} {P P′ C C′ : ℕ} {xs xs′ : List ℕ} → s ≡ t → P ≡ P′ → C ≡ C′ → xs ≡ xs′ → Says t P C xs → Says s P′ C′ xs′
@@ -69,12 +73,19 @@ free-said : (s : List ℕ) (L : Plain) (P C : ℕ) → sound s ≡ true → read
 unfolding call step pick
 free-said s L P C e l p c = rw (e, l, p, c)
 
-when-said : (a : Answer) (c : Call) (L : Plain) (P C : ℕ) (ys : List ℕ) → a ≡ step c L .answer → L .pages ≡ P → L .cells ≡ C → Passes c L ys
-    → (a ≡ refused 12) ↔ (C < need ys P)
-when-said a c L P C ys e p q h = rw (e, ← p, ← q) (step-when c L ys h)
+when-said : (a : Answer) (c : Call) (L : Plain) (P C : ℕ) (ys : List ℕ) → a ≡ step c L .answer → L .pages ≡ P → L .cells ≡ C
+    → sum (L .counts) ≤ maxTotal → Passes c L ys → (a ≡ refused 12) ↔ (C < need ys P)
+when-said a c L P C ys e p q f h = rw (e, ← p, ← q) (step-when c L ys f h)
 
 never-said : (a : Answer) (c : Call) (L : Plain) (P C : ℕ) → a ≡ step c L .answer → L .pages ≡ P → L .cells ≡ C → 8 * P ≤ C → a ≡ refused 12 → ⊥
 never-said a c L P C e p q h r = step-never c L (omega arith) (sym e ∙ r)
+
+-- the plain list's total fits, whatever it was fed
+total-fits : (P C : ℕ) → Limits P C → (cs : List Call) → sum (listAfter P C cs .counts) ≤ maxTotal
+unfolding fresh
+total-fits P C l cs =
+    let w = ends cs (fresh P C) (fresh-good P C l) in
+    subst (λ (L : Plain). sum (L .counts) ≤ maxTotal) (w .3) (w .1 .total)
 
 -- ---- demand 3
 module _ (b : List ℕ) (P C : ℕ) (h : Fitting b P C) (cs : List Call) where
@@ -149,7 +160,7 @@ module _ (b : List ℕ) (P C : ℕ) (h : Fitting b P C) (cs : List Call) where
     answers = ended .4;
     holds = store-holds;
     when-12 = λ n l ys a. when-said (answerAt b P C cs n) (getD cs n Free) (listAfter P C (take n cs)) P C ys (answer-is n l) (pages-then n)
-        (cells-then n) a;
+        (cells-then n) (total-fits P C (h .limits) (take n cs)) a;
     never-12 = λ e n. never (omega (arith, e)) n (decLe (suc n) (length cs));
     kept = kept-at cs (freshCall b P C .bytes);
   }

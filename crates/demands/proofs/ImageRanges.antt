@@ -1,6 +1,7 @@
 -- Demand 2's ranges: of every tree, of every node of every page of an image, and of a live page. Assumes nothing.
 use mathlib.Core.Path.{_≡_, sym, ap, _∙_, subst}
-use mathlib.Core.List.{List, [], _∷_}
+use mathlib.Core.Bool.{true}
+use mathlib.Core.List.{List, [], _∷_, _++_, append-nil}
 use Prim.Native.Nat.{ℕ, zero, suc, _+_, _-_, _^_, _≤_, _<_}
 use native.Mathlib.Omega.{arith}
 use native.Mathlib.Decide.{decLe}
@@ -11,14 +12,19 @@ use Rattle.reserve.specs.Reserve.{digits, reserve}
 use Rattle.tree.specs.Ranges.{Side, child, end, left, node, right}
 use Rattle.tree.proofs.RangeLaws.{apart, holds-code, inside, parts-of}
 use Rattle.tree.proofs.Shape.{length-tree}
+use Rattle.store.specs.PageCode.{pageBytes}
 use Rattle.store.specs.Plain.{page as plainPage}
-use Rattle.store.specs.Reading.{listIn}
+use Rattle.store.specs.Reading.{listIn, pagesOf, read, readFor}
+use Rattle.store.specs.Sound.{sound}
+use Rattle.store.proofs.Chained.{good-chained}
 use Rattle.store.proofs.PageCodeLaws.{cells-hold}
-use Rattle.pages.specs.Gathered.{Gathered}
+use Rattle.store.proofs.ReadBack.{code-in}
+use Rattle.store.proofs.SoundFacts.{facts}
 use Rattle.pages.proofs.Coding.{tree-at}
 use Rattle.image.specs.Image.{Limits, code, codeStart, image, page, pages, start}
 use Rattle.image.specs.Read.{codeAt, startOf, treeAt, widthOf}
-use Rattle.demands.specs.Demand2.{Coded, InCells, InImage, Ranges, Related, around, before, behind, nodeIn, pageStart, treeStart, within}
+use Rattle.demands.specs.Demand2.{Coded, InCells, InImage, Ranges, Related, around, before, behind, codeOf, nodeIn}
+use Rattle.demands.specs.Demand2.{pageStart, treeStart, within}
 use Rattle.image.proofs.ReadLaws.{code-is, start-is, tree-is, width-is}
 use Rattle.image.proofs.PageLaws.{start-next, start-within}
 
@@ -101,10 +107,16 @@ in-image e xs m =
     }
 
 -- ---- in a live page's cells
-pub in-cells : (s : List ℕ) (p : ℕ) (r : List ℕ) → Gathered s p r → InCells (plainPage (listIn s) p) r
-in-cells s p r g =
+-- what stands in the cells of a sound store's page is the code of its counts
+cells-coded : (s : List ℕ) (p : ℕ) → sound s ≡ true → p < pagesOf s → codeOf s p ≡ pageBytes (plainPage (listIn s) p)
+unfolding read readFor
+cells-coded s p h l = let f = facts s h in code-in s (read s) (good-chained (read s) (f .good)) (f .holds) p l
+
+pub in-cells : (s : List ℕ) (p : ℕ) → sound s ≡ true → p < pagesOf s → InCells (plainPage (listIn s) p) (codeOf s p)
+in-cells s p h l =
     let xs : List ℕ = plainPage (listIn s) p in
+    let c : codeOf s p ≡ pageBytes xs ++ [] = cells-coded s p h l ∙ sym (append-nil (pageBytes xs)) in
     record {
       in-cells = λ ds. omega (arith, inside ds 6 xs 0 .1, cells-hold (sum xs));
-      coded = λ ds. holds-code ds 6 xs (bits r) 0 (tree-at r xs _ (g .code-is));
+      coded = λ ds. holds-code ds 6 xs (bits (codeOf s p)) 0 (tree-at (codeOf s p) xs [] c);
     }

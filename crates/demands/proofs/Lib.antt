@@ -8,9 +8,13 @@ pub mod Theorems
 pub mod Written
 pub mod ImageRanges
 pub mod Demand2
+pub mod NodeLaws
+pub mod SentencesRanges
 pub mod Sentences2
 pub mod Samples
 pub mod Demand3
+pub mod StoreBytes
 pub mod Sentences3
+pub mod SentencesCells
 pub mod Note1
 pub mod Note7

@@ -1,35 +1,34 @@
--- What demand 3 says, sentence by sentence, of a store after any list of calls. Each law takes what it says from `demand-3`; a claim that
--- says less fails here. Assumes nothing.
+-- What demand 3 says, sentence by sentence, of a store after any list of calls; what it says of cells and chains is in SentencesCells beside
+-- this. Each law takes what it says from `demand-3`; a claim that says less fails here. Assumes nothing.
 use mathlib.Core.Path.{_≡_, refl, sym, ap, _∙_, subst}
 use mathlib.Core.Logic.{_↔_}
 use mathlib.Core.List.{List, [], _∷_, _++_}
 use Prim.Native.Nat.{ℕ, suc, _+_, _-_, _*_, _^_, _≤_, _<_}
 use native.Mathlib.Omega.{arith}
-use lib.ListN.{length, getD, length-append, replicate, set, take}
+use lib.ListN.{length, getD, length-append, set, take}
 use lib.Seq.{getD-append-seam, take-all, take-append-seam}
 use borrow.Author.Tests.{le-ltb}
-use Rattle.lists.specs.Lists.{concat, occurrences, pick, sum, tabulate}
+use Rattle.lists.specs.Lists.{pick, sum}
 use Rattle.bits.specs.Numbers.{numberAt}
-use Rattle.reserve.specs.Reserve.{ceil, reserve}
 use Rattle.store.specs.Fitting.{Fitting}
 use Rattle.store.specs.Call.{call, freshCall, storeAnswers, storeEnd}
-use Rattle.store.specs.PageCode.{cells}
 use Rattle.store.specs.Plain.{Append, Call, Free, Insert, Plain, Reading, Set, Strike, inserted, need, next, plainAnswers, plainFresh, step, struck}
 use Rattle.answers.specs.Store.{Answer, answered, changed, refused}
-use Rattle.store.specs.Reading.{Runs, chainIn, codeIn, firstIn, read, readFor, spareIn, sumIn}
+use Rattle.store.specs.Reading.{read, readFor}
 use Rattle.store.proofs.CallLaws.{sound-call}
 use Rattle.store.proofs.Examples.{session, session-answers}
-use Rattle.store.proofs.FreshLaws.{cell-high, cell-in}
-use Rattle.store.proofs.Inserting.{sum-struck}
 use Rattle.store.proofs.InsertLaws.{insert-end-bytes, strike-inserted}
 use Rattle.store.proofs.SoundFacts.{facts}
 use Rattle.store.proofs.Whole.{end-pages}
-use Rattle.hourlog_c.specs.Public.{Fresh, Live}
+use Rattle.hourlog_c.specs.Public.{Fresh, Live, beside}
+use Rattle.hourlog_c.proofs.Exports.{fresh-answers, live-answers}
 use Rattle.words.specs.End.{ofStore}
 use Rattle.words.specs.Words.{minus, pair, wordOf}
 use Rattle.hourlog_c.specs.Export.{Answers}
-use Rattle.demands.specs.Demand3.{HoldsInWords, Passes, Run, StoreHolds, appends, inserts, listAfter, sets, storeAfter, strikes, wordsOf}
+use Rattle.demands.specs.Demand3.{HoldsInWords, Passes, Run, StoreHolds, appends, goes-on, inserts, listAfter, over, sets}
+use Rattle.demands.specs.Demand3.{storeAfter, strikes, wordsOf}
 use Rattle.demands.proofs.Demand3.{demand-3}
+use Rattle.demands.proofs.StoreBytes.{call-bytes, sound-bytes}
 
 -- ---- one more call behind a list of them
 last-answer : (cs : List Call) (c : Call) (s : List ℕ) → getD (storeAnswers (cs ++ c ∷ []) s) (length cs) (answered 0) ≡ call c (storeEnd cs s) .answer
@@ -37,14 +36,10 @@ unfolding storeAnswers storeEnd
 last-answer [] c s = refl
 last-answer (d ∷ cs) c s = last-answer cs c (call d s .bytes)
 
-last-bytes : (cs : List Call) (c : Call) (s : List ℕ) → storeEnd (cs ++ c ∷ []) s ≡ call c (storeEnd cs s) .bytes
+pub last-bytes : (cs : List Call) (c : Call) (s : List ℕ) → storeEnd (cs ++ c ∷ []) s ≡ call c (storeEnd cs s) .bytes
 unfolding storeEnd
 last-bytes [] c s = refl
 last-bytes (d ∷ cs) c s = last-bytes cs c (call d s .bytes)
-
-no-length : (l : List ℕ) → length l ≡ 0 → l ≡ []
-no-length [] e = refl
-no-length (x ∷ l) e = absurd (omega (arith, e))
 
 -- ---- fresh: 'pages P from 1 to 1,024; cells C from 1 to 1,800', 'Length is 16 + 6P + 32C bytes exactly'
 pub fresh-accepted : (b : List ℕ) (P C : ℕ) → 1 ≤ P → P ≤ 1024 → 1 ≤ C → C ≤ 1800 → length b ≡ 16 + 6 * P + 32 * C
@@ -76,39 +71,25 @@ module _ (b : List ℕ) (P C : ℕ) (h : Fitting b P C) (cs : List Call) where
     facts S (D .is-sound) .hours-are ∙ ap (λ (L : Plain). length (L .counts)) (D .list),
   )
 
-  -- 'Free cells hold 30 zero bytes'
-  pub free-cells-clear : codeIn S (16 + 6 * numberAt S 2 2) (spareIn S (numberAt S 2 2)) ≡ replicate (30 * numberAt S 8 2) 0
-  free-cells-clear = D .items .free-clear
-
-  -- 'A page of sum s has ceil(R(64, s) / 240) cells'
-  pub page-has : (p : ℕ) → p < P → length (chainIn S P p) ≡ ceil (reserve 6 (sumIn S p)) 240
-  unfolding cells
-  page-has p l = D .page-cells p l ∙ ap cells (sym (D .page-sum p l))
-
-  -- 'Next 0 ends a chain, and one with first cell 0 is empty'
-  pub chain-ends : (p c : ℕ) → p < P → chainIn S P p ≡ c ∷ [] → (firstIn S p ≡ c) × (numberAt S (16 + 6 * P + 32 * (c - 1)) 2 ≡ 0)
-  chain-ends p c l q = let w = subst (Runs S (16 + 6 * P) (firstIn S p)) q (D .page-ends p l) in (w .0, w .2)
-
-  pub chain-empty : (p : ℕ) → p < P → chainIn S P p ≡ [] → firstIn S p ≡ 0
-  chain-empty p l q = subst (Runs S (16 + 6 * P) (firstIn S p)) q (D .page-ends p l)
-
-  -- 'first free cell (0 if none)'
-  pub none-free : need X P ≡ C → numberAt S 6 2 ≡ 0
-  none-free q = subst (Runs S (16 + 6 * P) (numberAt S 6 2)) (no-length (spareIn S P) (omega (arith, D .free-cells, q))) (D .free-ends)
-
-  -- 'each cell is on exactly one chain'
-  pub on-one-chain : (c : ℕ) → 1 ≤ c → c ≤ C → occurrences c (concat (tabulate P (chainIn S P)) ++ spareIn S P) ≡ 1
-  on-one-chain c low high = D .once c ∙ cell-in C c low high
-
-  pub on-no-chain : (c : ℕ) → C < c → occurrences c (concat (tabulate P (chainIn S P)) ++ spareIn S P) ≡ 0
-  on-no-chain c high = D .once c ∙ cell-high C c high
-
   -- 'free: C - need'
-  pub free-and-need : (f : ℕ) → call Free S .answer ≡ answered f → f + need X P ≡ C
-  free-and-need f q = let z : C - need X P ≡ f = told (sym (D .free) ∙ q) in omega (arith, D .need-fits)
-    where
-      told : {m n : ℕ} → answered m ≡ answered n → m ≡ n
-      told e = cc
+  pub free-and-need : (f : ℕ) × (call Free S .answer ≡ answered f) × (f + need X P ≡ C)
+  free-and-need = (C - need X P, D .free, omega (arith, D .need-fits))
+
+  -- each answer is the plain list's, of any list of calls
+  pub answers-are-plain : storeAnswers cs (freshCall b P C .bytes) ≡ plainAnswers cs (plainFresh P C)
+  answers-are-plain = demand-3 .calls b P C h cs .answers
+
+  -- 'one claim about the whole list of calls, not one for each call': whichever of them is call n
+  pub any-12 : (n : ℕ) → n < length cs → (ys : List ℕ) → Passes (getD cs n Free) (listAfter P C (take n cs)) ys
+      → (getD (storeAnswers cs (freshCall b P C .bytes)) n (answered 0) ≡ refused 12) ↔ (C < need ys P)
+  any-12 = demand-3 .calls b P C h cs .when-12
+
+  pub any-never-12 : 8 * P ≤ C → (n : ℕ) → getD (storeAnswers cs (freshCall b P C .bytes)) n (answered 0) ≡ refused 12 → ⊥
+  any-never-12 = demand-3 .calls b P C h cs .never-12
+
+  pub any-refused : (n k : ℕ) → getD (storeAnswers cs (freshCall b P C .bytes)) n (answered 0) ≡ refused k
+      → storeAfter b P C (take (suc n) cs) ≡ storeAfter b P C (take n cs)
+  any-refused = demand-3 .calls b P C h cs .kept
 
   -- 'append v: .. 12 if the new need is above C', and only then; 'set i v: .. 12'
   twelve : (c : Call) (ys : List ℕ) → Passes c (listAfter P C cs) ys → (call c S .answer ≡ refused 12) ↔ (C < need ys P)
@@ -133,7 +114,7 @@ module _ (b : List ℕ) (P C : ℕ) (h : Fitting b P C) (cs : List Call) where
   total-fits = subst (λ (L : Plain). sum (L .counts) ≤ 4294967295) (D .list) (facts S (D .is-sound) .total-fits)
 
   pub strike-12 : (i : ℕ) → i < length X → (call (Strike i) S .answer ≡ refused 12) ↔ (C < need (struck X i) P)
-  strike-12 i l = twelve (Strike i) (struck X i) (strikes i (listAfter P C cs) l (omega (arith, total-fits, sum-struck X i)))
+  strike-12 i l = twelve (Strike i) (struck X i) (strikes i (listAfter P C cs) l)
 
   -- an insert at N is an append, its bytes too
   pub insert-at-end : (v : ℕ) → call (Insert (length X) v) S ≡ call (Append v) S
@@ -180,6 +161,39 @@ session-in-words b s ws t w l f r =
     let E = demand-3 .exports b 1 2 (printed-fits b l) w s f session ws t r in
     (E .ok, E .words ∙ printed-words)
 
+-- ---- runs of the exports
+-- a run goes on with whatever an export answers on the bytes that it left
+pub run-goes-on : (cs : List Call) (s ws t : List ℕ) → Run cs s ws t → (c : Call) (w : ℕ) (u : List ℕ) → Answers (Live c t) w (u ∷ beside c)
+    → Run (cs ++ c ∷ []) s (ws ++ w ∷ []) u
+run-goes-on cs s ws t (over s′) c w u a = goes-on c [] t u u w [] a (over u)
+run-goes-on cs s ws t (goes-on d cs′ s′ v t′ x ws′ b r) c w u a =
+    goes-on d (cs′ ++ c ∷ []) s v u x (ws′ ++ w ∷ []) b (run-goes-on cs′ v ws′ t r c w u a)
+
+-- on any bytes there is a run of every list of calls
+run-of : (cs : List Call) (s : List ℕ) → ((i : ℕ) → getD s i 0 < 256) → Run cs s (wordsOf (storeAnswers cs s)) (storeEnd cs s)
+unfolding storeAnswers storeEnd wordsOf
+run-of [] s h = over s
+run-of (c ∷ cs) s h =
+    let u : List ℕ = call c s .bytes in
+    let w : ℕ = wordOf (ofStore (call c s .answer)) in
+    goes-on c cs s u (storeEnd cs u) w (wordsOf (storeAnswers cs u))
+    (live-answers c s u w (call c s .answer) h refl (record { answer = refl; bytes = refl })) (run-of cs u (call-bytes c s h))
+
+-- so on what hourlog_fresh leaves
+pub there-are-runs : (b : List ℕ) (P C : ℕ) → Fitting b P C → (cs : List Call)
+    → (w : ℕ) × (s : List ℕ) × (ws : List ℕ) × (t : List ℕ) × Answers (Fresh b P C) w (s ∷ []) × Run cs s ws t
+unfolding storeEnd
+there-are-runs b P C h cs =
+    let s : List ℕ = freshCall b P C .bytes in
+    let w : ℕ = wordOf (ofStore (freshCall b P C .answer)) in (
+      w,
+      s,
+      wordsOf (storeAnswers cs s),
+      storeEnd cs s,
+      fresh-answers b s P C w (freshCall b P C .answer) refl (record { answer = refl; bytes = refl }),
+      run-of cs s (sound-bytes s (demand-3 .calls b P C h [] .holds .is-sound)),
+    )
+
 -- ---- after any run of the exports: what is asked next is answered as the plain list does
 module _ (b : List ℕ) (P C : ℕ) (h : Fitting b P C) (w : ℕ) (s : List ℕ) (f : Answers (Fresh b P C) w (s ∷ []))
     (cs : List Call) (ws t : List ℕ) (r : Run cs s ws t) where
@@ -192,11 +206,15 @@ module _ (b : List ℕ) (P C : ℕ) (h : Fitting b P C) (w : ℕ) (s : List ℕ)
       ∙ ap wordOf (a .ends .0)
       ∙ ap (λ (z : Answer). wordOf (ofStore z)) (sym (sound-call c t (E .holds .is-sound) .answer) ∙ ap (λ (L : Plain). step c L .answer) (E .holds .list))
 
+  -- fresh answers 0, each word is that of the plain list's answer, and the bytes are such a store as after the calls themselves
+  pub words-are-plain : (w ≡ 0) × (ws ≡ wordsOf (plainAnswers cs (plainFresh P C)))
+  words-are-plain = (E .ok, E .words)
+
+  pub run-holds : StoreHolds t P C (listAfter P C cs .counts)
+  run-holds = E .holds
+
   -- 'The reading at i is the sum of counts 0 to i-1'
   pub next-reading : (i v : ℕ) (u : List (List ℕ)) → i ≤ length (listAfter P C cs .counts) → Answers (Live (Reading i) t) v u
       → v ≡ sum (take i (listAfter P C cs .counts))
   unfolding step pick wordOf ofStore
   next-reading i v u l a = rw (le-ltb (length (listAfter P C cs .counts)) i l) at (next-word (Reading i) v u a)
-
-  pub run-as-long : length t ≡ 16 + 6 * P + 32 * C
-  run-as-long = E .holds .long

@@ -2,6 +2,7 @@
 use mathlib.Core.Path.{_≡_, refl, sym, ap, ap₂, _∙_, subst}
 use mathlib.Core.Bool.{Bool, true, false}
 use mathlib.Core.List.{List}
+use mathlib.Core.Logic.{_↔_}
 use Prim.Native.Nat.{ℕ}
 use native.Mathlib.Omega.{arith}
 use lib.ListN.{length, getD, take}
@@ -24,8 +25,7 @@ use Rattle.image_back.proofs.ListBack.{accepted-image, list-is}
 pub accepted-if : (s : List ℕ) (e : ℕ) (xs : List ℕ) → IsImage s e xs → accepted s ≡ true
 accepted-if s e xs i = ap accepted (i .bytes) ∙ accepted-image e xs (i .limits)
 
-pub accepted-exactly : (s : List ℕ) → (accepted s ≡ true → (e : ℕ) × (xs : List ℕ) × IsImage s e xs) ×
-    ((e : ℕ) × (xs : List ℕ) × IsImage s e xs → accepted s ≡ true)
+pub accepted-exactly : (s : List ℕ) → (accepted s ≡ true) ↔ ((e : ℕ) × (xs : List ℕ) × IsImage s e xs)
 accepted-exactly s = ((λ h. (eOf s, listOf s, accepted-only s h)), (λ w. accepted-if s (w .0) (w .1) (w .2)))
 
 -- the list is the one that is read, and e the header's: there is no other

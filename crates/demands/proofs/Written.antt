@@ -15,6 +15,7 @@ use Rattle.image.specs.Image.{Limits, code, image, size}
 use Rattle.answers.specs.Image.{Reply, given, refused}
 use Rattle.store.specs.Reading.{listIn}
 use Rattle.store.specs.Sound.{sound}
+use Rattle.store.proofs.SoundFacts.{facts}
 use Rattle.freeze.specs.Freeze.{freezeCall}
 use Rattle.freeze.proofs.Freezing.{freeze-sound}
 use Rattle.demands.specs.Demand2.{HasRoom, Written}
@@ -39,11 +40,18 @@ written w i out l e =
 pub write-is : (e : ℕ) (xs out : List ℕ) → Limits e xs → length (image e xs) ≤ length out → Written (writeCall e xs out) (image e xs) out
 write-is e xs out m l = written (writeCall e xs out) (image e xs) out l (write-put e xs out m l)
 
-pub freeze-is : (s : List ℕ) (e : ℕ) (out : List ℕ) → sound s ≡ true → Limits e (listIn s)
+-- a sound store's list has an image: at most 1,024 pages of 64 hours, and its total fits
+pub store-limits : (s : List ℕ) (e : ℕ) → sound s ≡ true → 2 ≤ e → e ≤ 8 → Limits e (listIn s)
+store-limits s e h low high =
+    let f = facts s h in
+    record { e-low = low; e-high = high; hours = omega (arith, f .hours-are, f .hours-fit, f .pages-high); total = f .total-fits }
+
+pub freeze-is : (s : List ℕ) (e : ℕ) (out : List ℕ) → sound s ≡ true → 2 ≤ e → e ≤ 8
     → length (image e (listIn s)) ≤ length out → Written (freezeCall e s out) (image e (listIn s)) out
-freeze-is s e out h m l =
+freeze-is s e out h low high l =
     let xs : List ℕ = listIn s in
-    written (freezeCall e s out) (image e xs) out l (sym (freeze-sound e s out h) ∙ write-put e xs out m l)
+    written (freezeCall e s out) (image e xs) out l
+    (sym (freeze-sound e s out h) ∙ write-put e xs out (store-limits s e h low high) l)
 
 -- and into no other, nor of another list
 has-room : (e : ℕ) (xs out : List ℕ) (n : ℕ) → Limits e xs → put out (image e xs) .reply ≡ given n → HasRoom e xs out n
@@ -64,3 +72,13 @@ write-only e xs out n = go (lengthCall e xs) refl
     go : (r : Reply) → lengthCall e xs ≡ r → putAfter r out (image e xs) .reply ≡ given n → HasRoom e xs out n
     go (given k) q h = has-room e xs out n (length-only e xs k q) h
     go (refused k) q h = let z : _≡_ {A = ℕ} 0 1 = cc in absurd (omega arith)
+
+pub freeze-only : (s : List ℕ) (e : ℕ) (out : List ℕ) (n : ℕ) → freezeCall e s out .reply ≡ given n
+    → (sound s ≡ true) × HasRoom e (listIn s) out n
+unfolding freezeCall pick unwritten
+freeze-only s e out n = go (sound s) refl
+  where
+    go : (b : Bool) → sound s ≡ b → pick b (writeCall e (listIn s) out) (unwritten out 10) .reply ≡ given n
+        → (sound s ≡ true) × HasRoom e (listIn s) out n
+    go true q h = (q, write-only e (listIn s) out n h)
+    go false q h = let z : _≡_ {A = ℕ} 0 1 = cc in absurd (omega arith)

@@ -4,6 +4,7 @@
 use mathlib.Core.Path.{_≡_}
 use mathlib.Core.Bool.{true}
 use mathlib.Core.List.{List, [], _∷_, _++_}
+use mathlib.Core.Logic.{_↔_}
 use Prim.Native.Nat.{ℕ, suc, _+_, _-_, _*_, _≤_, _<_}
 use lib.ListN.{length, getD, take, drop}
 use lib.Dec.{leb, ltb}
@@ -20,11 +21,11 @@ use Rattle.image.specs.Image.{IsImage, Limits, code, codeStart, image, page, pa
 use Rattle.image.specs.Query.{count, reading}
 use Rattle.image.specs.Reach.{Reach}
 use Rattle.image.specs.Read.{eOf, listOf, sOf}
+use Rattle.store.specs.Layout.{cellsFrom}
 use Rattle.store.specs.PageCode.{cells}
 use Rattle.store.specs.Plain.{page as plainPage}
-use Rattle.store.specs.Reading.{listIn}
+use Rattle.store.specs.Reading.{chainIn, codeIn, listIn, pagesOf}
 use Rattle.store.specs.Sound.{sound}
-use Rattle.pages.specs.Gathered.{Gathered}
 use Rattle.freeze.specs.Freeze.{freezeCall}
 
 -- the bit where page p starts in the image, behind header and start bits, and where its tree does. Addresses are those of the bits of all
@@ -75,7 +76,11 @@ pub record InImage (e : ℕ) (xs : List ℕ) : Type 0 where
   -- and there the image has the code of the node's counts
   pub coded : (p : ℕ) (ds : List Side) → p < pages e (length xs) → Coded (bits (image e xs)) (nodeIn e xs p ds)
 
--- in the code r of a live page with counts xs, gathered from its cells: the tree starts at its first bit
+-- what stands in the cells of page p of a store: the 30 bytes of each, along the page's chain
+abbrev pub codeOf : List ℕ → ℕ → List ℕ
+codeOf s p = codeIn s (cellsFrom (pagesOf s)) (chainIn s (pagesOf s) p)
+
+-- in the code r of a live page with counts xs: the tree starts at its first bit
 pub record InCells (xs r : List ℕ) : Type 0 where
   pub in-cells : (ds : List Side) → end (node ds 6 xs 0) ≤ 240 * cells (sum xs)
   pub coded : (ds : List Side) → Coded (bits r) (node ds 6 xs 0)
@@ -99,10 +104,9 @@ pub record Demand2 : Type 0 where
   -- 'Each subtree's bits stay in its reserved range, sibling ranges are disjoint': of every tree, in images and in a store's cells
   pub trees : (h : ℕ) (xs : List ℕ) (a : ℕ) → Ranges h xs a
   pub images : (e : ℕ) (xs : List ℕ) → Limits e xs → InImage e xs
-  pub stores : (s : List ℕ) (p : ℕ) (r : List ℕ) → Gathered s p r → InCells (plainPage (listIn s) p) r
+  pub stores : (s : List ℕ) (p : ℕ) → sound s ≡ true → p < pagesOf s → InCells (plainPage (listIn s) p) (codeOf s p)
   -- 'An image is accepted exactly when it is what the writer makes of some list, and that list reads back'
-  pub accepted-when : (s : List ℕ) → (accepted s ≡ true → (e : ℕ) × (xs : List ℕ) × IsImage s e xs) ×
-      ((e : ℕ) × (xs : List ℕ) × IsImage s e xs → accepted s ≡ true)
+  pub accepted-when : (s : List ℕ) → (accepted s ≡ true) ↔ ((e : ℕ) × (xs : List ℕ) × IsImage s e xs)
   pub read-back : (s : List ℕ) (e : ℕ) (xs : List ℕ) → IsImage s e xs → (e ≡ eOf s) × (xs ≡ listOf s)
   -- 'count, reading and reach equal plain sums', and check answers N and S
   pub count-sum : (s : List ℕ) → accepted s ≡ true → (i : ℕ)
@@ -118,6 +122,8 @@ pub record Demand2 : Type 0 where
   pub no-others : (e : ℕ) (xs : List ℕ) (n : ℕ) → lengthCall e xs ≡ given n → Limits e xs
   pub writes : (e : ℕ) (xs out : List ℕ) → Limits e xs → length (image e xs) ≤ length out → Written (writeCall e xs out) (image e xs) out
   pub only-these : (e : ℕ) (xs out : List ℕ) (n : ℕ) → writeCall e xs out .reply ≡ given n → HasRoom e xs out n
-  -- 'freeze, which writes the image of a store's list'
-  pub freezes : (s : List ℕ) (e : ℕ) (out : List ℕ) → sound s ≡ true → Limits e (listIn s)
+  -- 'freeze, which writes the image of a store's list': of a sound store's, and of no other bytes
+  pub freezes : (s : List ℕ) (e : ℕ) (out : List ℕ) → sound s ≡ true → 2 ≤ e → e ≤ 8
       → length (image e (listIn s)) ≤ length out → Written (freezeCall e s out) (image e (listIn s)) out
+  pub only-sound : (s : List ℕ) (e : ℕ) (out : List ℕ) (n : ℕ) → freezeCall e s out .reply ≡ given n
+      → (sound s ≡ true) × HasRoom e (listIn s) out n

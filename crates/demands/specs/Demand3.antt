@@ -41,7 +41,8 @@ pub data Passes : Call → Plain → List ℕ → Type 0 where
   sets : (i v : ℕ) (L : Plain) → i < length (L .counts) → sum (set (L .counts) i v) ≤ maxTotal → Passes (Set i v) L (set (L .counts) i v)
   inserts : (i v : ℕ) (L : Plain) → i ≤ length (L .counts) → length (L .counts) < pageHours * L .pages → sum (inserted (L .counts) i v) ≤ maxTotal
       → Passes (Insert i v) L (inserted (L .counts) i v)
-  strikes : (i : ℕ) (L : Plain) → i < length (L .counts) → sum (struck (L .counts) i) ≤ maxTotal → Passes (Strike i) L (struck (L .counts) i)
+  -- 'strike never meets 11 or 3'
+  strikes : (i : ℕ) (L : Plain) → i < length (L .counts) → Passes (Strike i) L (struck (L .counts) i)
 
 -- the bytes s are a sound store of P pages and C cells, and hold the list xs
 pub record StoreHolds (s : List ℕ) (P C : ℕ) (xs : List ℕ) : Type 0 where
