@@ -16,5 +16,7 @@ pub mod Demand3
 pub mod StoreBytes
 pub mod Sentences3
 pub mod SentencesCells
+pub mod PageMoves
+pub mod SentencesOrder
 pub mod Note1
 pub mod Note7
