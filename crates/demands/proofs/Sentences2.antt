@@ -29,7 +29,8 @@ use Rattle.demands.proofs.Written.{store-limits}
 is-accepted : (s : List ℕ) (e : ℕ) (xs : List ℕ) → Limits e xs → s ≡ image e xs → (accepted s ≡ true) × (listOf s ≡ xs)
 is-accepted s e xs m q =
     let i : IsImage s e xs = record { limits = m; bytes = q } in
-    (demand-2 .accepted-when s .1 (e, xs, i), sym (demand-2 .read-back s e xs i .1))
+    let w : (accepted s ≡ true) ↔ ((e : ℕ) × (xs : List ℕ) × IsImage s e xs) = demand-2 .accepted-when s in
+    (w .1 (e, xs, i), sym (demand-2 .read-back s e xs i .1))
 
 module _ (e : ℕ) (xs out : List ℕ) (m : Limits e xs) (l : length (image e xs) ≤ length out) where
   abbrev W : List ℕ
@@ -62,7 +63,7 @@ accepted-written s = (to, from)
   where
     to : accepted s ≡ true → (e : ℕ) × (xs : List ℕ) × (writeCall e xs s .reply ≡ given (length s)) × (writeCall e xs s .bytes ≡ s)
     to h =
-        let w = demand-2 .accepted-when s .0 h in
+        let w : (e : ℕ) × (xs : List ℕ) × IsImage s e xs = demand-2 .accepted-when s .0 h in
         let q : s ≡ image (w .0) (w .1) = w .2 .bytes in
         let d = all-of-it s (w .0) (w .1) (w .2 .limits) (ap length (sym q)) in
         (w .0, w .1, d .0, d .1 ∙ sym q)
