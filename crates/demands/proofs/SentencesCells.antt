@@ -2,24 +2,29 @@
 -- `demand-3`; a claim that says less fails here. Assumes nothing.
 use mathlib.Core.Bool.{true}
 use mathlib.Core.List.{List, [], _∷_, _++_}
-use mathlib.Core.Path.{_≡_, refl, sym, ap, _∙_}
+use mathlib.Core.Path.{_≡_, refl, sym, subst, ap, _∙_}
 use Prim.Native.Nat.{ℕ, zero, suc, _+_, _-_, _*_, _≤_, _<_}
 use native.Mathlib.Nat.{le-of-suc-le-suc, not-suc-le-zero}
 use native.Mathlib.Omega.{arith}
 use lib.ListN.{length, getD, replicate}
 use Rattle.lists.specs.Lists.{concat, first, occurrences, sum, tabulate}
+use Rattle.bits.specs.Bits.{bits}
 use Rattle.bits.specs.Numbers.{numberAt}
 use Rattle.reserve.specs.Reserve.{ceil, reserve}
+use Rattle.tree.specs.Read.{counts}
 use Rattle.store.specs.Fitting.{Fitting}
 use Rattle.store.specs.Layout.{cellAt}
 use Rattle.store.specs.PageCode.{cells}
-use Rattle.store.specs.Plain.{Call, need, page}
-use Rattle.store.specs.Reading.{Runs, chainFrom, chainIn, codeIn, spareIn, sumIn}
+use Rattle.store.specs.Plain.{Call, Plain, need, page}
+use Rattle.store.specs.Reading.{Runs, chainFrom, chainIn, codeIn, listIn, spareIn, sumIn}
 use Rattle.store.specs.Sound.{sound}
 use Rattle.store.proofs.FreshLaws.{cell-high, cell-in, cell-zero}
 use Rattle.store.proofs.ItemLaws.{items-sound}
+use Rattle.demands.specs.Demand2.{codeOf}
 use Rattle.demands.specs.Demand3.{StoreHolds, listAfter, storeAfter}
 use Rattle.demands.proofs.Demand3.{demand-3}
+use Rattle.demands.proofs.Sentences3.{header-says}
+use Rattle.demands.proofs.SentencesRanges.{cells-said}
 use Rattle.demands.proofs.StoreBytes.{sound-bytes}
 
 -- ---- a whole chain, cell by cell: 'A chain runs from a page's first cell, or from the first free cell, along the next cells. Next 0 ends a
@@ -81,6 +86,15 @@ module _ (b : List ℕ) (P C : ℕ) (h : Fitting b P C) (cs : List Call) where
       → (1 ≤ getD (chainIn S P p) k 0) × (next (getD (chainIn S P p) k 0) ≡ getD (chainIn S P p) (suc k) 0)
   page-next p k l = chain-next S (16 + 6 * P) (numberAt S (16 + 6 * p + 4) 2) (chainIn S P p) (D .page-ends p l) k
 
+  -- 'Its code runs along its chain': there the bits say the plain list's counts
+  pub page-code-says : (p : ℕ) → p < P → counts 6 (sum (page X p)) (bits (codeIn S (16 + 6 * P) (chainIn S P p))) 0 ≡ page X p
+  page-code-says p l =
+      let pages = header-says b P C h cs .0 in
+      let list : listIn S ≡ X = ap (λ (L : Plain). L .counts) (D .list) in
+      subst (λ (n : ℕ). counts 6 (sum (page X p)) (bits (codeIn S (16 + 6 * n) (chainIn S n p))) 0 ≡ page X p) pages
+      (subst (λ (xs : List ℕ). counts 6 (sum (page xs p)) (bits (codeOf S p)) 0 ≡ page xs p) list
+      (cells-said S p (D .is-sound) (omega (arith, pages))))
+
   -- '6-7 first free cell (0 if none), 8-9 number of free cells': all the cells that the list does not need
   pub free-says : (numberAt S 6 2 ≡ first (spareIn S P)) × (numberAt S 8 2 ≡ length (spareIn S P)) × (length (spareIn S P) + need X P ≡ C)
   unfolding spareIn
@@ -95,8 +109,10 @@ module _ (b : List ℕ) (P C : ℕ) (h : Fitting b P C) (cs : List Call) where
   free-next = chain-next S (16 + 6 * P) (numberAt S 6 2) (spareIn S P) (D .free-ends)
 
   -- 'Free cells hold 30 zero bytes'
-  pub free-cells-clear : codeIn S (16 + 6 * numberAt S 2 2) (spareIn S (numberAt S 2 2)) ≡ replicate (30 * numberAt S 8 2) 0
-  free-cells-clear = D .items .free-clear
+  pub free-cells-clear : codeIn S (16 + 6 * P) (spareIn S P) ≡ replicate (30 * length (spareIn S P)) 0
+  free-cells-clear =
+      subst (λ (n : ℕ). codeIn S (16 + 6 * n) (spareIn S n) ≡ replicate (30 * numberAt S 8 2) 0) (header-says b P C h cs .0) (D .items .free-clear)
+      ∙ ap (λ (n : ℕ). replicate (30 * n) 0) (free-says .1)
 
   -- 'each cell is on exactly one chain', and no other number on any
   pub on-one-chain : (c : ℕ) → 1 ≤ c → c ≤ C → occurrences c (concat (tabulate P (chainIn S P)) ++ spareIn S P) ≡ 1

@@ -1,52 +1,91 @@
--- The order of cells, sentence by sentence: what an accepted change gives back and takes, of a store after any list of calls. Each law takes
--- what it says from `HourInOrder`, which is of append and set, or from `CellsInOrder`, which is of every change. Assumes nothing.
+-- The order of cells, sentence by sentence: that of a fresh store's, and what an accepted change gives back and takes, of a store after any
+-- list of calls. The laws of changes take what they say from `HourInOrder`, which is of append and set, and from `CellsInOrder`, which is of
+-- every change. Assumes nothing.
 use mathlib.Core.Bool.{Bool, true, false}
 use mathlib.Core.List.{List, [], _∷_, _++_}
 use mathlib.Core.Path.{_≡_, refl, sym, subst, ap, ap₂, _∙_}
-use Prim.Native.Nat.{ℕ, zero, suc, _-_, _*_, _/_, _≤_, _<_}
+use Prim.Native.Nat.{ℕ, zero, suc, _+_, _-_, _*_, _/_, _≤_, _<_}
 use native.Mathlib.Omega.{arith}
-use lib.ListN.{length, getD, drop, length-append, set, take}
+use lib.ListN.{length, getD, drop, length-append, replicate, set, take}
 use lib.Seq.{getD-append-seam, getD-set-other, getD-set-same, take-append-seam}
 use borrow.Author.Tests.{leb-false}
-use Rattle.lists.specs.Lists.{first, pick, tabulate}
+use Rattle.lists.specs.Lists.{first, part, pick, tabulate}
 use Rattle.lists.proofs.Occurrences.{getD-snoc}
+use Rattle.lists.proofs.Tables.{getD-tabulate}
+use Rattle.bits.specs.Numbers.{little, numberAt}
 use Rattle.answers.specs.Store.{changed}
-use Rattle.store.specs.Call.{appended, call, freshCall, setAt}
+use Rattle.store.specs.Call.{appended, call, freshCall, setAt, storeEnd}
 use Rattle.store.specs.Fitting.{Fitting}
-use Rattle.store.specs.Layout.{Model}
+use Rattle.store.specs.Layout.{Model, bytesOf, entry, fresh}
 use Rattle.store.specs.OneCell.{chainOf, giveCell, listed, takeCell, times}
-use Rattle.store.specs.Plain.{Append, Call, Outcome, Plain, Set, change, need, refuse, step}
+use Rattle.store.specs.Plain.{Append, Call, Outcome, Plain, Set, change, need, plainEnd, refuse, step}
 use Rattle.store.specs.Reading.{chainIn, pagesOf, read, readFor, spareIn}
 use Rattle.store.specs.Settle.{pagewise, settledByCells, wanted}
+use Rattle.store.specs.Sound.{Good}
 use Rattle.store.proofs.CallLaws.{sound-call}
+use Rattle.store.proofs.Chained.{good-chained}
+use Rattle.store.proofs.FreshLaws.{fresh-good, page-none}
+use Rattle.store.proofs.Holds.{holds-bytes}
 use Rattle.store.proofs.Keep.{Off, need-off}
+use Rattle.store.proofs.LimitLaws.{fitting-exactly}
 use Rattle.store.proofs.Orders.{cells-in-order, hour-in-order}
 use Rattle.store.proofs.Refusals.{one-of-two}
-use Rattle.store.proofs.SoundFacts.{facts}
+use Rattle.store.proofs.SoundFacts.{bytes-read, facts}
 use Rattle.store.proofs.StepLaws.{Change, End, change-is, done, made, not-done, over, said, short, step-end}
 use Rattle.demands.specs.Demand3.{StoreHolds, listAfter, storeAfter}
 use Rattle.demands.proofs.Demand3.{demand-3}
-use Rattle.demands.proofs.Sentences3.{last-bytes}
+use Rattle.demands.proofs.Sentences3.{header-says, last-bytes}
 use Rattle.demands.proofs.PageMoves.{PageMoves, chains-read, page-moves, spare-read}
 
+-- ---- 'A fresh store has N = 0, every page entry zero, and free chain 1, 2, .., C'
+fresh-bytes : (b : List ℕ) (P C : ℕ) → Fitting b P C → freshCall b P C .bytes ≡ bytesOf (fresh P C)
+unfolding freshCall pick
+fresh-bytes b P C h = rw (fitting-exactly b P C .0 h)
+
+fresh-entry : (P C p : ℕ) → p < P → entry (fresh P C) p ≡ replicate 6 0
+unfolding entry fresh little first
+fresh-entry P C p l = rw (page-none p, getD-tabulate {A = List ℕ} P (λ _. []) p [] l)
+
+fresh-free : (s : List ℕ) (P C : ℕ) → read s ≡ fresh P C → spareIn s P ≡ tabulate C suc
+unfolding read readFor fresh
+fresh-free s P C e = sym (spare-read s P (ap (λ (z : Model). z .plain .pages) e)) ∙ ap (λ (z : Model). z .spare) e
+
+pub fresh-has : (b : List ℕ) (P C : ℕ) → Fitting b P C
+    → let s = freshCall b P C .bytes in
+    (numberAt s 12 4 ≡ 0) × ((p : ℕ) → p < P → part s (16 + 6 * p) 6 ≡ replicate 6 0) × (spareIn s P ≡ tabulate C suc)
+unfolding storeEnd plainEnd fresh
+fresh-has b P C h =
+    let g : Good (fresh P C) = fresh-good P C (h .limits) in
+    let e = fresh-bytes b P C h in (
+      header-says b P C h [] .2,
+      λ p l. ap (λ (s : List ℕ). part s (16 + 6 * p) 6) e ∙ holds-bytes (fresh P C) g .entries p l ∙ fresh-entry P C p l,
+      fresh-free (freshCall b P C .bytes) P C (ap read e ∙ bytes-read (fresh P C) (good-chained (fresh P C) g)),
+    )
+
 -- ---- one cell, and one page after another
--- 'A page that grows takes cells from the front of the free chain, in that order, onto the end of its own'
+-- 'A page that grows takes cells from the front of the free chain, in that order, onto the end of its own'; no other chain changes
 pub takes-one : (m : Model) (p c : ℕ) (free : List ℕ) → p < length (m .chains) → m .spare ≡ c ∷ free
     → (chainOf (takeCell p m) p ≡ chainOf m p ++ c ∷ []) × (takeCell p m .spare ≡ free)
+    × ((q : ℕ) → (q ≡ p → ⊥) → chainOf (takeCell p m) q ≡ chainOf m q)
 unfolding takeCell first
-takes-one m p c free l e = (
-  getD-set-same (m .chains) p (chainOf m p ++ first (m .spare) ∷ []) [] l ∙ ap (λ (z : List ℕ). chainOf m p ++ first z ∷ []) e,
-  ap (drop 1) e,
-)
+takes-one m p c free l e =
+    let own : List ℕ = chainOf m p ++ first (m .spare) ∷ [] in (
+      getD-set-same (m .chains) p own [] l ∙ ap (λ (z : List ℕ). chainOf m p ++ first z ∷ []) e,
+      ap (drop 1) e,
+      λ q ne. getD-set-other (m .chains) p q own [] ne,
+    )
 
--- 'A page that shrinks gives its last cell to the front of the free chain, then the one before it'
+-- 'A page that shrinks gives its last cell to the front of the free chain, then the one before it'; no other chain changes
 pub gives-one : (m : Model) (p c : ℕ) (own : List ℕ) → p < length (m .chains) → chainOf m p ≡ own ++ c ∷ []
     → (chainOf (giveCell p m) p ≡ own) × (giveCell p m .spare ≡ c ∷ m .spare)
+    × ((q : ℕ) → (q ≡ p → ⊥) → chainOf (giveCell p m) q ≡ chainOf m q)
 unfolding giveCell
 gives-one m p c own l e =
-    let n : length (chainOf m p) - 1 ≡ length own = omega (arith, ap length e, length-append own (c ∷ [])) in (
-      getD-set-same (m .chains) p (take (length (chainOf m p) - 1) (chainOf m p)) [] l ∙ ap₂ take n e ∙ take-append-seam own (c ∷ []),
+    let n : length (chainOf m p) - 1 ≡ length own = omega (arith, ap length e, length-append own (c ∷ [])) in
+    let left : List ℕ = take (length (chainOf m p) - 1) (chainOf m p) in (
+      getD-set-same (m .chains) p left [] l ∙ ap₂ take n e ∙ take-append-seam own (c ∷ []),
       ap (λ (z : ℕ). z ∷ m .spare) (ap₂ (λ (k : ℕ) (z : List ℕ). getD z k 0) n e ∙ getD-append-seam own c [] 0),
+      λ q ne. getD-set-other (m .chains) p q left [] ne,
     )
 
 -- 'lowest page first'
