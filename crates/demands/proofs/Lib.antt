@@ -1,10 +1,11 @@
 -- The demands, proved, and what they say sentence by sentence.
 pub mod Slices
+pub mod Theorems
+pub mod ReasonTests
 pub mod Refusals
 pub mod Demand1
+pub mod Winning
 pub mod Sentences1
-pub mod SentencesBooks
-pub mod Theorems
 pub mod Written
 pub mod ImageRanges
 pub mod Demand2
@@ -13,4 +14,6 @@ pub mod Samples
 pub mod Demand3
 pub mod Sentences3
 pub mod Note1
+pub mod Note3
+pub mod Note4
 pub mod Note7
