@@ -26,12 +26,11 @@ in-pairs (pair {x = x} {h = h} {rest = rest} m p q more) zero l = (this-day x h 
 in-pairs (pair {x = x} {h = h} {rest = rest} m p q more) (suc k) l =
     let r = in-pairs more k (omega arith) in
     let day = behind x h (2 * suc k) (2 * k) rest (omega arith) in
-    let hours = behind x h (2 * suc k + 1) (2 * k + 1) rest (omega arith) in
-    (
+    let hours = behind x h (2 * suc k + 1) (2 * k + 1) rest (omega arith) in (
       ap (dayHours (x ∷ h ∷ rest)) day
-      ∙ other-day x h (getD rest (2 * k) 0) rest (λ (e : x ≡ getD rest (2 * k) 0). omega (arith, r .1))
-      ∙ r .0
-      ∙ sym hours,
+          ∙ other-day x h (getD rest (2 * k) 0) rest (λ (e : x ≡ getD rest (2 * k) 0). omega (arith, r .1))
+          ∙ r .0
+          ∙ sym hours,
       omega (arith, m, r .1, day),
     )
 

@@ -16,4 +16,5 @@ pub mod Sentences3
 pub mod Note1
 pub mod Note3
 pub mod Note4
+pub mod Note5
 pub mod Note7

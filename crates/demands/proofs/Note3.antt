@@ -5,7 +5,6 @@ use mathlib.Core.List.{List, [], _∷_}
 use mathlib.Core.Logic.{_⊎_, inl, inr, _↔_}
 use mathlib.Core.Path.{_≡_, refl, sym, _∙_}
 use Prim.Native.Nat.{ℕ, _-_, _*_, _/_, _%_, _^_, _≤_, _<_}
-use native.Mathlib.Decide.{decLe}
 use native.Mathlib.Omega.{arith}
 use lib.ListN.{length, getD, take}
 use Rattle.answers.specs.Image.{given}
@@ -23,22 +22,14 @@ use Rattle.demands.specs.Reasons.{NoHeader, NoImage, NoPageSize, TooWide
 use Rattle.demands.specs.Demand1.{Given, row}
 use Rattle.demands.proofs.Demand1.{demand-1}
 use Rattle.demands.proofs.ReasonTests.{header, written}
-use Rattle.demands.proofs.Sentences1.{image-number, minus-at, number}
+use Rattle.demands.proofs.Sentences1.{image-number, minus-at, not-below, number}
 use Rattle.demands.proofs.Slices.{same-second}
 use Rattle.demands.proofs.Winning.{stands, without}
 
 -- ---- 'It refuses with 14, after 1 and before 2, a book of odd length or with a digit above 9', and then alone
 a-page-size : (e : ℕ) → (NoPageSize e → ⊥) ↔ ((2 ≤ e) × (e ≤ 8))
-a-page-size e = (λ n. (low n (decLe 2 e), high n (decLe e 8)), λ w. outside w)
+a-page-size e = (λ n. (not-below e 2 (λ l. n (inl l)), not-below 8 e (λ l. n (inr l))), outside)
   where
-    low : (NoPageSize e → ⊥) → Dec (2 ≤ e) → 2 ≤ e
-    low n (yes l) = l
-    low n (no m) = absurd (n (inl (omega arith)))
-
-    high : (NoPageSize e → ⊥) → Dec (e ≤ 8) → e ≤ 8
-    high n (yes l) = l
-    high n (no m) = absurd (n (inr (omega arith)))
-
     outside : (2 ≤ e) × (e ≤ 8) → NoPageSize e → ⊥
     outside w (inl l) = omega (arith, w .0)
     outside w (inr l) = omega (arith, w .1)

@@ -1,7 +1,7 @@
 -- Document 02, note 4, in its own words, of the word that C gets. Assumes nothing.
 use mathlib.Core.Bool.{Bool, true, false}
 use mathlib.Core.List.{List, []}
-use mathlib.Core.Logic.{_⊎_, inr, _↔_}
+use mathlib.Core.Logic.{_⊎_, _↔_}
 use mathlib.Core.Path.{_≡_, refl, sym, ap, _∙_}
 use Prim.Native.Nat.{ℕ, suc, _+_, _-_, _*_, _%_, _^_, _≤_, _<_}
 use native.Mathlib.Decide.{decLe}
@@ -22,12 +22,10 @@ use Rattle.store.specs.Sound.{sound}
 use Rattle.store.specs.Call.{call}
 use Rattle.store.proofs.CallLaws.{call-10, sound-call}
 use Rattle.store.proofs.DayLaws.{not-over, over, wrong-list}
-use Rattle.store.proofs.ItemLaws.{sound-items}
 use Rattle.hourlog_c.specs.Export.{Answers}
 use Rattle.hourlog_c.specs.Public.{Live}
-use Rattle.demands.specs.Reasons.{Unsound, plainReasons, reasons}
-use Rattle.demands.proofs.Demand1.{live-10}
-use Rattle.demands.proofs.Sentences1.{day-word, minus-at}
+use Rattle.demands.specs.Reasons.{plainReasons, reasons}
+use Rattle.demands.proofs.Sentences1.{day-word, meets, minus-at}
 use Rattle.demands.proofs.Winning.{stands, without}
 
 -- ---- 'Days in the list have the hours it gives, others 24'
@@ -79,14 +77,6 @@ day-told d cs L w q = go (changesFit cs) refl (decLe (dayEnd cs d) (length (L .c
         sym (same-told (sym (ap (λ (o : Outcome). o .answer) (over d cs L e l)) ∙ q)) ∙ stretch-sum (L .counts) (dayStart cs d) (dayHours cs d)
 
 module _ (s : List ℕ) (d : ℕ) (cs : List ℕ) (w : ℕ) (t : List (List ℕ)) (a : Answers (Live (Day d cs) s) w t) where
-  -- a store that is not refused 10 meets the clauses of a sound one
-  has-items : (Unsound s → ⊥) → Items s
-  has-items n = go (sound s) refl
-    where
-      go : (b : Bool) → sound s ≡ b → Items s
-      go true e = sound-items s e
-      go false e = absurd (n (live-10 (Day d cs) s (a .answer) (a .ends .0) (inr (a .ten)) e))
-
   -- 'It refuses with 16, right after 10, a list with an odd number of entries, or whose day numbers don't rise strictly or whose hours are neither
   -- 23 nor 25', and then alone
   pub refused-16 : (w ≡ 2 ^ 64 - 16)
@@ -97,14 +87,14 @@ module _ (s : List ℕ) (d : ℕ) (cs : List ℕ) (w : ℕ) (t : List (List ℕ)
   unfolding reasons plainReasons without stands
   refused-16 =
       let m = minus-at (Live (Day d cs) s) w t 16 1 (omega arith) (omega arith) (λ x. omega (arith, x .3)) refl a in
-      (λ q. (has-items (m .0 q .0), m .0 q .1), λ x. m .1 (λ n. n (x .0), x .1))
+      (λ q. (meets (Day d cs) s w t a (m .0 q .0), m .0 q .1), λ x. m .1 (λ n. n (x .0), x .1))
 
   -- '7 now stands for a day whose end is above N'
   pub refused-7 : (w ≡ 2 ^ 64 - 7) ↔ (Items s × (ChangesWrong cs → ⊥) × (length (listIn s) < dayEnd cs d))
   unfolding reasons plainReasons without stands
   refused-7 =
       let m = minus-at (Live (Day d cs) s) w t 7 2 (omega arith) (omega arith) (λ x. omega (arith, x .3)) refl a in
-      (λ q. (has-items (m .0 q .0), m .0 q .1 .0, m .0 q .1 .1), λ x. m .1 (λ n. n (x .0), (x .1, x .2)))
+      (λ q. (meets (Day d cs) s w t a (m .0 q .0), m .0 q .1 .0, m .0 q .1 .1), λ x. m .1 (λ n. n (x .0), (x .1, x .2)))
 
   -- any other word is the sum of the day's hours, from its start to its end
   pub sum-of-day : w < 2 ^ 63 → w ≡ sum (part (listIn s) (dayStart cs d) (dayHours cs d))

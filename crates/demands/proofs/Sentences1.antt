@@ -1,23 +1,28 @@
 -- What demand 1 says of each call, in document 01's words: 'Where a call is turned down', and what C gets. Each law takes what it says from
 -- `demand-1`, the last two from the exports' promise; a claim that says less fails here. Assumes nothing.
 use mathlib.Core.Path.{_≡_, refl, sym, ap, _∙_, subst}
-use mathlib.Core.Bool.{true}
+use mathlib.Core.Bool.{Bool, true, false}
 use mathlib.Core.List.{List, [], _∷_}
 use mathlib.Core.Logic.{_⊎_, inl, inr, ⊎-elim, _↔_, Iff·trans}
-use Prim.Native.Nat.{ℕ, _+_, _-_, _*_, _^_, _≤_, _<_}
+use Prim.Native.Nat.{ℕ, suc, _+_, _-_, _*_, _^_, _≤_, _<_}
 use native.Mathlib.Decide.{decLe}
+use native.Mathlib.Nat.{lt-of-not-le}
 use native.Mathlib.Omega.{arith}
+use lib.ListN.{getD}
 use Rattle.store.specs.Plain.{Append, Call, Count, Day, Free, Insert, Reach as ReachOf, Reading, Set, Strike}
 use Rattle.answers.specs.Store.{Answer, answered, changed, refused as turned}
 use Rattle.store.specs.Call.{call, freshCall}
+use Rattle.store.specs.Fitting.{Fitting}
 use Rattle.store.specs.Items.{Items}
+use Rattle.store.specs.Sound.{sound}
+use Rattle.store.proofs.ItemLaws.{sound-items}
 use Rattle.store.proofs.Refusals.{one-of-two}
 use Rattle.image.specs.Calls.{lengthCall, writeCall}
 use Rattle.image.specs.Check.{check}
 use Rattle.answers.specs.Image.{Verdict, fails, holds, Reply, given, refused}
 use Rattle.image.specs.Query.{count, reading}
 use Rattle.image.specs.Reach.{Reach}
-use Rattle.image.specs.Read.{nOf}
+use Rattle.image.specs.Read.{nOf, sOf}
 use Rattle.freeze.specs.Freeze.{freezeCall}
 use Rattle.answers.specs.declared.image.Stretch.{Stretch}
 use Rattle.answers.specs.declared.image.Stretch.the-variants.{Run, Refused as NoStretch}
@@ -25,16 +30,17 @@ use Rattle.image_busiest.specs.Busiest.{BusiestCall}
 use Rattle.answers.specs.declared.image.Bag.{Bag}
 use Rattle.answers.specs.declared.image.Bag.the-variants.{Run as BagRun, None, Refused as NoBag}
 use Rattle.image_match.specs.Match.{MatchCall}
-use Rattle.hourlog_c.specs.Public.{Ends, Fresh, Freeze, ImageBusiest, ImageCheck, ImageCount, ImageLength, ImageMatch, ImageReach, ImageReading, ImageWrite, Live}
+use Rattle.hourlog_c.specs.Public.{Ends, Fresh, Freeze, ImageBusiest, ImageCheck, ImageCount, ImageFromBcd, ImageLength, ImageMatch, ImageReach, ImageReading}
+use Rattle.hourlog_c.specs.Public.{ImageToBcd, ImageWrite, Live}
 use Rattle.hourlog_c.specs.Public.{PublicCall, beside, lent}
 use Rattle.words.specs.End.{End, noRun, ofBag, ofCheck, ofImage, ofStore, ofStretch, refusal, theCells, theHours, theNumber, theRun, theSums}
 use Rattle.words.specs.ReadBack.{Reads, busiestFirst, busiestSum, checkedHours, checkedTotal, matchedFirst, matchedHours, returned, taken}
 use Rattle.hourlog_c.specs.Export.{Answers}
-use Rattle.demands.specs.Reasons.{NoneFits, Wins, reasons}
+use Rattle.demands.specs.Reasons.{NoHeader, NoneFits, Unsound, Wins, reasons}
 use Rattle.demands.specs.Demand1.{Allowed, Bytes, Gives, Given, Index, Kind, aNumber, cellsMoved, firstAndSum, hoursAndTotal, hoursOrNone, row}
-use Rattle.demands.proofs.Demand1.{demand-1}
+use Rattle.demands.proofs.Demand1.{demand-1, live-10}
 use Rattle.demands.proofs.Slices.{same-slice}
-use Rattle.demands.proofs.Winning.{Place, none-wins, stands, wins-at}
+use Rattle.demands.proofs.Winning.{Place, none-wins, stands, wins-at, without}
 
 -- ---- 'Nothing a caller lends can keep a call from ending'
 pub ends : (c : PublicCall) → (a : End) × (t : List (List ℕ)) × Ends c a t
@@ -64,6 +70,19 @@ reach-six s p a t d w =
     (λ (x : (n : ℕ) × Index (ImageReach s p) 6 n × (a ≡ theNumber n)).
     inr (x .0, subst (λ (i : List ℕ). x .0 ≤ nOf i) (sym (same-image (x .1 .2))) (x .1 .4), x .2))
     (demand-1 .refuses (ImageReach s p) a t tt d 6 w)
+
+-- 'Nothing else is left free'
+pub only-reach : (c : PublicCall) (k n : ℕ) → Index c k n → (k ≡ 6) × ((i : List ℕ) × (p : ℕ) × (c ≡ ImageReach i p) × (n ≤ nOf i))
+only-reach c k n x = (x .3, (x .0, x .1, x .2, x .4))
+
+-- what is asked of the lent: that a store is bytes, and nothing else
+pub bytes-lent : (s : List ℕ) → ((i : ℕ) → getD s i 0 < 256) → ((c : Call) → Bytes (Live c s)) × ((e : ℕ) (out : List ℕ) → Bytes (Freeze s e out))
+bytes-lent s h = (λ c. h, λ e out. h)
+
+pub anything-lent : (s t : List ℕ) (m n : ℕ) → Bytes (Fresh s m n) × Bytes (ImageLength s m) × Bytes (ImageWrite s m t) × Bytes (ImageCheck s)
+    × Bytes (ImageCount s m) × Bytes (ImageReading s m) × Bytes (ImageReach s m) × Bytes (ImageBusiest s m) × Bytes (ImageFromBcd s m t)
+    × Bytes (ImageToBcd s t) × Bytes (ImageMatch s m)
+anything-lent s t m n = (tt, tt, tt, tt, tt, tt, tt, tt, tt, tt, tt)
 
 -- where no reason fits the call gives its result: one that turns all down is shut out
 pub gives-result : (c : PublicCall) (a : End) (t : List (List ℕ)) → Bytes c → Ends c a t → NoneFits (reasons c) → Gives (row c .gives) a
@@ -149,8 +168,8 @@ pub minus-exactly : (c : PublicCall) (w : ℕ) (t : List (List ℕ)) (k : ℕ) �
     → (w ≡ 2 ^ 64 - k) ↔ Wins k (reasons c)
 minus-exactly c w t k g h m a = (
   λ (q : w ≡ 2 ^ 64 - k).
-  let e : 2 ^ 64 - w ≡ k = omega arith in
-  subst (λ (j : ℕ). Wins j (reasons c)) e (minus-refusal c w t a (omega arith) .0),
+      let e : 2 ^ 64 - w ≡ k = omega arith in
+      subst (λ (j : ℕ). Wins j (reasons c)) e (minus-refusal c w t a (omega arith) .0),
   λ v. ⊎-elim (λ (e : w + k ≡ 2 ^ 64). omega arith) (λ x. absurd (m x)) (demand-1 .first-that-fits c w t a k v),
 )
 
@@ -420,3 +439,35 @@ live-unsound c s w t a = Iff·trans (minus-in 10 (omega arith) (omega arith) (a 
 pub freeze-unsound : (s : List ℕ) (e : ℕ) (out : List ℕ) (w : ℕ) (t : List (List ℕ)) → Answers (Freeze s e out) w t
     → (w ≡ 2 ^ 64 - 10) ↔ (Items s → ⊥)
 freeze-unsound s e out w t a = Iff·trans (minus-in 10 (omega arith) (omega arith) (a .answer) w (a .reads)) (a .ten)
+
+-- past 10 a store meets the clauses of a sound one
+pub meets : (c : Call) (s : List ℕ) (w : ℕ) (t : List (List ℕ)) → Answers (Live c s) w t → (Unsound s → ⊥) → Items s
+meets c s w t a n = go (sound s) refl
+  where
+    go : (b : Bool) → sound s ≡ b → Items s
+    go true e = sound-items s e
+    go false e = absurd (n (live-10 c s (a .answer) (a .ends .0) (inr (a .ten)) e))
+
+-- what is not below is at least as large
+pub not-below : (m n : ℕ) → (m < n → ⊥) → n ≤ m
+not-below m n f = let l : n < suc m = lt-of-not-le f in omega arith
+
+-- ---- rows in C's words: 'fresh: 9, P, C or buffer length wrong', and where they are right a store is made
+module _ (s : List ℕ) (P C w : ℕ) (t : List (List ℕ)) (a : Answers (Fresh s P C) w t) where
+  pub fresh-minus-9 : (w ≡ 2 ^ 64 - 9) ↔ (Fitting s P C → ⊥)
+  unfolding reasons without stands
+  fresh-minus-9 = minus-at (Fresh s P C) w t 9 0 (omega arith) (omega arith) (λ x. omega (arith, x .3)) refl a
+
+  pub fresh-made : Fitting s P C → w < 2 ^ 63
+  unfolding reasons
+  fresh-made f = result-word (Fresh s P C) w t a (λ n. n f, tt)
+
+-- reach: 'past refusals 5 and 8' alone anything is left free
+module _ (s : List ℕ) (p w : ℕ) (t : List (List ℕ)) (a : Answers (ImageReach s p) w t) where
+  pub reach-minus-5 : (w ≡ 2 ^ 64 - 5) ↔ NoHeader s
+  unfolding reasons without stands
+  reach-minus-5 = minus-at (ImageReach s p) w t 5 0 (omega arith) (omega arith) (λ x. omega (arith, x .3)) refl a
+
+  pub reach-minus-8 : (w ≡ 2 ^ 64 - 8) ↔ ((NoHeader s → ⊥) × (sOf s < p))
+  unfolding reasons without stands
+  reach-minus-8 = minus-at (ImageReach s p) w t 8 1 (omega arith) (omega arith) (λ x. omega (arith, x .3)) refl a

@@ -34,7 +34,7 @@ stands k (suc n) (r ∷ rs) = not (eqb k (r .number)) && stands k n rs
 other : (k j : ℕ) → not (eqb k j) ≡ true → k ≡ j → ⊥
 other k j e q = true≢false (sym e ∙ ap not (eq-eqb k j q))
 
-absent : (k : ℕ) (rs : List Reason) → without k rs ≡ true → Wins k rs → ⊥
+pub absent : (k : ℕ) (rs : List Reason) → without k rs ≡ true → Wins k rs → ⊥
 unfolding without
 absent k [] e w = w
 absent k (r ∷ rs) e (inl (q, f)) = other k (r .number) (left (not (eqb k (r .number))) (without k rs) e) q
