@@ -28,16 +28,16 @@ use Rattle.book_in.specs.FromBook.{fromCall}
 use Rattle.book_in.proofs.FromLaws.{from-refused}
 use Rattle.book_out.specs.ToBook.{toCall}
 use Rattle.book_out.proofs.ToLaws.{to-refused}
-use Rattle.hourlog_c.specs.Public.{Ends, Fresh, Freeze, ImageBusiest, ImageCheck, ImageCount, ImageFromBcd, ImageLength, ImageMatch, ImageReach, ImageReading}
-use Rattle.hourlog_c.specs.Public.{ImageToBcd, ImageWrite, Live, PublicCall, Ten, beside, lent}
+use Rattle.hourlog_c.specs.Public.{Ends, Fresh, Freeze, ImageBusiest, ImageCheck, ImageCount, ImageFromBcd, ImageLength, ImageMatch, ImageReach}
+use Rattle.hourlog_c.specs.Public.{ImageReading, ImageToBcd, ImageWrite, Live, PublicCall, Ten, beside, lent}
 use Rattle.words.specs.End.{End, noRun, ofBag, ofImage, ofStore, ofStretch, refusal, theCells, theHours, theNumber, theRun, theSums}
 use Rattle.words.specs.ReadBack.{Reads}
 use Rattle.words.proofs.EndLaws.{image-refused, store-refused}
 use Rattle.demands.specs.Reasons.{Unsound, Wins, reasons}
 use Rattle.demands.specs.Demand1.{Allowed, Bytes, Demand1, Given, Gives, Index, Refused, aNumber, cellsMoved, row}
-use Rattle.demands.proofs.Refusals.{Decided, busiest-decided, check-decided, count-decided, freeze-decided, fresh-decided, from-decided, gives-of}
-use Rattle.demands.proofs.Refusals.{length-decided, live-decided, match-decided, reach-decided, reading-decided, refuses-of, to-decided, wins-of}
-use Rattle.demands.proofs.Refusals.{write-decided}
+use Rattle.demands.proofs.Deciding.{Decided, gives-of, refuses-of, wins-of}
+use Rattle.demands.proofs.Refusals.{busiest-decided, check-decided, count-decided, freeze-decided, fresh-decided, from-decided, length-decided}
+use Rattle.demands.proofs.Refusals.{live-decided, match-decided, reach-decided, reading-decided, to-decided, write-decided}
 
 -- ---- all calls
 -- what may stand in the place of refusal k
@@ -150,8 +150,11 @@ number-keeps : (c : Call) (s : List ℕ) → row (Live c s) .gives ≡ aNumber �
 unfolding ofStore
 number-keeps c s g = go (sound s) refl
   where
-    by-answer : (a : Answer) → call c s .answer ≡ a → Decided (λ k a. ⊥) (row (Live c s) .gives) (reasons (Live c s)) (ofStore a) → call c s .bytes ≡ s
-    by-answer (changed t r) q d = absurd (moved (sym g ∙ gives-of (λ k a. ⊥) (row (Live c s) .gives) (λ k a m. absurd m) (reasons (Live c s)) (theCells t r)
+    by-answer : (a : Answer) → call c s .answer ≡ a → Decided (λ k a. ⊥) (row (Live c s) .gives) (reasons (Live c s)) (ofStore a)
+        → call c s .bytes ≡ s
+    by-answer (changed t r) q d =
+        absurd (moved (sym g
+        ∙ gives-of (λ k a. ⊥) (row (Live c s) .gives) (λ k a m. absurd m) (reasons (Live c s)) (theCells t r)
         (λ k e. let z : _≡_ {A = ℕ} 0 1 = cc in omega arith) d))
       where
         moved : aNumber ≡ cellsMoved → ⊥

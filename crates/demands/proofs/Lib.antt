@@ -2,6 +2,7 @@
 pub mod Slices
 pub mod Theorems
 pub mod ReasonTests
+pub mod Deciding
 pub mod Refusals
 pub mod Demand1
 pub mod Winning

@@ -66,7 +66,8 @@ not-told e = let z : _≡_ {A = ℕ} 0 1 = cc in omega arith
 same-told : {m n : ℕ} → answered m ≡ answered n → m ≡ n
 same-told e = cc
 
-day-told : (d : ℕ) (cs : List ℕ) (L : Plain) (w : ℕ) → step (Day d cs) L .answer ≡ answered w → w ≡ sum (part (L .counts) (dayStart cs d) (dayHours cs d))
+day-told : (d : ℕ) (cs : List ℕ) (L : Plain) (w : ℕ) → step (Day d cs) L .answer ≡ answered w
+    → w ≡ sum (part (L .counts) (dayStart cs d) (dayHours cs d))
 unfolding dayEnd
 day-told d cs L w q = go (changesFit cs) refl (decLe (dayEnd cs d) (length (L .counts)))
   where

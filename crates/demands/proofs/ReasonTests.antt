@@ -174,7 +174,8 @@ module _ (s : List ℕ) (p j : ℕ) where
           ⊎ ((beforePassing s p ≡ true)
           ⊎ ((ltb (sOf s) (rootOf s p) ≡ true)
           ⊎ ((ltb (sOf s) (beforeOf s p) ≡ true)
-          ⊎ ((ltb (rootOf s p) (beforeOf s p) ≡ true) ⊎ (passing s (startOf s p + widthOf s) (reserve (eOf s) (sumOf s p)) ≡ true))))) → PageDamage s p j
+          ⊎ ((ltb (rootOf s p) (beforeOf s p) ≡ true) ⊎ (passing s (startOf s p + widthOf s) (reserve (eOf s) (sumOf s p)) ≡ true)))))
+          → PageDamage s p j
       go (inl q) = root-passing (ltb-true _ _ q)
       go (inr (inl q)) = before-found p refl q
       go (inr (inr (inl q))) = root-above (ltb-true _ _ q)

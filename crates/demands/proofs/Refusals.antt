@@ -46,73 +46,13 @@ use Rattle.book_in.specs.FromBook.{fromCall}
 use Rattle.book_in.proofs.FromLaws.{only-long}
 use Rattle.book_out.specs.ToBook.{putBook, toCall}
 use Rattle.book_out.proofs.ToLaws.{to-fails, to-past}
-use Rattle.hourlog_c.specs.Public.{Fresh, Freeze, ImageBusiest, ImageCheck, ImageCount, ImageFromBcd, ImageLength, ImageMatch, ImageReach, ImageReading, ImageToBcd, ImageWrite}
-use Rattle.hourlog_c.specs.Public.{Live}
+use Rattle.hourlog_c.specs.Public.{Fresh, Freeze, ImageBusiest, ImageCheck, ImageCount, ImageFromBcd, ImageLength, ImageMatch, ImageReach}
+use Rattle.hourlog_c.specs.Public.{ImageReading, ImageToBcd, ImageWrite, Live}
 use Rattle.words.specs.End.{End, ofBag, ofCheck, ofImage, ofStore, ofStretch, refusal, theNumber}
-use Rattle.demands.specs.Reasons.{Damage, NoHeader, NoImage, NoPageSize, Over, Reason, Short, TooWide, Unsound, Wins, _when_, plainReasons, reasons}
-use Rattle.demands.specs.Demand1.{Gives, Kind, aNumber, cellsMoved, firstAndSum, hoursAndTotal, hoursOrNone, row}
+use Rattle.demands.specs.Reasons.{Damage, NoHeader, NoImage, NoPageSize, Over, Reason, Short, TooWide, Unsound, _when_, plainReasons, reasons}
+use Rattle.demands.specs.Demand1.{Kind, aNumber, cellsMoved, firstAndSum, hoursAndTotal, hoursOrNone, row}
 use Rattle.demands.proofs.ReasonTests.{Denies, Tells, at-most, below, book, damage-exactly, header, narrow, not-above, page-size, written}
-
--- ---- What an answer is by a list of reasons: the refusal of the first that fits, or what else may stand there, and where none fits a result of
--- the kind K
-unfoldable pub Decided : (ℕ → End → Type 0) → Kind → List Reason → End → Type 0
-Decided M K [] a = Gives K a
-Decided M K (r ∷ rs) a = (r .fits × ((a ≡ refusal (r .number)) ⊎ M (r .number) a)) ⊎ ((r .fits → ⊥) × Decided M K rs a)
-
-same-number : {j k : ℕ} → refusal j ≡ refusal k → j ≡ k
-same-number e = cc
-
-module _ (M : ℕ → End → Type 0) (K : Kind) where
-  -- the first that fits wins, and is what the call ends in
-  pub wins-of : ((k : ℕ) (a : End) → M k a → Gives K a) → (rs : List Reason) (k : ℕ) → Decided M K rs (refusal k) → Wins k rs
-  unfolding Decided
-  wins-of g [] k d = d
-  wins-of g (r ∷ rs) k (inl (f, inl e)) = inl (same-number e, f)
-  wins-of g (r ∷ rs) k (inl (f, inr m)) = absurd (g (r .number) (refusal k) m)
-  wins-of g (r ∷ rs) k (inr (n, d)) = inr (n, wins-of g rs k d)
-
-  pub refuses-of : (rs : List Reason) (k : ℕ) (a : End) → Wins k rs → Decided M K rs a → (a ≡ refusal k) ⊎ M k a
-  unfolding Decided
-  refuses-of [] k a w d = absurd w
-  refuses-of (r ∷ rs) k a (inl (e, f)) (inl (h, inl q)) = inl (q ∙ ap refusal (sym e))
-  refuses-of (r ∷ rs) k a (inl (e, f)) (inl (h, inr m)) = inr (subst (λ (z : ℕ). M z a) (sym e) m)
-  refuses-of (r ∷ rs) k a (inl (e, f)) (inr (n, d)) = absurd (n f)
-  refuses-of (r ∷ rs) k a (inr (n, w)) (inl (f, q)) = absurd (n f)
-  refuses-of (r ∷ rs) k a (inr (n, w)) (inr (m, d)) = refuses-of rs k a w d
-
-  -- an answer that is no refusal
-  pub gives-of : ((k : ℕ) (a : End) → M k a → Gives K a) → (rs : List Reason) (a : End) → ((k : ℕ) → a ≡ refusal k → ⊥) → Decided M K rs a → Gives K a
-  unfolding Decided
-  gives-of g [] a n d = d
-  gives-of g (r ∷ rs) a n (inl (f, inl e)) = absurd (n (r .number) e)
-  gives-of g (r ∷ rs) a n (inl (f, inr m)) = g (r .number) a m
-  gives-of g (r ∷ rs) a n (inr (m, d)) = gives-of g rs a n d
-
-  -- ---- one reason after another
-  none-left : (a : End) → Gives K a → Decided M K [] a
-  unfolding Decided
-  none-left a g = g
-
-  fits-first : (k : ℕ) (F : Type 0) (rs : List Reason) (a : End) → F → a ≡ refusal k → Decided M K (k when F ∷ rs) a
-  unfolding Decided
-  fits-first k F rs a f e = inl (f, inl e)
-
-  passed : (k : ℕ) (F : Type 0) (rs : List Reason) (a : End) → (F → ⊥) → Decided M K rs a → Decided M K (k when F ∷ rs) a
-  unfolding Decided
-  passed k F rs a n d = inr (n, d)
-
-  -- a choice between a refusal and what is left, by a test that holds where the reason fits, and by one that does not
-  where-true : {X : Type 0} (f : X → End) (k : ℕ) (F : Type 0) (rs : List Reason) (b : Bool) (x y : X) → Tells b F → f x ≡ refusal k
-      → (b ≡ false → Decided M K rs (f y)) → Decided M K (k when F ∷ rs) (f (pick b x y))
-  unfolding pick
-  where-true f k F rs true x y t e d = fits-first k F rs (f x) (t .0 refl) e
-  where-true f k F rs false x y t e d = passed k F rs (f y) (t .1 refl) (d refl)
-
-  where-false : {X : Type 0} (f : X → End) (k : ℕ) (F : Type 0) (rs : List Reason) (b : Bool) (x y : X) → Denies b F → f y ≡ refusal k
-      → (b ≡ true → Decided M K rs (f x)) → Decided M K (k when F ∷ rs) (f (pick b x y))
-  unfolding pick
-  where-false f k F rs true x y t e d = passed k F rs (f x) (t .1 refl) (d refl)
-  where-false f k F rs false x y t e d = fits-first k F rs (f y) (t .0 refl) e
+use Rattle.demands.proofs.Deciding.{Decided, fits-first, none-left, passed, where-false, where-true}
 
 -- ---- the live calls
 module _ (M : ℕ → End → Type 0) where
@@ -122,8 +62,8 @@ module _ (M : ℕ → End → Type 0) where
   change-decided : (L : Plain) (ys : List ℕ) → Decided M cellsMoved (3 when (maxTotal < sum ys) ∷ 12 when Short L ys ∷ []) (said (change L ys))
   unfolding change ofStore
   change-decided L ys =
-      where-true M cellsMoved said _ _ _ _ _ _ (below maxTotal (sum ys)) refl (λ _.
-      where-true M cellsMoved said _ _ _ _ _ _ (below _ _) refl (λ _. none-left M cellsMoved _ refl))
+      where-true M cellsMoved said _ _ _ (below maxTotal (sum ys)) refl (λ _.
+      where-true M cellsMoved said _ _ _ (below _ _) refl (λ _. none-left M cellsMoved _ refl))
 
   -- a strike has a lower total: never 3
   strike-decided : (L : Plain) (i : ℕ) → sum (L .counts) ≤ maxTotal
@@ -133,8 +73,8 @@ module _ (M : ℕ → End → Type 0) where
     where
       go : {o : Outcome} → Change L (struck (L .counts) i) o → Decided M cellsMoved (12 when Short L (struck (L .counts) i) ∷ []) (said o)
       go (over x) = absurd (omega (arith, sum-struck (L .counts) i))
-      go (short x y) = fits-first M cellsMoved _ _ _ _ y refl
-      go (done x y) = passed M cellsMoved _ _ _ _ (λ (z : Short L (struck (L .counts) i)). omega arith) (none-left M cellsMoved _ refl)
+      go (short x y) = fits-first M cellsMoved _ y refl
+      go (done x y) = passed M cellsMoved _ _ _ (λ (z : Short L (struck (L .counts) i)). omega arith) (none-left M cellsMoved _ refl)
 
   changes-test : (cs : List ℕ) → Tells (not (changesFit cs)) (ChangesWrong cs)
   changes-test cs = (
@@ -145,18 +85,18 @@ module _ (M : ℕ → End → Type 0) where
   step-decided : (c : Call) (s : List ℕ) (L : Plain) → sum (L .counts) ≤ maxTotal
       → Decided M (row (Live c s) .gives) (plainReasons c L) (said (step c L))
   unfolding step row plainReasons inserted struck ofStore
-  step-decided (Append v) s L t = where-true M cellsMoved said _ _ _ _ _ _ (at-most _ _) refl (λ _. change-decided L (L .counts ++ v ∷ []))
-  step-decided (Set i v) s L t = where-true M cellsMoved said _ _ _ _ _ _ (at-most _ _) refl (λ _. change-decided L (set (L .counts) i v))
+  step-decided (Append v) s L t = where-true M cellsMoved said _ _ _ (at-most _ _) refl (λ _. change-decided L (L .counts ++ v ∷ []))
+  step-decided (Set i v) s L t = where-true M cellsMoved said _ _ _ (at-most _ _) refl (λ _. change-decided L (set (L .counts) i v))
   step-decided (Insert i v) s L t =
-      where-true M cellsMoved said _ _ _ _ _ _ (below _ _) refl (λ _.
-      where-true M cellsMoved said _ _ _ _ _ _ (at-most _ _) refl (λ _. change-decided L (inserted (L .counts) i v)))
-  step-decided (Strike i) s L t = where-true M cellsMoved said _ _ _ _ _ _ (at-most _ _) refl (λ _. strike-decided L i t)
-  step-decided (Count i) s L t = where-true M aNumber said _ _ _ _ _ _ (at-most _ _) refl (λ _. none-left M aNumber _ refl)
-  step-decided (Reading i) s L t = where-true M aNumber said _ _ _ _ _ _ (below _ _) refl (λ _. none-left M aNumber _ refl)
-  step-decided (ReachOf p) s L t = where-true M aNumber said _ _ _ _ _ _ (below _ _) refl (λ _. none-left M aNumber _ refl)
+      where-true M cellsMoved said _ _ _ (below _ _) refl (λ _.
+      where-true M cellsMoved said _ _ _ (at-most _ _) refl (λ _. change-decided L (inserted (L .counts) i v)))
+  step-decided (Strike i) s L t = where-true M cellsMoved said _ _ _ (at-most _ _) refl (λ _. strike-decided L i t)
+  step-decided (Count i) s L t = where-true M aNumber said _ _ _ (at-most _ _) refl (λ _. none-left M aNumber _ refl)
+  step-decided (Reading i) s L t = where-true M aNumber said _ _ _ (below _ _) refl (λ _. none-left M aNumber _ refl)
+  step-decided (ReachOf p) s L t = where-true M aNumber said _ _ _ (below _ _) refl (λ _. none-left M aNumber _ refl)
   step-decided (Day d cs) s L t =
-      where-true M aNumber said _ _ _ _ _ _ (changes-test cs) refl (λ _.
-      where-true M aNumber said _ _ _ _ _ _ (below _ _) refl (λ _. none-left M aNumber _ refl))
+      where-true M aNumber said _ _ _ (changes-test cs) refl (λ _.
+      where-true M aNumber said _ _ _ (below _ _) refl (λ _. none-left M aNumber _ refl))
   step-decided Free s L t = none-left M aNumber _ refl
 
   -- 'not sound', of a store whose soundness is told clause by clause
@@ -167,29 +107,29 @@ module _ (M : ℕ → End → Type 0) where
       → Decided M (row (Live c s) .gives) (reasons (Live c s)) (ofStore (call c s .answer))
   unfolding call reasons ofStore
   live-decided c s h =
-      where-false M (row (Live c s) .gives) (λ (r : Result). ofStore (r .answer)) _ _ _ (sound s) _ _ (sound-test s h) refl (λ e.
+      where-false M (row (Live c s) .gives) (λ (r : Result). ofStore (r .answer)) _ _ _ (sound-test s h) refl (λ e.
       step-decided c s (read s .plain) (facts s e .total-fits))
 
   pub fresh-decided : (s : List ℕ) (P C : ℕ) → Decided M aNumber (reasons (Fresh s P C)) (ofStore (freshCall s P C .answer))
   unfolding freshCall reasons ofStore
   fresh-decided s P C =
-      where-false M aNumber (λ (r : Result). ofStore (r .answer)) _ _ _ (fits s P C) _ _
+      where-false M aNumber (λ (r : Result). ofStore (r .answer)) _ _ _
       (λ e w. true≢false (sym (fits-so s P C w) ∙ e), λ e n. n (fitting s P C e)) refl (λ _. none-left M aNumber _ refl)
 
   -- ---- the calls that make an image
   put-decided : (out i : List ℕ) → Decided M aNumber (4 when (length out < length i) ∷ []) (ofImage (put out i .reply))
   unfolding put unwritten ofImage
   put-decided out i =
-      where-false M aNumber (λ (r : ImageResult). ofImage (r .reply)) _ _ _ _ _ _ (not-above (length i) (length out)) refl (λ _. none-left M aNumber _ refl)
+      where-false M aNumber (λ (r : ImageResult). ofImage (r .reply)) _ _ _ (not-above (length i) (length out)) refl (λ _. none-left M aNumber _ refl)
 
   length-tried : (f : Reply → End) → ((k : ℕ) → f (refused k) ≡ refusal k) → (e : ℕ) (xs : List ℕ) (rs : List Reason)
       → Decided M aNumber rs (f (given (length (image e xs))))
       → Decided M aNumber (1 when NoPageSize e ∷ 2 when (65536 < length xs) ∷ 3 when Over xs ∷ rs) (f (lengthCall e xs))
   unfolding lengthCall
   length-tried f h e xs rs d =
-      where-false M aNumber f _ _ _ _ _ _ (page-size e) (h 1) (λ _.
-      where-false M aNumber f _ _ _ _ _ _ (not-above (length xs) 65536) (h 2) (λ _.
-      where-false M aNumber f _ _ _ _ _ _ (not-above (sum xs) 4294967295) (h 3) (λ _. d)))
+      where-false M aNumber f _ _ _ (page-size e) (h 1) (λ _.
+      where-false M aNumber f _ _ _ (not-above (length xs) 65536) (h 2) (λ _.
+      where-false M aNumber f _ _ _ (not-above (sum xs) 4294967295) (h 3) (λ _. d)))
 
   pub length-decided : (xs : List ℕ) (e : ℕ) → Decided M aNumber (reasons (ImageLength xs e)) (ofImage (lengthCall e xs))
   unfolding reasons ofImage
@@ -216,10 +156,11 @@ module _ (M : ℕ → End → Type 0) where
       → Decided M aNumber (reasons (Freeze s e out)) (ofImage (freezeCall e s out .reply))
   unfolding freezeCall writeCall reasons unwritten ofImage
   freeze-decided s e out h =
-      where-false M aNumber (λ (r : ImageResult). ofImage (r .reply)) _ _ _ (sound s) _ _ (sound-test s h) refl (λ q.
+      where-false M aNumber (λ (r : ImageResult). ofImage (r .reply)) _ _ _ (sound-test s h) refl (λ q.
       let i = image e (listIn s) in
-      subst (λ (r : Reply). Decided M aNumber (1 when NoPageSize e ∷ 4 when (length out < length i) ∷ []) (putting out i r)) (sym (only-page-size e s q))
-      (where-false M aNumber (putting out i) _ _ _ _ _ _ (page-size e) (put-refused out i 1) (λ _. put-given out i (length i))))
+      let left : List Reason = 1 when NoPageSize e ∷ 4 when (length out < length i) ∷ [] in
+      subst (λ (r : Reply). Decided M aNumber left (putting out i r)) (sym (only-page-size e s q))
+      (where-false M aNumber (putting out i) _ _ _ (page-size e) (put-refused out i 1) (λ _. put-given out i (length i))))
 
   -- ---- 5, and 6 of the full check
   fails-decided : (K : Kind) (s : List ℕ) (j : ℕ) (rs : List Reason) → check s ≡ fails j
@@ -232,19 +173,19 @@ module _ (M : ℕ → End → Type 0) where
 
       go : (a : Bool) → headed s ≡ a → (b : Bool) → accepted s ≡ b → pick a (pick b (holds (nOf s) (sOf s)) (fails 6)) (fails 5) ≡ fails j
           → Decided M K (5 when NoHeader s ∷ 6 when NoImage s ∷ rs) (refusal j)
-      go false p b q e = fits-first M K _ _ _ _ (header s .0 p) (number e)
-      go true p false q e = passed M K _ _ _ _ (header s .1 p) (fits-first M K _ _ _ _ (written s .0 q) (number e))
+      go false p b q e = fits-first M K _ (header s .0 p) (number e)
+      go true p false q e = passed M K _ _ _ (header s .1 p) (fits-first M K _ (written s .0 q) (number e))
       go true p true q e = let z : _≡_ {A = ℕ} 0 1 = cc in absurd (omega arith)
 
   past-check : (K : Kind) (s : List ℕ) (rs : List Reason) (a : End) → accepted s ≡ true → Decided M K rs a
       → Decided M K (5 when NoHeader s ∷ 6 when NoImage s ∷ rs) a
-  past-check K s rs a q d = passed M K _ _ _ _ (header s .1 (past-5 s q)) (passed M K _ _ _ _ (written s .1 q) d)
+  past-check K s rs a q d = passed M K _ _ _ (header s .1 (past-5 s q)) (passed M K _ _ _ (written s .1 q) d)
 
   pub check-decided : (s : List ℕ) → Decided M hoursAndTotal (reasons (ImageCheck s)) (ofCheck (check s))
   unfolding check reasons ofCheck
   check-decided s =
-      where-false M hoursAndTotal ofCheck _ _ _ (headed s) _ _ (header s) refl (λ _.
-      where-false M hoursAndTotal ofCheck _ _ _ (accepted s) _ _ (written s) refl (λ _. none-left M hoursAndTotal _ refl))
+      where-false M hoursAndTotal ofCheck _ _ _ (header s) refl (λ _.
+      where-false M hoursAndTotal ofCheck _ _ _ (written s) refl (λ _. none-left M hoursAndTotal _ refl))
 
   -- ---- the questions to an image
   not-found : {x c : ℕ} → found x c ≡ damaged → ⊥
@@ -255,58 +196,63 @@ module _ (M : ℕ → End → Type 0) where
   count-found s i = go (look s i) refl
     where
       go : (f : Found) → look s i ≡ f → Decided M aNumber (6 when Damage s i ∷ []) (ofImage (theCount f))
-      go damaged q = fits-first M aNumber _ _ _ _ (damage-exactly s i .0 q) refl
-      go (found x c) q = passed M aNumber _ _ _ _ (λ d. not-found (sym q ∙ damage-exactly s i .1 d)) (none-left M aNumber _ refl)
+      go damaged q = fits-first M aNumber _ (damage-exactly s i .0 q) refl
+      go (found x c) q = passed M aNumber _ _ _ (λ d. not-found (sym q ∙ damage-exactly s i .1 d)) (none-left M aNumber _ refl)
 
   reading-found : (s : List ℕ) (i : ℕ) → Decided M aNumber (6 when ((1 ≤ i) × Damage s (i - 1)) ∷ []) (ofImage (readingAt s i))
   unfolding readingAt theReading ofImage
-  reading-found s zero = passed M aNumber _ _ _ _ (λ (w : (1 ≤ 0) × Damage s (0 - 1)). omega (arith, w .0)) (none-left M aNumber _ refl)
+  reading-found s zero = passed M aNumber _ _ _ (λ (w : (1 ≤ 0) × Damage s (0 - 1)). omega (arith, w .0)) (none-left M aNumber _ refl)
   reading-found s (suc i) = go (look s i) refl
     where
       back : suc i - 1 ≡ i
       back = omega arith
 
       go : (f : Found) → look s i ≡ f → Decided M aNumber (6 when ((1 ≤ suc i) × Damage s (suc i - 1)) ∷ []) (ofImage (theReading f))
-      go damaged q = fits-first M aNumber _ _ _ _ (omega arith, subst (Damage s) (sym back) (damage-exactly s i .0 q)) refl
+      go damaged q = fits-first M aNumber _ (omega arith, subst (Damage s) (sym back) (damage-exactly s i .0 q)) refl
       go (found x c) q =
-          passed M aNumber _ _ _ _ (λ (w : (1 ≤ suc i) × Damage s (suc i - 1)). not-found (sym q ∙ damage-exactly s i .1 (subst (Damage s) back (w .1))))
+          passed M aNumber _ _ _
+          (λ (w : (1 ≤ suc i) × Damage s (suc i - 1)). not-found (sym q ∙ damage-exactly s i .1 (subst (Damage s) back (w .1))))
           (none-left M aNumber _ refl)
 
   pub count-decided : (s : List ℕ) (i : ℕ) → Decided M aNumber (reasons (ImageCount s i)) (ofImage (count s i))
   unfolding count reasons ofImage
   count-decided s i =
-      where-false M aNumber ofImage _ _ _ (headed s) _ _ (header s) refl (λ _.
-      where-true M aNumber ofImage _ _ _ _ _ _ (at-most (nOf s) i) refl (λ _. count-found s i))
+      where-false M aNumber ofImage _ _ _ (header s) refl (λ _.
+      where-true M aNumber ofImage _ _ _ (at-most (nOf s) i) refl (λ _. count-found s i))
 
   pub reading-decided : (s : List ℕ) (i : ℕ) → Decided M aNumber (reasons (ImageReading s i)) (ofImage (reading s i))
   unfolding reading reasons ofImage
   reading-decided s i =
-      where-false M aNumber ofImage _ _ _ (headed s) _ _ (header s) refl (λ _.
-      where-true M aNumber ofImage _ _ _ _ _ _ (below (nOf s) i) refl (λ _. reading-found s i))
+      where-false M aNumber ofImage _ _ _ (header s) refl (λ _.
+      where-true M aNumber ofImage _ _ _ (below (nOf s) i) refl (λ _. reading-found s i))
 
   pub busiest-decided : (s : List ℕ) (k : ℕ) (a : Stretch) → BusiestCall s k a → Decided M firstAndSum (reasons (ImageBusiest s k)) (ofStretch a)
   unfolding reasons ofStretch
   busiest-decided s k _ (not-accepted j p) = fails-decided firstAndSum s j _ p
   busiest-decided s k _ (no-such-run q o) =
-      past-check firstAndSum s _ _ q (fits-first M firstAndSum _ _ _ _ (⊎-elim inl (λ (l : length (listOf s) < k). inr (omega (arith, length-list s))) o) refl)
+      past-check firstAndSum s _ _ q
+      (fits-first M firstAndSum _ (⊎-elim inl (λ (l : length (listOf s) < k). inr (omega (arith, length-list s))) o) refl)
   busiest-decided s k _ (the-run q l f t b) =
       past-check firstAndSum s _ _ q
-      (passed M firstAndSum _ _ _ _ (⊎-elim (λ (e : k ≡ 0). omega arith) (λ (h : nOf s < k). omega (arith, length-list s, b .inside))) (none-left M firstAndSum _ refl))
+      (passed M firstAndSum _ _ _ (⊎-elim (λ (e : k ≡ 0). omega arith) (λ (h : nOf s < k). omega (arith, length-list s, b .inside)))
+      (none-left M firstAndSum _ refl))
 
   pub match-decided : (s : List ℕ) (q : ℕ) (a : Bag) → MatchCall s q a → Decided M hoursOrNone (reasons (ImageMatch s q)) (ofBag a)
   unfolding reasons ofBag
   match-decided s q _ (no-image j p) = fails-decided hoursOrNone s j _ p
-  match-decided s q _ (no-coins c z) = past-check hoursOrNone s _ _ c (fits-first M hoursOrNone _ _ _ _ z refl)
-  match-decided s q _ (the-hours c l f n m) = past-check hoursOrNone s _ _ c (passed M hoursOrNone _ _ _ _ (λ (e : q ≡ 0). omega arith) (none-left M hoursOrNone _ refl))
-  match-decided s q _ (none c l m) = past-check hoursOrNone s _ _ c (passed M hoursOrNone _ _ _ _ (λ (e : q ≡ 0). omega arith) (none-left M hoursOrNone _ refl))
+  match-decided s q _ (no-coins c z) = past-check hoursOrNone s _ _ c (fits-first M hoursOrNone _ z refl)
+  match-decided s q _ (the-hours c l f n m) =
+      past-check hoursOrNone s _ _ c (passed M hoursOrNone _ _ _ (λ (e : q ≡ 0). omega arith) (none-left M hoursOrNone _ refl))
+  match-decided s q _ (none c l m) =
+      past-check hoursOrNone s _ _ c (passed M hoursOrNone _ _ _ (λ (e : q ≡ 0). omega arith) (none-left M hoursOrNone _ refl))
 
   -- ---- books
   pub from-decided : (b : List ℕ) (e : ℕ) (out : List ℕ) → Decided M aNumber (reasons (ImageFromBcd b e out)) (ofImage (fromCall e b out .reply))
   unfolding fromCall writeCall reasons unwritten ofImage
   from-decided b e out =
       let result : ImageResult → End = λ (r : ImageResult). ofImage (r .reply) in
-      where-false M aNumber result _ _ _ _ _ _ (page-size e) refl (λ p.
-      where-false M aNumber result _ _ _ _ _ _ (book b) refl (λ q. long-or-put p q))
+      where-false M aNumber result _ _ _ (page-size e) refl (λ p.
+      where-false M aNumber result _ _ _ (book b) refl (λ q. long-or-put p q))
     where
       i : List ℕ
       i = image e (listOfBook b)
@@ -321,14 +267,17 @@ module _ (M : ℕ → End → Type 0) where
       long-or-put p q =
           subst (λ (r : Reply). Decided M aNumber (2 when (65536 < length b / 2) ∷ 4 when (length out < length i) ∷ []) (putting out i r))
           (sym (only-long e b (leb-true 2 e (left (leb 2 e) (leb e 8) p)) (leb-true e 8 (right (leb 2 e) (leb e 8) p)) q))
-          (where-false M aNumber (putting out i) _ _ _ _ _ _ long-test (put-refused out i 2) (λ _. put-given out i (length i)))
+          (where-false M aNumber (putting out i) _ _ _ long-test (put-refused out i 2) (λ _. put-given out i (length i)))
 
-  book-decided : (s out : List ℕ) → Decided M aNumber (15 when TooWide s ∷ 4 when (length out < 2 * nOf s) ∷ []) (ofImage (putBook (listOf s) out .reply))
+  abbrev bookLeft : List ℕ → List ℕ → List Reason
+  bookLeft s out = 15 when TooWide s ∷ 4 when (length out < 2 * nOf s) ∷ []
+
+  book-decided : (s out : List ℕ) → Decided M aNumber (bookLeft s out) (ofImage (putBook (listOf s) out .reply))
   unfolding putBook put unwritten ofImage
   book-decided s out =
       let result : ImageResult → End = λ (r : ImageResult). ofImage (r .reply) in
-      where-false M aNumber result _ _ _ _ _ _ (narrow s) refl (λ _.
-      where-false M aNumber result _ _ _ _ _ _ short-test refl (λ _. none-left M aNumber _ refl))
+      where-false M aNumber result _ _ _ (narrow s) refl (λ _.
+      where-false M aNumber result _ _ _ short-test refl (λ _. none-left M aNumber _ refl))
     where
       short-test : Denies (leb (length (bookOf (listOf s))) (length out)) (length out < 2 * nOf s)
       short-test =
@@ -342,7 +291,7 @@ module _ (M : ℕ → End → Type 0) where
   to-decided s out =
       ⊎-elim
       (λ (q : accepted s ≡ true). past-check aNumber s _ _ q
-      (subst (λ (r : ImageResult). Decided M aNumber (15 when TooWide s ∷ 4 when (length out < 2 * nOf s) ∷ []) (ofImage (r .reply))) (to-past s out q)
+      (subst (λ (r : ImageResult). Decided M aNumber (bookLeft s out) (ofImage (r .reply))) (to-past s out q)
       (book-decided s out)))
       (λ (w : (j : ℕ) × (check s ≡ fails j)).
       subst (λ (r : ImageResult). Decided M aNumber (reasons (ImageToBcd s out)) (ofImage (r .reply))) (to-fails s out (w .0) (w .1))

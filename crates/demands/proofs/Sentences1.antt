@@ -30,8 +30,8 @@ use Rattle.image_busiest.specs.Busiest.{BusiestCall}
 use Rattle.answers.specs.declared.image.Bag.{Bag}
 use Rattle.answers.specs.declared.image.Bag.the-variants.{Run as BagRun, None, Refused as NoBag}
 use Rattle.image_match.specs.Match.{MatchCall}
-use Rattle.hourlog_c.specs.Public.{Ends, Fresh, Freeze, ImageBusiest, ImageCheck, ImageCount, ImageFromBcd, ImageLength, ImageMatch, ImageReach, ImageReading}
-use Rattle.hourlog_c.specs.Public.{ImageToBcd, ImageWrite, Live}
+use Rattle.hourlog_c.specs.Public.{Ends, Fresh, Freeze, ImageBusiest, ImageCheck, ImageCount, ImageFromBcd, ImageLength, ImageMatch, ImageReach}
+use Rattle.hourlog_c.specs.Public.{ImageReading, ImageToBcd, ImageWrite, Live}
 use Rattle.hourlog_c.specs.Public.{PublicCall, beside, lent}
 use Rattle.words.specs.End.{End, noRun, ofBag, ofCheck, ofImage, ofStore, ofStretch, refusal, theCells, theHours, theNumber, theRun, theSums}
 use Rattle.words.specs.ReadBack.{Reads, busiestFirst, busiestSum, checkedHours, checkedTotal, matchedFirst, matchedHours, returned, taken}
@@ -174,8 +174,8 @@ minus-exactly c w t k g h m a = (
 )
 
 -- the same by the place of k in the call's row
-pub minus-at : (c : PublicCall) (w : ℕ) (t : List (List ℕ)) (k n : ℕ) → 1 ≤ k → k ≤ 20 → (Index c k w → ⊥) → stands k n (reasons c) ≡ true → Answers c w t
-    → (w ≡ 2 ^ 64 - k) ↔ Place n (reasons c)
+pub minus-at : (c : PublicCall) (w : ℕ) (t : List (List ℕ)) (k n : ℕ) → 1 ≤ k → k ≤ 20 → (Index c k w → ⊥) → stands k n (reasons c) ≡ true
+    → Answers c w t → (w ≡ 2 ^ 64 - k) ↔ Place n (reasons c)
 minus-at c w t k n g h m e a = Iff·trans (minus-exactly c w t k g h m a) (wins-at k n (reasons c) e)
 
 pub reach-six-word : (s : List ℕ) (p w : ℕ) (t : List (List ℕ)) → Answers (ImageReach s p) w t → Wins 6 (reasons (ImageReach s p))

@@ -8,9 +8,9 @@ use Prim.Native.Nat.{ℕ, _+_, _^_, _≤_, _<_}
 use lib.ListN.{getD}
 use Rattle.image.specs.Read.{nOf}
 use Rattle.store.specs.Plain.{Append, Count, Day, Free, Insert, Reach, Reading, Set, Strike}
-use Rattle.hourlog_c.specs.Public.{Ends, Fresh, Freeze, ImageBusiest, ImageCheck, ImageCount, ImageFromBcd, ImageLength, ImageMatch, ImageReach, ImageReading}
+use Rattle.hourlog_c.specs.Public.{Ends, Fresh, Freeze, ImageBusiest, ImageCheck, ImageCount, ImageFromBcd, ImageLength, ImageMatch, ImageReach}
 use Rattle.words.specs.End.{End}
-use Rattle.hourlog_c.specs.Public.{ImageToBcd, ImageWrite, Live}
+use Rattle.hourlog_c.specs.Public.{ImageReading, ImageToBcd, ImageWrite, Live}
 use Rattle.hourlog_c.specs.Public.{PublicCall, lent}
 use Rattle.words.specs.End.{noRun, refusal, theCells, theHours, theNumber, theRun, theSums}
 use Rattle.words.specs.ReadBack.{Reads}

@@ -17,8 +17,8 @@ use Rattle.store.specs.Items.{Items}
 use Rattle.store.specs.Plain.{Append, Call, Count, Day, Free, Insert, Plain, Reach, Reading, Set, Strike, need}
 use Rattle.store.specs.Reading.{listIn, read}
 use Rattle.book.specs.Book.{listOfBook}
-use Rattle.hourlog_c.specs.Public.{Fresh, Freeze, ImageBusiest, ImageCheck, ImageCount, ImageFromBcd, ImageLength, ImageMatch, ImageReach, ImageReading}
-use Rattle.hourlog_c.specs.Public.{ImageToBcd, ImageWrite, Live, PublicCall}
+use Rattle.hourlog_c.specs.Public.{Fresh, Freeze, ImageBusiest, ImageCheck, ImageCount, ImageFromBcd, ImageLength, ImageMatch, ImageReach}
+use Rattle.hourlog_c.specs.Public.{ImageReading, ImageToBcd, ImageWrite, Live, PublicCall}
 
 -- a refusal's number, and what is then the case
 pub record Reason : Type 1 where
