@@ -34,6 +34,7 @@ abbrev pub Wins : ℕ → List Reason → Type 0
 Wins k [] = ⊥
 Wins k (r ∷ rs) = ((k ≡ r .number) × r .fits) ⊎ ((r .fits → ⊥) × Wins k rs)
 
+-- and none does
 abbrev pub NoneFits : List Reason → Type 0
 NoneFits [] = Unit {0}
 NoneFits (r ∷ rs) = (r .fits → ⊥) × NoneFits rs
@@ -125,6 +126,7 @@ plainReasons (Reach p) L = 8 when (sum (L .counts) < p) ∷ []
 plainReasons (Day d changes) L = 16 when ChangesWrong changes ∷ 7 when (length (L .counts) < dayEnd changes d) ∷ []
 plainReasons Free L = []
 
+-- each call's row, its numbers in their order, so that row and table can be held against each other
 unfoldable pub reasons : PublicCall → List Reason
 reasons (Fresh s P C) = 9 when (Fitting s P C → ⊥) ∷ []
 -- 'store, every other live call and freeze'
