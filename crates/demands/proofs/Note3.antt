@@ -1,6 +1,6 @@
 -- Document 02, note 3, in its own words, of the word that C gets: the calls between books and images. Each law takes what it says from `demand-1`
 -- or `round-trips`; a claim that says less fails here. Assumes nothing.
-use mathlib.Core.Bool.{Bool, true, false}
+use mathlib.Core.Bool.{true}
 use mathlib.Core.List.{List, [], _∷_}
 use mathlib.Core.Logic.{_⊎_, inl, inr, _↔_}
 use mathlib.Core.Path.{_≡_, refl, sym, _∙_}
@@ -10,7 +10,6 @@ use lib.ListN.{length, getD, take}
 use Rattle.answers.specs.Image.{given}
 use Rattle.image.specs.Check.{accepted}
 use Rattle.image.specs.Read.{eOf, listOf, nOf}
-use Rattle.image.proofs.CheckLaws.{past-5}
 use Rattle.book_in.specs.FromBook.{fromCall}
 use Rattle.book_out.specs.ToBook.{toCall}
 use Rattle.book_trips.specs.RoundTrips.{Gave}
@@ -18,10 +17,10 @@ use Rattle.book_trips.proofs.Trips.{round-trips}
 use Rattle.book_trips.proofs.Given.{from-long, to-long}
 use Rattle.hourlog_c.specs.Public.{ImageFromBcd, ImageToBcd}
 use Rattle.hourlog_c.specs.Export.{Answers}
-use Rattle.demands.specs.Reasons.{NoHeader, NoImage, NoPageSize, TooWide, reasons}
+use Rattle.demands.specs.Reasons.{NoPageSize, TooWide, reasons}
 use Rattle.demands.specs.Demand1.{Given, row}
 use Rattle.demands.proofs.Demand1.{demand-1}
-use Rattle.demands.proofs.ReasonTests.{header, written}
+use Rattle.demands.proofs.ReasonTests.{accepted-passes, past-6}
 use Rattle.demands.proofs.Sentences1.{image-number, minus-at, not-below, number}
 use Rattle.demands.proofs.Slices.{same-second}
 use Rattle.demands.proofs.Winning.{stands, without}
@@ -45,24 +44,13 @@ refused-14 b e out w t a =
     )
 
 -- ---- 'with 15, after 5 and 6 .., an image with a count above 9999', and then alone
--- past 5 and 6 an image is accepted
-is-accepted : (s : List ℕ) → (NoImage s → ⊥) → accepted s ≡ true
-is-accepted s n = go (accepted s) refl
-  where
-    go : (b : Bool) → accepted s ≡ b → accepted s ≡ true
-    go true e = e
-    go false e = absurd (n (written s .0 e))
-
-has-header : (s : List ℕ) → accepted s ≡ true → NoHeader s → ⊥
-has-header s a = header s .1 (past-5 s a)
-
 module _ (s out : List ℕ) (w : ℕ) (t : List (List ℕ)) (a : Answers (ImageToBcd s out) w t) where
   pub refused-15 : (w ≡ 2 ^ 64 - 15) ↔ ((accepted s ≡ true) × ((i : ℕ) × (i < nOf s) × (9999 < getD (listOf s) i 0)))
   unfolding reasons without stands
   refused-15 =
       let m = minus-at (ImageToBcd s out) w t 15 2 (omega arith) (omega arith) (λ x. omega (arith, x .3)) refl a in (
-        λ q. let x = m .0 q .1 in (is-accepted s (x .0), x .1),
-        λ x. m .1 (has-header s (x .0), (written s .1 (x .0), x .1)),
+        λ q. let x = m .0 q .1 in (past-6 s (x .0), x .1),
+        λ x. let p = accepted-passes s (x .0) in m .1 (p .0, (p .1, x .1)),
       )
 
   -- '4, which comes last here', 'also covers a buffer shorter than the book': two bytes an hour
@@ -70,8 +58,8 @@ module _ (s out : List ℕ) (w : ℕ) (t : List (List ℕ)) (a : Answers (ImageT
   unfolding reasons without stands
   refused-4 =
       let m = minus-at (ImageToBcd s out) w t 4 3 (omega arith) (omega arith) (λ x. omega (arith, x .3)) refl a in (
-        λ q. let x = m .0 q .1 in (is-accepted s (x .0), x .1 .0, x .1 .1),
-        λ x. m .1 (has-header s (x .0), (written s .1 (x .0), (x .1, x .2))),
+        λ q. let x = m .0 q .1 in (past-6 s (x .0), x .1 .0, x .1 .1),
+        λ x. let p = accepted-passes s (x .0) in m .1 (p .0, (p .1, (x .1, x .2))),
       )
 
 -- ---- 'Both calls return how many bytes they wrote'. The word w is no refusal; o is the buffer afterwards

@@ -8,20 +8,27 @@ use native.Mathlib.Decide.{ℕ-discrete}
 use native.Mathlib.Omega.{arith}
 use lib.ListN.{length, getD}
 use lib.Dec.{eqb, leb, ltb}
-use borrow.Author.Tests.{eq-eqb, eqb-true, le-leb, le-ltb, leb-false, leb-true, lt-ltb, ltb-false, ltb-true}
+use borrow.Author.Tests.{eq-eqb, eqb-true, le-leb, le-ltb, leb-false, leb-true, lt-ltb, ltb-false, ltb-true, not-false, not-true}
 use Rattle.lists.specs.Lists.{every, pick}
 use Rattle.lists.proofs.Tests.{each, every-no, every-of, left, right}
 use Rattle.bits.specs.Bits.{bits}
 use Rattle.reserve.specs.Reserve.{reserve}
 use Rattle.tree.specs.Read.{Found, damaged, found, later, leftAt, leftOf, rightAt, walk}
+use Rattle.days.specs.Days.{ChangesWrong, changesFit}
+use Rattle.days.proofs.ListedDays.{wrong-exactly}
+use Rattle.store.specs.Fitting.{Fitting, fits}
+use Rattle.store.specs.Sound.{sound}
+use Rattle.store.proofs.ItemLaws.{sound-items}
+use Rattle.store.proofs.LimitLaws.{fits-so, fitting}
 use Rattle.image.specs.Check.{accepted, headTests, headed}
 use Rattle.image.specs.Image.{bytesFor, pages, size}
 use Rattle.image.specs.Query.{beforePassing, look, lookIn, pageFine, pageTests, passing}
 use Rattle.image.specs.Read.{beforeOf, eOf, lOf, listOf, nOf, rootOf, sOf, startOf, sumOf, treeAt, widthOf}
 use Rattle.image.proofs.Accepted.{accepted-only, length-list}
+use Rattle.image.proofs.CheckLaws.{past-5}
 use Rattle.book.specs.Book.{decimal, decimalByte, fourDigits}
 use Rattle.book.proofs.BookLaws.{digits-of, four-at}
-use Rattle.demands.specs.Reasons.{Damage, Header, LeftAbove, NoHeader, NoImage, NoPageSize, NotDecimal, PageDamage, TooWide}
+use Rattle.demands.specs.Reasons.{Damage, Header, LeftAbove, NoHeader, NoImage, NoPageSize, NotDecimal, PageDamage, TooWide, Unsound}
 use Rattle.demands.specs.Reasons.{before-above, before-passing, below-before, left-above, root-above, root-passing, tree-passing}
 use Rattle.demands.proofs.Theorems.{accepted-if}
 
@@ -40,6 +47,20 @@ below a b = (ltb-true a b, λ e l. let m = ltb-false a b e in omega arith)
 
 pub not-above : (a b : ℕ) → Denies (leb a b) (b < a)
 not-above a b = (leb-false a b, λ e l. let m = leb-true a b e in omega arith)
+
+-- ---- a store: 'P, C or buffer length wrong'; 'not sound', where a store that is not does not meet the clauses
+pub sizes : (s : List ℕ) (P C : ℕ) → Denies (fits s P C) (Fitting s P C → ⊥)
+sizes s P C = (λ e w. true≢false (sym (fits-so s P C w) ∙ e), λ e n. n (fitting s P C e))
+
+pub clauses : (s : List ℕ) → (sound s ≡ false → Unsound s) → Denies (sound s) (Unsound s)
+clauses s h = (h, λ e n. n (sound-items s e))
+
+-- ---- a list of changed days
+pub changes : (cs : List ℕ) → Tells (not (changesFit cs)) (ChangesWrong cs)
+changes cs = (
+  λ e. wrong-exactly cs .0 (not-true (changesFit cs) e),
+  λ e w. true≢false (sym (not-false (changesFit cs) e) ∙ wrong-exactly cs .1 w),
+)
 
 -- ---- 'e outside 2 to 8'
 pub page-size : (e : ℕ) → Denies (leb 2 e && leb e 8) (NoPageSize e)
@@ -98,6 +119,17 @@ header s = (λ e h. true≢false (sym (header-so s h) ∙ e), λ e n. n (header-
 
 pub written : (s : List ℕ) → Denies (accepted s) (NoImage s)
 written s = (λ a e xs i. true≢false (sym (accepted-if s e xs i) ∙ a), λ a n. n (eOf s) (listOf s) (accepted-only s a))
+
+-- past 5 and 6 of the full check an image is accepted
+pub past-6 : (s : List ℕ) → (NoImage s → ⊥) → accepted s ≡ true
+past-6 s n = go (accepted s) refl
+  where
+    go : (b : Bool) → accepted s ≡ b → accepted s ≡ true
+    go true e = e
+    go false e = absurd (n (written s .0 e))
+
+pub accepted-passes : (s : List ℕ) → accepted s ≡ true → (NoHeader s → ⊥) × (NoImage s → ⊥)
+accepted-passes s a = (header s .1 (past-5 s a), written s .1 a)
 
 -- ---- damage on the way to an hour
 one-of-six : (a b c d e f : Bool) → every (map not (a ∷ b ∷ c ∷ d ∷ e ∷ f ∷ [])) ≡ false

@@ -1,28 +1,23 @@
 -- Every call ends as its reasons say: in the refusal of the first that fits, and where none fits in a result of its kind. Assumes nothing.
-use mathlib.Core.Path.{_≡_, refl, sym, ap, _∙_, subst}
-use mathlib.Core.Bool.{Bool, true, false, _&&_, not, true≢false}
+use mathlib.Core.Path.{_≡_, refl, sym, _∙_, subst}
+use mathlib.Core.Bool.{Bool, true, false, _&&_}
 use mathlib.Core.List.{List, [], _∷_, _++_}
 use mathlib.Core.Logic.{_⊎_, inl, inr, ⊎-elim}
 use Prim.Native.Nat.{ℕ, zero, suc, _-_, _*_, _/_, _≤_, _<_}
 use native.Mathlib.Omega.{arith}
 use lib.ListN.{length, set}
 use lib.Dec.{leb}
-use borrow.Author.Tests.{leb-true, not-false, not-true}
+use borrow.Author.Tests.{leb-true}
 use Rattle.lists.specs.Lists.{pick, sum}
 use Rattle.lists.proofs.Tests.{left, right}
 use Rattle.tree.specs.Read.{Found, damaged, found}
-use Rattle.days.specs.Days.{ChangesWrong, changesFit}
-use Rattle.days.proofs.ListedDays.{wrong-exactly}
 use Rattle.store.specs.Limits.{maxTotal}
 use Rattle.store.specs.Plain.{Append, Call, Count, Day, Free, Insert, Outcome, Plain, Reach as ReachOf, Reading, Set, Strike}
 use Rattle.store.specs.Plain.{change, inserted, step, struck}
 use Rattle.store.specs.Reading.{listIn, read}
 use Rattle.store.specs.Sound.{sound}
-use Rattle.store.specs.Fitting.{fits}
 use Rattle.store.specs.Call.{Result, call, freshCall}
 use Rattle.store.proofs.Inserting.{sum-struck}
-use Rattle.store.proofs.ItemLaws.{sound-items}
-use Rattle.store.proofs.LimitLaws.{fits-so, fitting}
 use Rattle.store.proofs.SoundFacts.{facts}
 use Rattle.store.proofs.StepLaws.{Change, change-is, done, over, short}
 use Rattle.image.specs.Calls.{Result as ImageResult, lengthCall, put, putAfter, unwritten, writeCall}
@@ -51,7 +46,7 @@ use Rattle.hourlog_c.specs.Public.{ImageReading, ImageToBcd, ImageWrite, Live}
 use Rattle.words.specs.End.{End, ofBag, ofCheck, ofImage, ofStore, ofStretch, refusal, theNumber}
 use Rattle.demands.specs.Reasons.{Damage, NoHeader, NoImage, NoPageSize, Over, Reason, Short, TooWide, Unsound, _when_, plainReasons, reasons}
 use Rattle.demands.specs.Demand1.{Kind, aNumber, cellsMoved, firstAndSum, hoursAndTotal, hoursOrNone, row}
-use Rattle.demands.proofs.ReasonTests.{Denies, Tells, at-most, below, book, damage-exactly, header, narrow, not-above, page-size, written}
+use Rattle.demands.proofs.ReasonTests.{Denies, at-most, below, book, changes, clauses, damage-exactly, header, narrow, not-above, page-size, sizes, written}
 use Rattle.demands.proofs.Deciding.{Decided, fits-first, none-left, passed, where-false, where-true}
 
 -- ---- the live calls
@@ -76,12 +71,6 @@ module _ (M : ℕ → End → Type 0) where
       go (short x y) = fits-first M cellsMoved _ y refl
       go (done x y) = passed M cellsMoved _ _ _ (λ (z : Short L (struck (L .counts) i)). omega arith) (none-left M cellsMoved _ refl)
 
-  changes-test : (cs : List ℕ) → Tells (not (changesFit cs)) (ChangesWrong cs)
-  changes-test cs = (
-    λ e. wrong-exactly cs .0 (not-true (changesFit cs) e),
-    λ e w. true≢false (sym (not-false (changesFit cs) e) ∙ wrong-exactly cs .1 w),
-  )
-
   step-decided : (c : Call) (s : List ℕ) (L : Plain) → sum (L .counts) ≤ maxTotal
       → Decided M (row (Live c s) .gives) (plainReasons c L) (said (step c L))
   unfolding step row plainReasons inserted struck ofStore
@@ -95,26 +84,21 @@ module _ (M : ℕ → End → Type 0) where
   step-decided (Reading i) s L t = where-true M aNumber said _ _ _ (below _ _) refl (λ _. none-left M aNumber _ refl)
   step-decided (ReachOf p) s L t = where-true M aNumber said _ _ _ (below _ _) refl (λ _. none-left M aNumber _ refl)
   step-decided (Day d cs) s L t =
-      where-true M aNumber said _ _ _ (changes-test cs) refl (λ _.
+      where-true M aNumber said _ _ _ (changes cs) refl (λ _.
       where-true M aNumber said _ _ _ (below _ _) refl (λ _. none-left M aNumber _ refl))
   step-decided Free s L t = none-left M aNumber _ refl
-
-  -- 'not sound', of a store whose soundness is told clause by clause
-  sound-test : (s : List ℕ) → (sound s ≡ false → Unsound s) → Denies (sound s) (Unsound s)
-  sound-test s h = (h, λ e n. n (sound-items s e))
 
   pub live-decided : (c : Call) (s : List ℕ) → (sound s ≡ false → Unsound s)
       → Decided M (row (Live c s) .gives) (reasons (Live c s)) (ofStore (call c s .answer))
   unfolding call reasons ofStore
   live-decided c s h =
-      where-false M (row (Live c s) .gives) (λ (r : Result). ofStore (r .answer)) _ _ _ (sound-test s h) refl (λ e.
+      where-false M (row (Live c s) .gives) (λ (r : Result). ofStore (r .answer)) _ _ _ (clauses s h) refl (λ e.
       step-decided c s (read s .plain) (facts s e .total-fits))
 
   pub fresh-decided : (s : List ℕ) (P C : ℕ) → Decided M aNumber (reasons (Fresh s P C)) (ofStore (freshCall s P C .answer))
   unfolding freshCall reasons ofStore
   fresh-decided s P C =
-      where-false M aNumber (λ (r : Result). ofStore (r .answer)) _ _ _
-      (λ e w. true≢false (sym (fits-so s P C w) ∙ e), λ e n. n (fitting s P C e)) refl (λ _. none-left M aNumber _ refl)
+      where-false M aNumber (λ (r : Result). ofStore (r .answer)) _ _ _ (sizes s P C) refl (λ _. none-left M aNumber _ refl)
 
   -- ---- the calls that make an image
   put-decided : (out i : List ℕ) → Decided M aNumber (4 when (length out < length i) ∷ []) (ofImage (put out i .reply))
@@ -156,7 +140,7 @@ module _ (M : ℕ → End → Type 0) where
       → Decided M aNumber (reasons (Freeze s e out)) (ofImage (freezeCall e s out .reply))
   unfolding freezeCall writeCall reasons unwritten ofImage
   freeze-decided s e out h =
-      where-false M aNumber (λ (r : ImageResult). ofImage (r .reply)) _ _ _ (sound-test s h) refl (λ q.
+      where-false M aNumber (λ (r : ImageResult). ofImage (r .reply)) _ _ _ (clauses s h) refl (λ q.
       let i = image e (listIn s) in
       let left : List Reason = 1 when NoPageSize e ∷ 4 when (length out < length i) ∷ [] in
       subst (λ (r : Reply). Decided M aNumber left (putting out i r)) (sym (only-page-size e s q))
