@@ -2,3 +2,4 @@
 pub mod DayLaws
 pub mod Pairs
 pub mod Turns
+pub mod ListedDays

@@ -57,7 +57,7 @@ pairs-drop none (suc (suc i)) e = none
 pairs-drop (pair m p q more) (suc (suc i)) e = pairs-drop more i (omega (arith, e))
 
 -- ---- hours and starts
-other-day : (x h d : ℕ) (rest : List ℕ) → (x ≡ d → ⊥) → dayHours (x ∷ h ∷ rest) d ≡ dayHours rest d
+pub other-day : (x h d : ℕ) (rest : List ℕ) → (x ≡ d → ⊥) → dayHours (x ∷ h ∷ rest) d ≡ dayHours rest d
 unfolding dayHours pick
 other-day x h d rest n = go (eqb x d) refl
   where
@@ -65,7 +65,7 @@ other-day x h d rest n = go (eqb x d) refl
     go true e = absurd (n (eqb-true x d e))
     go false e = refl
 
-this-day : (x h : ℕ) (rest : List ℕ) → dayHours (x ∷ h ∷ rest) x ≡ h
+pub this-day : (x h : ℕ) (rest : List ℕ) → dayHours (x ∷ h ∷ rest) x ≡ h
 unfolding dayHours pick
 this-day x h rest = rw (eq-eqb x x refl)
 

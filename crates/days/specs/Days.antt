@@ -1,8 +1,10 @@
 -- Document 02, note 4, 'Days with a clock change': which hours are a day's. Assumes nothing.
 use mathlib.Core.Bool.{Bool, true, _&&_, _||_}
 use mathlib.Core.List.{List, [], _∷_, map}
-use Prim.Native.Nat.{ℕ, _+_, _%_}
-use lib.ListN.{length}
+use mathlib.Core.Logic.{_⊎_}
+use mathlib.Core.Path.{_≡_}
+use Prim.Native.Nat.{ℕ, _+_, _*_, _%_, _≤_, _<_}
+use lib.ListN.{length, getD}
 use lib.Dec.{ltb, eqb}
 use Rattle.lists.specs.Lists.{every, pick, sum, tabulate}
 
@@ -31,6 +33,14 @@ isChange h = eqb h 23 || eqb h 25
 -- any other list fits
 unfoldable pub changesFit : List ℕ → Bool
 changesFit cs = every (eqb (length cs % 2) 0 ∷ rises (dayNumbers cs) ∷ every (map isChange (hoursGiven cs)) ∷ [])
+
+-- The same in facts, of a list that does not fit: 'an odd number of entries'; a day number, 2k entries before it, and the next one, not above it;
+-- hours that are 'neither 23 nor 25'
+abbrev pub ChangesWrong : List ℕ → Type 0
+ChangesWrong cs =
+    (length cs % 2 ≡ 1)
+    ⊎ (((k : ℕ) × (2 * k + 2 < length cs) × (getD cs (2 * k + 2) 0 ≤ getD cs (2 * k) 0))
+    ⊎ ((k : ℕ) × (2 * k + 1 < length cs) × (getD cs (2 * k + 1) 0 ≡ 23 → ⊥) × (getD cs (2 * k + 1) 0 ≡ 25 → ⊥)))
 
 -- 'Days in the list have the hours it gives, others 24'
 unfoldable pub dayHours : List ℕ → ℕ → ℕ

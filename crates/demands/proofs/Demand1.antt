@@ -2,54 +2,102 @@
 use mathlib.Core.Path.{_≡_, refl, sym, ap, _∙_, subst}
 use mathlib.Core.Bool.{Bool, true, false, true≢false}
 use mathlib.Core.List.{List, [], _∷_}
-use Prim.Native.Nat.{ℕ, _^_, _≤_, _<_}
+use mathlib.Core.Logic.{_⊎_, inl, inr}
+use Prim.Native.Nat.{ℕ, _+_, _^_, _≤_, _<_}
 use native.Mathlib.Decide.{decLe}
 use native.Mathlib.Omega.{arith}
 use Rattle.lists.specs.Lists.{reached}
 use Rattle.store.specs.Plain.{Append, Call, Count, Day, Free, Insert, Reach as ReachOf, Reading, Set, Strike}
 use Rattle.answers.specs.Store.{Answer, answered, changed, refused as turned}
 use Rattle.store.specs.Call.{call, freshCall}
+use Rattle.store.specs.Sound.{sound}
+use Rattle.store.proofs.CallLaws.{call-10}
+use Rattle.store.proofs.ItemLaws.{items-sound}
 use Rattle.store.proofs.Unchanged.{answered-keeps, fresh-refused-keeps, refused-keeps}
-use Rattle.image.specs.Calls.{writeCall}
+use Rattle.image.specs.Calls.{Result, writeCall}
 use Rattle.image.specs.Check.{accepted, headed}
 use Rattle.image.specs.Reach.{Reach, above-total, damage, header-wrong, smallest}
 use Rattle.image.specs.Read.{listOf, sOf}
 use Rattle.answers.specs.Image.{Reply, given, refused}
 use Rattle.image.proofs.CallLaws.{write-refused}
 use Rattle.freeze.specs.Freeze.{freezeCall}
-use Rattle.freeze.proofs.Freezing.{freeze-refused}
+use Rattle.freeze.proofs.Freezing.{freeze-10, freeze-refused}
 use Rattle.image_busiest.proofs.AnswerLaws.{some-answer}
 use Rattle.image_match.proofs.AnswerLaws.{some-answer as some-match}
 use Rattle.book_in.specs.FromBook.{fromCall}
 use Rattle.book_in.proofs.FromLaws.{from-refused}
 use Rattle.book_out.specs.ToBook.{toCall}
 use Rattle.book_out.proofs.ToLaws.{to-refused}
-use Rattle.hourlog_c.specs.Public.{Ends, Fresh, Freeze, ImageBusiest, ImageCheck, ImageCount, ImageFromBcd, ImageLength, ImageMatch, ImageReach, ImageReading}
-use Rattle.words.specs.End.{End}
-use Rattle.hourlog_c.specs.Public.{ImageToBcd, ImageWrite, Live}
-use Rattle.hourlog_c.specs.Public.{PublicCall, beside, lent}
-use Rattle.words.specs.End.{noRun, ofBag, ofImage, ofStore, ofStretch, refusal, theCells, theHours, theNumber, theRun, theSums}
+use Rattle.hourlog_c.specs.Public.{Ends, Fresh, Freeze, ImageBusiest, ImageCheck, ImageCount, ImageFromBcd, ImageLength, ImageMatch, ImageReach}
+use Rattle.hourlog_c.specs.Public.{ImageReading, ImageToBcd, ImageWrite, Live, PublicCall, Ten, beside, lent}
+use Rattle.words.specs.End.{End, noRun, ofBag, ofImage, ofStore, ofStretch, refusal, theCells, theHours, theNumber, theRun, theSums}
 use Rattle.words.specs.ReadBack.{Reads}
 use Rattle.words.proofs.EndLaws.{image-refused, store-refused}
-use Rattle.demands.proofs.Refusals.{busiest-allowed, check-allowed, count-allowed, freeze-allowed, fresh-allowed, from-allowed, length-allowed, live-allowed, match-allowed}
-use Rattle.demands.proofs.Refusals.{reach-allowed, reading-allowed, to-allowed, write-allowed}
-use Rattle.demands.specs.Demand1.{Allowed, Demand1, Given, Refused, aNumber, cellsMoved, row}
+use Rattle.demands.specs.Reasons.{Unsound, Wins, reasons}
+use Rattle.demands.specs.Demand1.{Allowed, Bytes, Demand1, Given, Gives, Index, Refused, aNumber, cellsMoved, row}
+use Rattle.demands.proofs.Deciding.{Decided, gives-of, refuses-of, wins-of}
+use Rattle.demands.proofs.Refusals.{busiest-decided, check-decided, count-decided, freeze-decided, fresh-decided, from-decided, length-decided}
+use Rattle.demands.proofs.Refusals.{live-decided, match-decided, reach-decided, reading-decided, to-decided, write-decided}
 
 -- ---- all calls
-allowed : (c : PublicCall) (a : End) (t : List (List ℕ)) → Ends c a t → Allowed (row c) a
-allowed (Fresh s P C) a t d = subst (Allowed (row (Fresh s P C))) (sym (d .0)) (fresh-allowed s P C)
-allowed (Live c s) a t d = subst (Allowed (row (Live c s))) (sym (d .0)) (live-allowed c s)
-allowed (Freeze s e i) a t d = subst (Allowed (row (Freeze s e i))) (sym (d .0)) (freeze-allowed s e i)
-allowed (ImageLength xs e) a t d = subst (Allowed (row (ImageLength xs e))) (sym (d .0)) (length-allowed xs e)
-allowed (ImageWrite xs e i) a t d = subst (Allowed (row (ImageWrite xs e i))) (sym (d .0)) (write-allowed xs e i)
-allowed (ImageCheck i) a t d = subst (Allowed (row (ImageCheck i))) (sym (d .0)) (check-allowed i)
-allowed (ImageCount i k) a t d = subst (Allowed (row (ImageCount i k))) (sym (d .0)) (count-allowed i k)
-allowed (ImageReading i k) a t d = subst (Allowed (row (ImageReading i k))) (sym (d .0)) (reading-allowed i k)
-allowed (ImageReach i p) a t d = subst (Allowed (row (ImageReach i p))) (sym (d .0 .2)) (reach-allowed i p (d .0 .0) (d .0 .1))
-allowed (ImageBusiest i k) a t d = subst (Allowed (row (ImageBusiest i k))) (sym (d .0 .2)) (busiest-allowed i k (d .0 .0) (d .0 .1))
-allowed (ImageFromBcd b e i) a t d = subst (Allowed (row (ImageFromBcd b e i))) (sym (d .0)) (from-allowed b e i)
-allowed (ImageToBcd i b) a t d = subst (Allowed (row (ImageToBcd i b))) (sym (d .0)) (to-allowed i b)
-allowed (ImageMatch i q) a t d = subst (Allowed (row (ImageMatch i q))) (sym (d .0 .2)) (match-allowed i q (d .0 .0) (d .0 .1))
+-- what may stand in the place of refusal k
+abbrev May : PublicCall → ℕ → End → Type 0
+May c k a = (n : ℕ) × Index c k n × (a ≡ theNumber n)
+
+may-give : (c : PublicCall) (k : ℕ) (a : End) → May c k a → Gives (row c .gives) a
+unfolding row
+may-give c k a (n, x, e) = subst (Gives (row c .gives)) (sym e) (ap (λ (z : PublicCall). row z .gives) (x .2))
+
+-- a store that is not sound does not meet the clauses: by its bytes, or by what the export promises
+pub live-10 : (c : Call) (s : List ℕ) (a : End) → a ≡ ofStore (call c s .answer) → Bytes (Live c s) ⊎ Ten (Live c s) a → sound s ≡ false → Unsound s
+live-10 c s a e (inl b) q = λ i. true≢false (sym (items-sound s b i) ∙ q)
+live-10 c s a e (inr w) q = w .0 (e ∙ store-refused (call c s .answer) 10 .1 (sym (call-10 c s q .answer)))
+
+freeze-no : (s : List ℕ) (e : ℕ) (out : List ℕ) (a : End) → a ≡ ofImage (freezeCall e s out .reply) → Bytes (Freeze s e out) ⊎ Ten (Freeze s e out) a
+    → sound s ≡ false → Unsound s
+freeze-no s e out a d (inl b) q = λ i. true≢false (sym (items-sound s b i) ∙ q)
+freeze-no s e out a d (inr w) q =
+    w .0 (d ∙ image-refused (freezeCall e s out .reply) 10 .1 (sym (ap (λ (r : Result). r .reply) (freeze-10 e s out q))))
+
+module _ (c : PublicCall) where
+  abbrev Decides : End → Type 0
+  Decides a = Decided (May c) (row c .gives) (reasons c) a
+
+decided : (c : PublicCall) (a : End) (t : List (List ℕ)) → Bytes c ⊎ Ten c a → Ends c a t → Decides c a
+unfolding row
+decided (Fresh s P C) a t b d = subst (Decides (Fresh s P C)) (sym (d .0)) (fresh-decided (May (Fresh s P C)) s P C)
+decided (Live c s) a t b d = subst (Decides (Live c s)) (sym (d .0)) (live-decided (May (Live c s)) c s (live-10 c s a (d .0) b))
+decided (Freeze s e i) a t b d =
+    subst (Decides (Freeze s e i)) (sym (d .0)) (freeze-decided (May (Freeze s e i)) s e i (freeze-no s e i a (d .0) b))
+decided (ImageLength xs e) a t b d = subst (Decides (ImageLength xs e)) (sym (d .0)) (length-decided (May (ImageLength xs e)) xs e)
+decided (ImageWrite xs e i) a t b d = subst (Decides (ImageWrite xs e i)) (sym (d .0)) (write-decided (May (ImageWrite xs e i)) xs e i)
+decided (ImageCheck i) a t b d = subst (Decides (ImageCheck i)) (sym (d .0)) (check-decided (May (ImageCheck i)) i)
+decided (ImageCount i k) a t b d = subst (Decides (ImageCount i k)) (sym (d .0)) (count-decided (May (ImageCount i k)) i k)
+decided (ImageReading i k) a t b d = subst (Decides (ImageReading i k)) (sym (d .0)) (reading-decided (May (ImageReading i k)) i k)
+decided (ImageReach i p) a t b d =
+    subst (Decides (ImageReach i p)) (sym (d .0 .2))
+    (reach-decided (May (ImageReach i p)) i p (λ n l. (n, (i, p, refl, refl, l), refl)) (d .0 .0) (d .0 .1))
+decided (ImageBusiest i k) a t b d =
+    subst (Decides (ImageBusiest i k)) (sym (d .0 .2)) (busiest-decided (May (ImageBusiest i k)) i k (d .0 .0) (d .0 .1))
+decided (ImageFromBcd b e i) a t h d = subst (Decides (ImageFromBcd b e i)) (sym (d .0)) (from-decided (May (ImageFromBcd b e i)) b e i)
+decided (ImageToBcd i b) a t h d = subst (Decides (ImageToBcd i b)) (sym (d .0)) (to-decided (May (ImageToBcd i b)) i b)
+decided (ImageMatch i q) a t b d = subst (Decides (ImageMatch i q)) (sym (d .0 .2)) (match-decided (May (ImageMatch i q)) i q (d .0 .0) (d .0 .1))
+
+module _ (c : PublicCall) where
+  result : (a : End) → ((k : ℕ) → a ≡ refusal k → ⊥) → Decides c a → Gives (row c .gives) a
+  result a n d = gives-of (May c) (row c .gives) (may-give c) (reasons c) a n d
+
+  allow : (a : End) → Decides c a → Allowed c a
+  allow (theNumber n) d = result (theNumber n) (λ k e. let z : _≡_ {A = ℕ} 0 1 = cc in omega arith) d
+  allow (theCells u v) d = result (theCells u v) (λ k e. let z : _≡_ {A = ℕ} 0 1 = cc in omega arith) d
+  allow (theSums n s) d = result (theSums n s) (λ k e. let z : _≡_ {A = ℕ} 0 1 = cc in omega arith) d
+  allow (theRun f s) d = result (theRun f s) (λ k e. let z : _≡_ {A = ℕ} 0 1 = cc in omega arith) d
+  allow (theHours f n) d = result (theHours f n) (λ k e. let z : _≡_ {A = ℕ} 0 1 = cc in omega arith) d
+  allow noRun d = result noRun (λ k e. let z : _≡_ {A = ℕ} 0 1 = cc in omega arith) d
+  allow (refusal k) d = wins-of (May c) (row c .gives) (may-give c) (reasons c) k d
+
+  refuses : (a : End) → Decides c a → (k : ℕ) → Wins k (reasons c) → (a ≡ refusal k) ⊎ May c k a
+  refuses a d k w = refuses-of (May c) (row c .gives) (reasons c) k a w d
 
 -- ---- there is an answer
 may-reach : (s : List ℕ) (p : ℕ) → (a : Reply) × Reach s p a
@@ -100,15 +148,23 @@ keeps (ImageMatch i q) k t d = d .1
 -- a live call that gives a number
 number-keeps : (c : Call) (s : List ℕ) → row (Live c s) .gives ≡ aNumber → call c s .bytes ≡ s
 unfolding ofStore
-number-keeps c s g = go (call c s .answer) refl (live-allowed c s)
+number-keeps c s g = go (sound s) refl
   where
-    go : (a : Answer) → call c s .answer ≡ a → Allowed (row (Live c s)) (ofStore a) → call c s .bytes ≡ s
-    go (changed t r) q h = absurd (moved (sym g ∙ h))
+    by-answer : (a : Answer) → call c s .answer ≡ a → Decided (λ k a. ⊥) (row (Live c s) .gives) (reasons (Live c s)) (ofStore a)
+        → call c s .bytes ≡ s
+    by-answer (changed t r) q d =
+        absurd (moved (sym g
+        ∙ gives-of (λ k a. ⊥) (row (Live c s) .gives) (λ k a m. absurd m) (reasons (Live c s)) (theCells t r)
+        (λ k e. let z : _≡_ {A = ℕ} 0 1 = cc in omega arith) d))
       where
         moved : aNumber ≡ cellsMoved → ⊥
         moved e = let z : _≡_ {A = ℕ} 0 1 = cc in omega arith
-    go (answered n) q h = answered-keeps c s n q
-    go (turned k) q h = refused-keeps c s k q
+    by-answer (answered n) q d = answered-keeps c s n q
+    by-answer (turned k) q d = refused-keeps c s k q
+
+    go : (b : Bool) → sound s ≡ b → call c s .bytes ≡ s
+    go false e = sym (call-10 c s e .bytes)
+    go true e = by-answer (call c s .answer) refl (live-decided (λ k a. ⊥) c s (λ q. absurd (true≢false (sym e ∙ q))))
 
 asked : (c : Call) (s : List ℕ) → row (Live c s) .question ≡ true → call c s .bytes ≡ s
 unfolding row
@@ -140,32 +196,38 @@ question-keeps (ImageMatch i p) a t q d = d .1
 
 -- ---- in words
 module _ (c : PublicCall) (w : ℕ) (t : List (List ℕ)) where
-  is-below : (a : End) → Ends c a t → Reads a w → 2 ^ 63 ≤ w → Refused c w t
-  is-below (theNumber n) d r l = absurd (omega (arith, r .0))
-  is-below (theCells u v) d r l = absurd (omega (arith, r .0))
-  is-below (theSums n s) d r l = absurd (omega (arith, r .0))
-  is-below (theRun f s) d r l = absurd (omega (arith, r .0))
-  is-below (theHours f n) d r l = absurd (omega (arith, r .0))
-  is-below noRun d r l = absurd (omega (arith, r .0))
-  is-below (refusal k) d r l =
-      record { number = k; numbered = allowed c (refusal k) t d; minus = omega (arith, r .word, r .refusal); kept = keeps c k t d }
+  is-below : (a : End) → Decides c a → Ends c a t → Reads a w → 2 ^ 63 ≤ w → Refused c w t
+  is-below (theNumber n) h d r l = absurd (omega (arith, r .0))
+  is-below (theCells u v) h d r l = absurd (omega (arith, r .0))
+  is-below (theSums n s) h d r l = absurd (omega (arith, r .0))
+  is-below (theRun f s) h d r l = absurd (omega (arith, r .0))
+  is-below (theHours f n) h d r l = absurd (omega (arith, r .0))
+  is-below noRun h d r l = absurd (omega (arith, r .0))
+  is-below (refusal k) h d r l =
+      record { number = k; wins = allow c (refusal k) h; minus = omega (arith, r .word, r .refusal); kept = keeps c k t d }
 
-  is-above : (a : End) → Ends c a t → Reads a w → w < 2 ^ 63 → Given c w t
-  is-above (theNumber n) d r l = record { result = theNumber n; kind = allowed c (theNumber n) t d; ends = d; reads = r }
-  is-above (theCells u v) d r l = record { result = theCells u v; kind = allowed c (theCells u v) t d; ends = d; reads = r }
-  is-above (theSums n s) d r l = record { result = theSums n s; kind = allowed c (theSums n s) t d; ends = d; reads = r }
-  is-above (theRun f s) d r l = record { result = theRun f s; kind = allowed c (theRun f s) t d; ends = d; reads = r }
-  is-above (theHours f n) d r l = record { result = theHours f n; kind = allowed c (theHours f n) t d; ends = d; reads = r }
-  is-above noRun d r l = record { result = noRun; kind = allowed c noRun t d; ends = d; reads = r }
-  is-above (refusal k) d r l = absurd (omega (arith, r .sign))
+  is-above : (a : End) → Decides c a → Ends c a t → Reads a w → w < 2 ^ 63 → Given c w t
+  is-above a h d r l = record { result = a; kind = result c a (λ k e. no-minus (subst (λ (z : End). Reads z w) e r)) h; ends = d; reads = r }
+    where
+      no-minus : {k : ℕ} → Reads (refusal k) w → ⊥
+      no-minus b = omega (arith, b .sign)
+
+  in-place : (a : End) (k : ℕ) → Reads a w → (a ≡ refusal k) ⊎ May c k a → (w + k ≡ 2 ^ 64) ⊎ Index c k w
+  in-place a k r (inl e) = let b : Reads (refusal k) w = subst (λ (z : End). Reads z w) e r in inl (omega (arith, b .word, b .refusal))
+  in-place a k r (inr (n, x, e)) =
+      let b : Reads (theNumber n) w = subst (λ (z : End). Reads z w) e r in
+      inr (subst (Index c k) (sym (b .1)) x)
 
 pub demand-1 : Demand1
 demand-1 =
     record {
       some = some;
-      allowed = allowed;
+      allowed = λ c a t b d. allow c a (decided c a t (inl b) d);
+      refuses = λ c a t b d. refuses c a (decided c a t (inl b) d);
       refused-keeps = keeps;
       question-keeps = question-keeps;
-      below = λ c w t d. is-below c w t (d .answer) (d .ends) (d .reads);
-      above = λ c w t d. is-above c w t (d .answer) (d .ends) (d .reads);
+      below = λ c w t d. is-below c w t (d .answer) (decided c (d .answer) t (inr (d .ten)) (d .ends)) (d .ends) (d .reads);
+      above = λ c w t d. is-above c w t (d .answer) (decided c (d .answer) t (inr (d .ten)) (d .ends)) (d .ends) (d .reads);
+      first-that-fits = λ c w t d k v. in-place c w t (d .answer) k (d .reads)
+          (refuses c (d .answer) (decided c (d .answer) t (inr (d .ten)) (d .ends)) k v);
     }

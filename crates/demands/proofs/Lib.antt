@@ -1,10 +1,12 @@
 -- The demands, proved, and what they say sentence by sentence.
 pub mod Slices
+pub mod Theorems
+pub mod ReasonTests
+pub mod Deciding
 pub mod Refusals
 pub mod Demand1
+pub mod Winning
 pub mod Sentences1
-pub mod SentencesBooks
-pub mod Theorems
 pub mod Written
 pub mod ImageRanges
 pub mod Demand2
@@ -19,4 +21,7 @@ pub mod SentencesCells
 pub mod PageMoves
 pub mod SentencesOrder
 pub mod Note1
+pub mod Note3
+pub mod Note4
+pub mod Note5
 pub mod Note7

@@ -1,26 +1,25 @@
 -- Document 02, note 1, in its own words, of the word that C gets. Assumes nothing.
 use mathlib.Core.Bool.{true}
 use mathlib.Core.List.{List}
-use mathlib.Core.Logic.{_⊎_, ⊎-elim, _↔_}
-use mathlib.Core.Path.{_≡_, sym, subst, _∙_}
+use mathlib.Core.Logic.{_⊎_, inl, inr, ⊎-elim, _↔_}
+use mathlib.Core.Path.{_≡_, refl}
 use Prim.Native.Nat.{ℕ, _+_, _-_, _^_, _≤_, _<_}
 use native.Mathlib.Omega.{arith}
 use lib.ListN.{length}
 use Rattle.lists.specs.Lists.{part, sum}
-use Rattle.image.specs.Check.{accepted, check}
-use Rattle.image.specs.Read.{listOf}
-use Rattle.answers.specs.Image.{fails}
-use Rattle.answers.specs.declared.image.Stretch.{Stretch}
-use Rattle.answers.specs.declared.image.Stretch.the-variants.{Run, Refused}
-use Rattle.image.proofs.CheckLaws.{five-or-six}
+use Rattle.image.specs.Check.{accepted}
+use Rattle.image.specs.Read.{listOf, nOf}
+use Rattle.answers.specs.declared.image.Stretch.the-variants.{Run}
+use Rattle.image.proofs.Accepted.{length-list}
 use Rattle.runs.specs.Runs.{Busiest}
-use Rattle.image_busiest.specs.Busiest.{BusiestCall, no-such-run, not-accepted, the-run}
-use Rattle.image_busiest.proofs.AnswerLaws.{one-answer}
+use Rattle.image_busiest.specs.Busiest.{BusiestCall, the-run}
 use Rattle.hourlog_c.specs.Export.{Answers}
-use Rattle.hourlog_c.specs.Public.{ImageBusiest}
-use Rattle.words.specs.End.{ofStretch, refusal}
+use Rattle.hourlog_c.specs.Public.{ImageBusiest, ImageReach}
 use Rattle.words.specs.ReadBack.{busiestFirst, busiestSum}
-use Rattle.demands.proofs.Sentences1.{busiest-word, minus-in}
+use Rattle.demands.specs.Reasons.{NoHeader, NoImage, reasons}
+use Rattle.demands.proofs.ReasonTests.{accepted-passes, past-6}
+use Rattle.demands.proofs.Sentences1.{busiest-word, minus-at}
+use Rattle.demands.proofs.Winning.{stands, without}
 
 -- the run of a busiest answer
 run-of : (s : List ℕ) (k f t : ℕ) → BusiestCall s k (Run f t) → Busiest (listOf s) k f t
@@ -44,33 +43,24 @@ module _ (s : List ℕ) (k w : ℕ) (t : List (List ℕ)) (a : Answers (ImageBus
   earlier-holds-less j h = the-busiest .earliest j h
 
 -- ---- 'It refuses after 5 and 6 with 13 if k is 0 or above N', and then alone
-only-13 : (s : List ℕ) (k : ℕ) → BusiestCall s k (Refused 13) → (accepted s ≡ true) × ((k ≡ 0) ⊎ (length (listOf s) < k))
-only-13 s k (not-accepted _ p) = absurd (⊎-elim (λ (e : 13 ≡ 5). omega arith) (λ (e : 13 ≡ 6). omega arith) (five-or-six s 13 p))
-only-13 s k (no-such-run a o) = (a, o)
-
-stretch-refused : (r : Stretch) (k : ℕ) → (ofStretch r ≡ refusal k) ↔ (r ≡ Refused k)
-unfolding ofStretch
-stretch-refused (Run f t) k = (λ e. cc, λ e. cc)
-stretch-refused (Refused j) k = (λ e. cc, λ e. cc)
-
 module _ (s : List ℕ) (k w : ℕ) (t : List (List ℕ)) (a : Answers (ImageBusiest s k) w t) where
-  -- the answer in the word is the call's one answer
-  minus-when : (j : ℕ) → 1 ≤ j → j ≤ 20 → (w ≡ 2 ^ 64 - j) ↔ BusiestCall s k (Refused j)
-  minus-when j g h =
-      let d = a .ends .0 in
-      let m = minus-in j g h (a .answer) w (a .reads) in (
-        λ q. subst (BusiestCall s k) (stretch-refused (d .0) j .0 (sym (d .2) ∙ m .0 q)) (d .1),
-        λ q. m .1 (d .2 ∙ stretch-refused (d .0) j .1 (one-answer s k (d .0) (Refused j) (d .1) q)),
+  pub refused-13 : (w ≡ 2 ^ 64 - 13) ↔ ((accepted s ≡ true) × ((k ≡ 0) ⊎ (length (listOf s) < k)))
+  unfolding reasons without stands
+  refused-13 =
+      let m = minus-at (ImageBusiest s k) w t 13 2 (omega arith) (omega arith) (λ x. omega (arith, x .3)) refl a in (
+        λ q. let x = m .0 q .1 in (past-6 s (x .0), ⊎-elim inl (λ (l : nOf s < k). inr (omega (arith, length-list s))) (x .1)),
+        λ x. let p = accepted-passes s (x .0) in
+            m .1 (p .0, (p .1, ⊎-elim inl (λ (l : length (listOf s) < k). inr (omega (arith, length-list s))) (x .1))),
       )
 
-  pub refused-13 : (w ≡ 2 ^ 64 - 13) ↔ ((accepted s ≡ true) × ((k ≡ 0) ⊎ (length (listOf s) < k)))
-  refused-13 =
-      let m = minus-when 13 (omega arith) (omega arith) in
-      (λ q. only-13 s k (m .0 q), λ q. m .1 (no-such-run (q .0) (q .1)))
-
   -- '5 and 6 of an image that must be accepted are those of the full check': whatever k is
-  pub refused-5 : check s ≡ fails 5 → w ≡ 2 ^ 64 - 5
-  refused-5 p = minus-when 5 (omega arith) (omega arith) .1 (not-accepted 5 p)
+  pub refused-5 : (w ≡ 2 ^ 64 - 5) ↔ NoHeader s
+  unfolding reasons without stands
+  refused-5 = minus-at (ImageBusiest s k) w t 5 0 (omega arith) (omega arith) (λ x. omega (arith, x .3)) refl a
 
-  pub refused-6 : check s ≡ fails 6 → w ≡ 2 ^ 64 - 6
-  refused-6 p = minus-when 6 (omega arith) (omega arith) .1 (not-accepted 6 p)
+  pub refused-6 : (w ≡ 2 ^ 64 - 6) ↔ ((NoHeader s → ⊥) × NoImage s)
+  unfolding reasons without stands
+  refused-6 = minus-at (ImageBusiest s k) w t 6 1 (omega arith) (omega arith) (λ x. no-reach (x .2)) refl a
+    where
+      no-reach : {i : List ℕ} {p : ℕ} → ImageBusiest s k ≡ ImageReach i p → ⊥
+      no-reach e = let z : _≡_ {A = ℕ} 0 1 = cc in omega arith

@@ -1,26 +1,27 @@
 -- Document 02, note 7, in its own words, of the word that C gets. Assumes nothing.
 use mathlib.Core.Bool.{true}
 use mathlib.Core.List.{List}
-use mathlib.Core.Logic.{⊎-elim, _↔_}
-use mathlib.Core.Path.{_≡_, sym, subst, _∙_}
+use mathlib.Core.Logic.{_↔_}
+use mathlib.Core.Path.{_≡_, refl, sym, subst, _∙_}
 use Prim.Native.Nat.{ℕ, _+_, _-_, _^_, _≤_, _<_}
 use native.Mathlib.Omega.{arith}
 use lib.ListN.{length}
 use Rattle.lists.specs.Lists.{part, sum}
-use Rattle.image.specs.Check.{accepted, check}
+use Rattle.image.specs.Check.{accepted}
 use Rattle.image.specs.Read.{listOf}
-use Rattle.answers.specs.Image.{fails}
 use Rattle.answers.specs.declared.image.Bag.{Bag}
-use Rattle.answers.specs.declared.image.Bag.the-variants.{Run, None, Refused}
-use Rattle.image.proofs.CheckLaws.{five-or-six}
+use Rattle.answers.specs.declared.image.Bag.the-variants.{Run, None}
 use Rattle.runs.specs.Runs.{FirstMatch, NoMatch}
-use Rattle.image_match.specs.Match.{MatchCall, no-coins, none, not-accepted, the-run}
+use Rattle.image_match.specs.Match.{MatchCall, none, the-run}
 use Rattle.image_match.proofs.AnswerLaws.{one-answer}
 use Rattle.hourlog_c.specs.Export.{Answers}
-use Rattle.hourlog_c.specs.Public.{ImageMatch}
-use Rattle.words.specs.End.{noRun, ofBag, refusal}
+use Rattle.hourlog_c.specs.Public.{ImageMatch, ImageReach}
+use Rattle.words.specs.End.{noRun, ofBag}
 use Rattle.words.specs.ReadBack.{Reads, matchedFirst, matchedHours}
-use Rattle.demands.proofs.Sentences1.{match-word, minus-in, none-word}
+use Rattle.demands.specs.Reasons.{NoHeader, NoImage, reasons}
+use Rattle.demands.proofs.ReasonTests.{accepted-passes, past-6}
+use Rattle.demands.proofs.Sentences1.{match-word, minus-at, none-word}
+use Rattle.demands.proofs.Winning.{stands, without}
 
 -- the run of an answer, and that there is none
 run-of : (s : List ℕ) (q f n : ℕ) → MatchCall s q (Run f n) → FirstMatch (listOf s) q f n
@@ -52,40 +53,29 @@ module _ (s : List ℕ) (q w : ℕ) (t : List (List ℕ)) (a : Answers (ImageMat
   none-only-if h j n g i e = none-of s q (none-word w l t s q a h) j n (record { some = g; inside = i; sum-is = e })
 
 -- ---- 'It refuses with 17, after 5 and 6, a q of 0', and then alone
-only-17 : (s : List ℕ) (q : ℕ) → MatchCall s q (Refused 17) → (accepted s ≡ true) × (q ≡ 0)
-only-17 s q (not-accepted _ p) = absurd (⊎-elim (λ (e : 17 ≡ 5). omega arith) (λ (e : 17 ≡ 6). omega arith) (five-or-six s 17 p))
-only-17 s q (no-coins a z) = (a, z)
-
-bag-refused : (r : Bag) (k : ℕ) → (ofBag r ≡ refusal k) ↔ (r ≡ Refused k)
-unfolding ofBag
-bag-refused (Run f n) k = (λ e. cc, λ e. cc)
-bag-refused None k = (λ e. cc, λ e. cc)
-bag-refused (Refused j) k = (λ e. cc, λ e. cc)
-
 no-bag : (r : Bag) → r ≡ None → noRun ≡ ofBag r
 unfolding ofBag
 no-bag r e = rw e
 
 module _ (s : List ℕ) (q w : ℕ) (t : List (List ℕ)) (a : Answers (ImageMatch s q) w t) where
-  -- the answer in the word is the call's one answer
-  minus-when : (j : ℕ) → 1 ≤ j → j ≤ 20 → (w ≡ 2 ^ 64 - j) ↔ MatchCall s q (Refused j)
-  minus-when j g h =
-      let d = a .ends .0 in
-      let m = minus-in j g h (a .answer) w (a .reads) in (
-        λ p. subst (MatchCall s q) (bag-refused (d .0) j .0 (sym (d .2) ∙ m .0 p)) (d .1),
-        λ p. m .1 (d .2 ∙ bag-refused (d .0) j .1 (one-answer s q (d .0) (Refused j) (d .1) p)),
+  pub refused-17 : (w ≡ 2 ^ 64 - 17) ↔ ((accepted s ≡ true) × (q ≡ 0))
+  unfolding reasons without stands
+  refused-17 =
+      let m = minus-at (ImageMatch s q) w t 17 2 (omega arith) (omega arith) (λ x. omega (arith, x .3)) refl a in (
+        λ e. let x = m .0 e .1 in (past-6 s (x .0), x .1),
+        λ x. let p = accepted-passes s (x .0) in m .1 (p .0, (p .1, x .1)),
       )
 
-  pub refused-17 : (w ≡ 2 ^ 64 - 17) ↔ ((accepted s ≡ true) × (q ≡ 0))
-  refused-17 =
-      let m = minus-when 17 (omega arith) (omega arith) in
-      (λ p. only-17 s q (m .0 p), λ p. m .1 (no-coins (p .0) (p .1)))
+  pub refused-5 : (w ≡ 2 ^ 64 - 5) ↔ NoHeader s
+  unfolding reasons without stands
+  refused-5 = minus-at (ImageMatch s q) w t 5 0 (omega arith) (omega arith) (λ x. omega (arith, x .3)) refl a
 
-  pub refused-5 : check s ≡ fails 5 → w ≡ 2 ^ 64 - 5
-  refused-5 p = minus-when 5 (omega arith) (omega arith) .1 (not-accepted 5 p)
-
-  pub refused-6 : check s ≡ fails 6 → w ≡ 2 ^ 64 - 6
-  refused-6 p = minus-when 6 (omega arith) (omega arith) .1 (not-accepted 6 p)
+  pub refused-6 : (w ≡ 2 ^ 64 - 6) ↔ ((NoHeader s → ⊥) × NoImage s)
+  unfolding reasons without stands
+  refused-6 = minus-at (ImageMatch s q) w t 6 1 (omega arith) (omega arith) (λ x. no-reach (x .2)) refl a
+    where
+      no-reach : {i : List ℕ} {p : ℕ} → ImageMatch s q ≡ ImageReach i p → ⊥
+      no-reach e = let z : _≡_ {A = ℕ} 0 1 = cc in omega arith
 
   -- none is said where no such run is there
   pub none-if : accepted s ≡ true → 1 ≤ q → ((j n : ℕ) → 1 ≤ n → j + n ≤ length (listOf s) → sum (part (listOf s) j n) ≡ q → ⊥) → w ≡ 0

@@ -1,268 +1,295 @@
--- Every answer of a call is one that its row allows: a result of its kind, or one of its refusals. Assumes nothing.
-use mathlib.Core.Path.{_≡_, refl, sym, subst}
+-- Every call ends as its reasons say: in the refusal of the first that fits, and where none fits in a result of its kind. Assumes nothing.
+use mathlib.Core.Path.{_≡_, refl, sym, _∙_, subst}
 use mathlib.Core.Bool.{Bool, true, false, _&&_}
 use mathlib.Core.List.{List, [], _∷_, _++_}
-use mathlib.Core.Logic.{⊎-elim}
-use Prim.Native.Nat.{ℕ, zero, suc, _≤_}
+use mathlib.Core.Logic.{_⊎_, inl, inr, ⊎-elim}
+use Prim.Native.Nat.{ℕ, zero, suc, _-_, _*_, _/_, _≤_, _<_}
 use native.Mathlib.Omega.{arith}
-use lib.ListN.{length, drop, set}
+use lib.ListN.{length, set}
 use lib.Dec.{leb}
 use borrow.Author.Tests.{leb-true}
-use Rattle.lists.specs.Lists.{occurrences, one, pick, sum}
+use Rattle.lists.specs.Lists.{pick, sum}
+use Rattle.lists.proofs.Tests.{left, right}
 use Rattle.tree.specs.Read.{Found, damaged, found}
 use Rattle.store.specs.Limits.{maxTotal}
 use Rattle.store.specs.Plain.{Append, Call, Count, Day, Free, Insert, Outcome, Plain, Reach as ReachOf, Reading, Set, Strike}
-use Rattle.answers.specs.Store.{Answer, answered, refused as turned}
-use Rattle.store.specs.Plain.{change, inserted, refuse, step, struck}
-use Rattle.store.specs.Layout.{bytesOf, fresh}
+use Rattle.store.specs.Plain.{change, inserted, step, struck}
 use Rattle.store.specs.Reading.{listIn, read}
 use Rattle.store.specs.Sound.{sound}
-use Rattle.store.specs.Fitting.{fits}
 use Rattle.store.specs.Call.{Result, call, freshCall}
-use Rattle.store.proofs.CallLaws.{call-10, sound-call}
 use Rattle.store.proofs.Inserting.{sum-struck}
 use Rattle.store.proofs.SoundFacts.{facts}
 use Rattle.store.proofs.StepLaws.{Change, change-is, done, over, short}
 use Rattle.image.specs.Calls.{Result as ImageResult, lengthCall, put, putAfter, unwritten, writeCall}
 use Rattle.image.specs.Check.{accepted, check, headed}
-use Rattle.answers.specs.Image.{Verdict, fails, holds, Reply, given, refused}
+use Rattle.answers.specs.Image.{fails, holds, Reply, given, refused, told}
 use Rattle.image.specs.Image.{image}
 use Rattle.image.specs.Query.{count, look, reading, readingAt, theCount, theReading}
 use Rattle.image.specs.Reach.{Reach, above-total, any-index, damage, header-wrong, smallest}
 use Rattle.image.specs.Read.{listOf, nOf, sOf}
+use Rattle.image.proofs.Accepted.{length-list}
+use Rattle.image.proofs.CheckLaws.{accepted-or, past-5}
 use Rattle.freeze.specs.Freeze.{freezeCall}
 use Rattle.freeze.proofs.Freezing.{only-page-size}
-use Rattle.lists.proofs.Tests.{left, right}
 use Rattle.answers.specs.declared.image.Bag.{Bag}
 use Rattle.answers.specs.declared.image.Stretch.{Stretch}
-use Rattle.image.proofs.CheckLaws.{five-or-six}
 use Rattle.image_busiest.specs.Busiest.{BusiestCall, no-such-run, not-accepted, the-run}
 use Rattle.image_match.specs.Match.{MatchCall, no-coins, none, not-accepted as no-image, the-run as the-hours}
 use Rattle.book.specs.Book.{bookOf, decimal, fourDigits, listOfBook}
+use Rattle.book.proofs.BookLaws.{length-book, length-listed}
 use Rattle.book_in.specs.FromBook.{fromCall}
 use Rattle.book_in.proofs.FromLaws.{only-long}
-use Rattle.book_out.specs.ToBook.{past, putBook, toCall}
-use Rattle.hourlog_c.specs.Public.{Fresh, Freeze, ImageBusiest, ImageCheck, ImageCount, ImageFromBcd, ImageLength, ImageMatch, ImageReach, ImageReading, ImageToBcd, ImageWrite}
-use Rattle.hourlog_c.specs.Public.{Live}
-use Rattle.words.specs.End.{ofBag, ofCheck, ofImage, ofStore, ofStretch}
-use Rattle.demands.specs.Demand1.{Allowed, Among, Row, aNumber, cellsMoved, row}
+use Rattle.book_out.specs.ToBook.{putBook, toCall}
+use Rattle.book_out.proofs.ToLaws.{to-fails, to-past}
+use Rattle.hourlog_c.specs.Public.{Fresh, Freeze, ImageBusiest, ImageCheck, ImageCount, ImageFromBcd, ImageLength, ImageMatch, ImageReach}
+use Rattle.hourlog_c.specs.Public.{ImageReading, ImageToBcd, ImageWrite, Live}
+use Rattle.words.specs.End.{End, ofBag, ofCheck, ofImage, ofStore, ofStretch, refusal, theNumber}
+use Rattle.demands.specs.Reasons.{Damage, NoHeader, NoImage, NoPageSize, Over, Reason, Short, TooWide, Unsound, _when_, plainReasons, reasons}
+use Rattle.demands.specs.Demand1.{Kind, aNumber, cellsMoved, firstAndSum, hoursAndTotal, hoursOrNone, row}
+use Rattle.demands.proofs.ReasonTests.{Denies, at-most, below, book, changes, clauses, damage-exactly, header, narrow, not-above, page-size, sizes, written}
+use Rattle.demands.proofs.Deciding.{Decided, fits-first, none-left, passed, where-false, where-true}
 
 -- ---- the live calls
-module _ (r : Row) (L : Plain) where
-  or-turned : (b : Bool) (k : ℕ) (o : Outcome) → Among k (r .refusals) → Allowed r (ofStore (o .answer)) → Allowed r (ofStore (pick b (refuse k L) o .answer))
-  unfolding pick ofStore
-  or-turned true k o h w = h
-  or-turned false k o h w = w
+module _ (M : ℕ → End → Type 0) where
+  abbrev said : Outcome → End
+  said o = ofStore (o .answer)
 
-  change-allowed : (ys : List ℕ) → r .gives ≡ cellsMoved → Among 3 (r .refusals) → Among 12 (r .refusals) → Allowed r (ofStore (change L ys .answer))
-  unfolding ofStore
-  change-allowed ys g a b = go (change-is L ys)
-    where
-      go : {o : Outcome} → Change L ys o → Allowed r (ofStore (o .answer))
-      go (over x) = a
-      go (short x y) = b
-      go (done x y) = g
+  change-decided : (L : Plain) (ys : List ℕ) → Decided M cellsMoved (3 when (maxTotal < sum ys) ∷ 12 when Short L ys ∷ []) (said (change L ys))
+  unfolding change ofStore
+  change-decided L ys =
+      where-true M cellsMoved said _ _ _ (below maxTotal (sum ys)) refl (λ _.
+      where-true M cellsMoved said _ _ _ (below _ _) refl (λ _. none-left M cellsMoved _ refl))
 
   -- a strike has a lower total: never 3
-  strike-allowed : (i : ℕ) → sum (L .counts) ≤ maxTotal → r .gives ≡ cellsMoved → Among 12 (r .refusals)
-      → Allowed r (ofStore (change L (struck (L .counts) i) .answer))
+  strike-decided : (L : Plain) (i : ℕ) → sum (L .counts) ≤ maxTotal
+      → Decided M cellsMoved (12 when Short L (struck (L .counts) i) ∷ []) (said (change L (struck (L .counts) i)))
   unfolding ofStore
-  strike-allowed i t g b = go (change-is L (struck (L .counts) i))
+  strike-decided L i t = go (change-is L (struck (L .counts) i))
     where
-      go : {o : Outcome} → Change L (struck (L .counts) i) o → Allowed r (ofStore (o .answer))
+      go : {o : Outcome} → Change L (struck (L .counts) i) o → Decided M cellsMoved (12 when Short L (struck (L .counts) i) ∷ []) (said o)
       go (over x) = absurd (omega (arith, sum-struck (L .counts) i))
-      go (short x y) = b
-      go (done x y) = g
+      go (short x y) = fits-first M cellsMoved _ y refl
+      go (done x y) = passed M cellsMoved _ _ _ (λ (z : Short L (struck (L .counts) i)). omega arith) (none-left M cellsMoved _ refl)
 
-step-allowed : (c : Call) (s : List ℕ) (L : Plain) → sum (L .counts) ≤ maxTotal → Allowed (row (Live c s)) (ofStore (step c L .answer))
-unfolding step row occurrences one ofStore
-step-allowed (Append v) s L t = or-turned _ L _ 11 _ (omega arith) (change-allowed _ L (L .counts ++ v ∷ []) refl (omega arith) (omega arith))
-step-allowed (Set i v) s L t = or-turned _ L _ 7 _ (omega arith) (change-allowed _ L (set (L .counts) i v) refl (omega arith) (omega arith))
-step-allowed (Insert i v) s L t =
-    or-turned _ L _ 7 _ (omega arith)
-    (or-turned _ L _ 11 _ (omega arith) (change-allowed _ L (inserted (L .counts) i v) refl (omega arith) (omega arith)))
-step-allowed (Strike i) s L t = or-turned _ L _ 7 _ (omega arith) (strike-allowed _ L i t refl (omega arith))
-step-allowed (Count i) s L t = or-turned _ L _ 7 _ (omega arith) refl
-step-allowed (Reading i) s L t = or-turned _ L _ 7 _ (omega arith) refl
-step-allowed (ReachOf p) s L t = or-turned _ L _ 8 _ (omega arith) refl
-step-allowed (Day d cs) s L t = or-turned _ L _ 16 _ (omega arith) (or-turned _ L _ 7 _ (omega arith) refl)
-step-allowed Free s L t = refl
+  step-decided : (c : Call) (s : List ℕ) (L : Plain) → sum (L .counts) ≤ maxTotal
+      → Decided M (row (Live c s) .gives) (plainReasons c L) (said (step c L))
+  unfolding step row plainReasons inserted struck ofStore
+  step-decided (Append v) s L t = where-true M cellsMoved said _ _ _ (at-most _ _) refl (λ _. change-decided L (L .counts ++ v ∷ []))
+  step-decided (Set i v) s L t = where-true M cellsMoved said _ _ _ (at-most _ _) refl (λ _. change-decided L (set (L .counts) i v))
+  step-decided (Insert i v) s L t =
+      where-true M cellsMoved said _ _ _ (below _ _) refl (λ _.
+      where-true M cellsMoved said _ _ _ (at-most _ _) refl (λ _. change-decided L (inserted (L .counts) i v)))
+  step-decided (Strike i) s L t = where-true M cellsMoved said _ _ _ (at-most _ _) refl (λ _. strike-decided L i t)
+  step-decided (Count i) s L t = where-true M aNumber said _ _ _ (at-most _ _) refl (λ _. none-left M aNumber _ refl)
+  step-decided (Reading i) s L t = where-true M aNumber said _ _ _ (below _ _) refl (λ _. none-left M aNumber _ refl)
+  step-decided (ReachOf p) s L t = where-true M aNumber said _ _ _ (below _ _) refl (λ _. none-left M aNumber _ refl)
+  step-decided (Day d cs) s L t =
+      where-true M aNumber said _ _ _ (changes cs) refl (λ _.
+      where-true M aNumber said _ _ _ (below _ _) refl (λ _. none-left M aNumber _ refl))
+  step-decided Free s L t = none-left M aNumber _ refl
 
--- every live call has 10
-has-10 : (c : Call) (s : List ℕ) → Among 10 (row (Live c s) .refusals)
-unfolding row occurrences one
-has-10 (Append v) s = omega arith
-has-10 (Set i v) s = omega arith
-has-10 (Insert i v) s = omega arith
-has-10 (Strike i) s = omega arith
-has-10 (Count i) s = omega arith
-has-10 (Reading i) s = omega arith
-has-10 (ReachOf p) s = omega arith
-has-10 (Day d cs) s = omega arith
-has-10 Free s = omega arith
+  pub live-decided : (c : Call) (s : List ℕ) → (sound s ≡ false → Unsound s)
+      → Decided M (row (Live c s) .gives) (reasons (Live c s)) (ofStore (call c s .answer))
+  unfolding call reasons ofStore
+  live-decided c s h =
+      where-false M (row (Live c s) .gives) (λ (r : Result). ofStore (r .answer)) _ _ _ (clauses s h) refl (λ e.
+      step-decided c s (read s .plain) (facts s e .total-fits))
 
-pub live-allowed : (c : Call) (s : List ℕ) → Allowed (row (Live c s)) (ofStore (call c s .answer))
-unfolding ofStore
-live-allowed c s = go (sound s) refl
-  where
-    go : (b : Bool) → sound s ≡ b → Allowed (row (Live c s)) (ofStore (call c s .answer))
-    go false e = subst (λ (a : Answer). Allowed (row (Live c s)) (ofStore a)) (call-10 c s e .answer) (has-10 c s)
-    go true e = subst (λ (a : Answer). Allowed (row (Live c s)) (ofStore a)) (sound-call c s e .answer) (step-allowed c s (read s .plain) (facts s e .total-fits))
+  pub fresh-decided : (s : List ℕ) (P C : ℕ) → Decided M aNumber (reasons (Fresh s P C)) (ofStore (freshCall s P C .answer))
+  unfolding freshCall reasons ofStore
+  fresh-decided s P C =
+      where-false M aNumber (λ (r : Result). ofStore (r .answer)) _ _ _ (sizes s P C) refl (λ _. none-left M aNumber _ refl)
 
-pub fresh-allowed : (b : List ℕ) (P C : ℕ) → Allowed (row (Fresh b P C)) (ofStore (freshCall b P C .answer))
-unfolding freshCall pick row occurrences one ofStore
-fresh-allowed b P C = go (fits b P C)
-  where
-    made : Result
-    made = record { answer = answered 0; bytes = bytesOf (fresh P C) }
+  -- ---- the calls that make an image
+  put-decided : (out i : List ℕ) → Decided M aNumber (4 when (length out < length i) ∷ []) (ofImage (put out i .reply))
+  unfolding put unwritten ofImage
+  put-decided out i =
+      where-false M aNumber (λ (r : ImageResult). ofImage (r .reply)) _ _ _ (not-above (length i) (length out)) refl (λ _. none-left M aNumber _ refl)
 
-    go : (t : Bool) → Allowed (row (Fresh b P C)) (ofStore (pick t made (record { answer = turned 9; bytes = b }) .answer))
-    go true = refl
-    go false = omega arith
+  length-tried : (f : Reply → End) → ((k : ℕ) → f (refused k) ≡ refusal k) → (e : ℕ) (xs : List ℕ) (rs : List Reason)
+      → Decided M aNumber rs (f (given (length (image e xs))))
+      → Decided M aNumber (1 when NoPageSize e ∷ 2 when (65536 < length xs) ∷ 3 when Over xs ∷ rs) (f (lengthCall e xs))
+  unfolding lengthCall
+  length-tried f h e xs rs d =
+      where-false M aNumber f _ _ _ (page-size e) (h 1) (λ _.
+      where-false M aNumber f _ _ _ (not-above (length xs) 65536) (h 2) (λ _.
+      where-false M aNumber f _ _ _ (not-above (sum xs) 4294967295) (h 3) (λ _. d)))
 
--- ---- the calls on an image, each of which gives a number
-module _ (r : Row) (g : r .gives ≡ aNumber) where
-  or-no : (b : Bool) (k : ℕ) (a : Reply) → Among k (r .refusals) → Allowed r (ofImage a) → Allowed r (ofImage (pick b a (refused k)))
-  unfolding pick ofImage
-  or-no true k a h w = w
-  or-no false k a h w = h
+  pub length-decided : (xs : List ℕ) (e : ℕ) → Decided M aNumber (reasons (ImageLength xs e)) (ofImage (lengthCall e xs))
+  unfolding reasons ofImage
+  length-decided xs e = length-tried ofImage (λ k. refl) e xs [] (none-left M aNumber _ refl)
 
-  no-or : (b : Bool) (k : ℕ) (a : Reply) → Among k (r .refusals) → Allowed r (ofImage a) → Allowed r (ofImage (pick b (refused k) a))
-  unfolding pick ofImage
-  no-or true k a h w = h
-  no-or false k a h w = w
+  -- what write answers, by what length does
+  abbrev putting : List ℕ → List ℕ → Reply → End
+  putting out i r = ofImage (putAfter r out i .reply)
 
-  length-in : Among 1 (r .refusals) → Among 2 (r .refusals) → Among 3 (r .refusals) → (e : ℕ) (xs : List ℕ) → Allowed r (ofImage (lengthCall e xs))
-  unfolding lengthCall ofImage
-  length-in a b c e xs = or-no _ 1 _ a (or-no _ 2 _ b (or-no _ 3 _ c g))
+  put-refused : (out i : List ℕ) (k : ℕ) → putting out i (refused k) ≡ refusal k
+  unfolding putAfter unwritten ofImage
+  put-refused out i k = refl
 
-  put-in : Among 4 (r .refusals) → (a : Reply) (out i : List ℕ) → Allowed r (ofImage a) → Allowed r (ofImage (putAfter a out i .reply))
-  unfolding putAfter put unwritten pick ofImage
-  put-in h (given n) out i w = go (leb (length i) (length out))
+  put-given : (out i : List ℕ) (n : ℕ) → Decided M aNumber (4 when (length out < length i) ∷ []) (putting out i (given n))
+  unfolding putAfter
+  put-given out i n = put-decided out i
+
+  pub write-decided : (xs : List ℕ) (e : ℕ) (out : List ℕ) → Decided M aNumber (reasons (ImageWrite xs e out)) (ofImage (writeCall e xs out .reply))
+  unfolding reasons writeCall
+  write-decided xs e out =
+      length-tried (putting out (image e xs)) (put-refused out (image e xs)) e xs _ (put-given out (image e xs) (length (image e xs)))
+
+  pub freeze-decided : (s : List ℕ) (e : ℕ) (out : List ℕ) → (sound s ≡ false → Unsound s)
+      → Decided M aNumber (reasons (Freeze s e out)) (ofImage (freezeCall e s out .reply))
+  unfolding freezeCall writeCall reasons unwritten ofImage
+  freeze-decided s e out h =
+      where-false M aNumber (λ (r : ImageResult). ofImage (r .reply)) _ _ _ (clauses s h) refl (λ q.
+      let i = image e (listIn s) in
+      let left : List Reason = 1 when NoPageSize e ∷ 4 when (length out < length i) ∷ [] in
+      subst (λ (r : Reply). Decided M aNumber left (putting out i r)) (sym (only-page-size e s q))
+      (where-false M aNumber (putting out i) _ _ _ (page-size e) (put-refused out i 1) (λ _. put-given out i (length i))))
+
+  -- ---- 5, and 6 of the full check
+  fails-decided : (K : Kind) (s : List ℕ) (j : ℕ) (rs : List Reason) → check s ≡ fails j
+      → Decided M K (5 when NoHeader s ∷ 6 when NoImage s ∷ rs) (refusal j)
+  unfolding check pick
+  fails-decided K s j rs = go (headed s) refl (accepted s) refl
     where
-      go : (b : Bool) → Allowed r (ofImage (pick b (record { reply = given (length i); bytes = i ++ drop (length i) out }) (unwritten out 4) .reply))
-      go true = g
-      go false = h
-  put-in h (refused k) out i w = w
+      number : {i : ℕ} → fails i ≡ fails j → refusal j ≡ refusal i
+      number e = cc
 
-  found-in : Among 6 (r .refusals) → (f : Found) → Allowed r (ofImage (theCount f)) × Allowed r (ofImage (theReading f))
-  unfolding theCount theReading ofImage
-  found-in h damaged = (h, h)
-  found-in h (found x c) = (g, g)
+      go : (a : Bool) → headed s ≡ a → (b : Bool) → accepted s ≡ b → pick a (pick b (holds (nOf s) (sOf s)) (fails 6)) (fails 5) ≡ fails j
+          → Decided M K (5 when NoHeader s ∷ 6 when NoImage s ∷ rs) (refusal j)
+      go false p b q e = fits-first M K _ (header s .0 p) (number e)
+      go true p false q e = passed M K _ _ _ (header s .1 p) (fits-first M K _ (written s .0 q) (number e))
+      go true p true q e = let z : _≡_ {A = ℕ} 0 1 = cc in absurd (omega arith)
 
-pub length-allowed : (xs : List ℕ) (e : ℕ) → Allowed (row (ImageLength xs e)) (ofImage (lengthCall e xs))
-unfolding row occurrences one
-length-allowed xs e = length-in (row (ImageLength xs e)) refl (omega arith) (omega arith) (omega arith) e xs
+  past-check : (K : Kind) (s : List ℕ) (rs : List Reason) (a : End) → accepted s ≡ true → Decided M K rs a
+      → Decided M K (5 when NoHeader s ∷ 6 when NoImage s ∷ rs) a
+  past-check K s rs a q d = passed M K _ _ _ (header s .1 (past-5 s q)) (passed M K _ _ _ (written s .1 q) d)
 
-pub write-allowed : (xs : List ℕ) (e : ℕ) (out : List ℕ) → Allowed (row (ImageWrite xs e out)) (ofImage (writeCall e xs out .reply))
-unfolding writeCall row occurrences one
-write-allowed xs e out =
-    let r : Row = row (ImageWrite xs e out) in
-    put-in r refl (omega arith) (lengthCall e xs) out (image e xs) (length-in r refl (omega arith) (omega arith) (omega arith) e xs)
+  pub check-decided : (s : List ℕ) → Decided M hoursAndTotal (reasons (ImageCheck s)) (ofCheck (check s))
+  unfolding check reasons ofCheck
+  check-decided s =
+      where-false M hoursAndTotal ofCheck _ _ _ (header s) refl (λ _.
+      where-false M hoursAndTotal ofCheck _ _ _ (written s) refl (λ _. none-left M hoursAndTotal _ refl))
 
-pub freeze-allowed : (s : List ℕ) (e : ℕ) (out : List ℕ) → Allowed (row (Freeze s e out)) (ofImage (freezeCall e s out .reply))
-unfolding freezeCall writeCall pick unwritten row occurrences one ofImage
-freeze-allowed s e out = go (sound s) refl
-  where
-    xs : List ℕ
-    xs = listIn s
+  -- ---- the questions to an image
+  not-found : {x c : ℕ} → found x c ≡ damaged → ⊥
+  not-found e = let z : _≡_ {A = ℕ} 0 1 = cc in omega arith
 
-    go : (b : Bool) → sound s ≡ b → Allowed (row (Freeze s e out)) (ofImage (pick b (writeCall e xs out) (unwritten out 10) .reply))
-    go true q =
-        put-in (row (Freeze s e out)) refl (omega arith) (lengthCall e xs) out (image e xs)
-        (subst (λ (a : Reply). Allowed (row (Freeze s e out)) (ofImage a)) (sym (only-page-size e s q))
-        (or-no (row (Freeze s e out)) refl (leb 2 e && leb e 8) 1 (given (length (image e xs))) (omega arith) refl))
-    go false q = omega arith
+  count-found : (s : List ℕ) (i : ℕ) → Decided M aNumber (6 when Damage s i ∷ []) (ofImage (theCount (look s i)))
+  unfolding theCount ofImage
+  count-found s i = go (look s i) refl
+    where
+      go : (f : Found) → look s i ≡ f → Decided M aNumber (6 when Damage s i ∷ []) (ofImage (theCount f))
+      go damaged q = fits-first M aNumber _ (damage-exactly s i .0 q) refl
+      go (found x c) q = passed M aNumber _ _ _ (λ d. not-found (sym q ∙ damage-exactly s i .1 d)) (none-left M aNumber _ refl)
 
-pub check-allowed : (s : List ℕ) → Allowed (row (ImageCheck s)) (ofCheck (check s))
-unfolding check pick row occurrences one ofCheck
-check-allowed s = go (headed s) (accepted s)
-  where
-    go : (a b : Bool) → Allowed (row (ImageCheck s)) (ofCheck (pick a (pick b (holds (nOf s) (sOf s)) (fails 6)) (fails 5)))
-    go true true = refl
-    go true false = omega arith
-    go false b = omega arith
+  reading-found : (s : List ℕ) (i : ℕ) → Decided M aNumber (6 when ((1 ≤ i) × Damage s (i - 1)) ∷ []) (ofImage (readingAt s i))
+  unfolding readingAt theReading ofImage
+  reading-found s zero = passed M aNumber _ _ _ (λ (w : (1 ≤ 0) × Damage s (0 - 1)). omega (arith, w .0)) (none-left M aNumber _ refl)
+  reading-found s (suc i) = go (look s i) refl
+    where
+      back : suc i - 1 ≡ i
+      back = omega arith
 
-pub count-allowed : (s : List ℕ) (i : ℕ) → Allowed (row (ImageCount s i)) (ofImage (count s i))
-unfolding count row occurrences one
-count-allowed s i =
-    let r : Row = row (ImageCount s i) in
-    or-no r refl _ 5 _ (omega arith) (no-or r refl _ 7 _ (omega arith) (found-in r refl (omega arith) (look s i) .0))
+      go : (f : Found) → look s i ≡ f → Decided M aNumber (6 when ((1 ≤ suc i) × Damage s (suc i - 1)) ∷ []) (ofImage (theReading f))
+      go damaged q = fits-first M aNumber _ (omega arith, subst (Damage s) (sym back) (damage-exactly s i .0 q)) refl
+      go (found x c) q =
+          passed M aNumber _ _ _
+          (λ (w : (1 ≤ suc i) × Damage s (suc i - 1)). not-found (sym q ∙ damage-exactly s i .1 (subst (Damage s) back (w .1))))
+          (none-left M aNumber _ refl)
 
-pub reading-allowed : (s : List ℕ) (i : ℕ) → Allowed (row (ImageReading s i)) (ofImage (reading s i))
-unfolding reading readingAt row occurrences one ofImage
-reading-allowed s i = or-no (row (ImageReading s i)) refl _ 5 _ (omega arith) (no-or (row (ImageReading s i)) refl _ 7 _ (omega arith) (at i))
-  where
-    at : (j : ℕ) → Allowed (row (ImageReading s i)) (ofImage (readingAt s j))
-    at zero = refl
-    at (suc j) = found-in (row (ImageReading s i)) refl (omega arith) (look s j) .1
+  pub count-decided : (s : List ℕ) (i : ℕ) → Decided M aNumber (reasons (ImageCount s i)) (ofImage (count s i))
+  unfolding count reasons ofImage
+  count-decided s i =
+      where-false M aNumber ofImage _ _ _ (header s) refl (λ _.
+      where-true M aNumber ofImage _ _ _ (at-most (nOf s) i) refl (λ _. count-found s i))
 
-pub reach-allowed : (s : List ℕ) (p : ℕ) (a : Reply) → Reach s p a → Allowed (row (ImageReach s p)) (ofImage a)
-unfolding row occurrences one ofImage
-reach-allowed s p _ (header-wrong h) = omega arith
-reach-allowed s p _ (above-total h l) = omega arith
-reach-allowed s p _ (smallest e l) = refl
-reach-allowed s p _ (damage h l e) = omega arith
-reach-allowed s p _ (any-index h l e i m) = refl
+  pub reading-decided : (s : List ℕ) (i : ℕ) → Decided M aNumber (reasons (ImageReading s i)) (ofImage (reading s i))
+  unfolding reading reasons ofImage
+  reading-decided s i =
+      where-false M aNumber ofImage _ _ _ (header s) refl (λ _.
+      where-true M aNumber ofImage _ _ _ (below (nOf s) i) refl (λ _. reading-found s i))
 
--- ---- on an image that must be accepted: 5 and 6 of the check
-pub check-among : (s : List ℕ) (j : ℕ) (ks : List ℕ) → check s ≡ fails j → Among 5 ks → Among 6 ks → Among j ks
-check-among s j ks p a b = ⊎-elim (λ (e : j ≡ 5). rw e a) (λ (e : j ≡ 6). rw e b) (five-or-six s j p)
+  pub busiest-decided : (s : List ℕ) (k : ℕ) (a : Stretch) → BusiestCall s k a → Decided M firstAndSum (reasons (ImageBusiest s k)) (ofStretch a)
+  unfolding reasons ofStretch
+  busiest-decided s k _ (not-accepted j p) = fails-decided firstAndSum s j _ p
+  busiest-decided s k _ (no-such-run q o) =
+      past-check firstAndSum s _ _ q
+      (fits-first M firstAndSum _ (⊎-elim inl (λ (l : length (listOf s) < k). inr (omega (arith, length-list s))) o) refl)
+  busiest-decided s k _ (the-run q l f t b) =
+      past-check firstAndSum s _ _ q
+      (passed M firstAndSum _ _ _ (⊎-elim (λ (e : k ≡ 0). omega arith) (λ (h : nOf s < k). omega (arith, length-list s, b .inside)))
+      (none-left M firstAndSum _ refl))
 
-pub busiest-allowed : (s : List ℕ) (k : ℕ) (a : Stretch) → BusiestCall s k a → Allowed (row (ImageBusiest s k)) (ofStretch a)
-unfolding row occurrences one ofStretch
-busiest-allowed s k _ (not-accepted j p) = check-among s j (row (ImageBusiest s k) .refusals) p (omega arith) (omega arith)
-busiest-allowed s k _ (no-such-run a o) = omega arith
-busiest-allowed s k _ (the-run a l f t b) = refl
+  pub match-decided : (s : List ℕ) (q : ℕ) (a : Bag) → MatchCall s q a → Decided M hoursOrNone (reasons (ImageMatch s q)) (ofBag a)
+  unfolding reasons ofBag
+  match-decided s q _ (no-image j p) = fails-decided hoursOrNone s j _ p
+  match-decided s q _ (no-coins c z) = past-check hoursOrNone s _ _ c (fits-first M hoursOrNone _ z refl)
+  match-decided s q _ (the-hours c l f n m) =
+      past-check hoursOrNone s _ _ c (passed M hoursOrNone _ _ _ (λ (e : q ≡ 0). omega arith) (none-left M hoursOrNone _ refl))
+  match-decided s q _ (none c l m) =
+      past-check hoursOrNone s _ _ c (passed M hoursOrNone _ _ _ (λ (e : q ≡ 0). omega arith) (none-left M hoursOrNone _ refl))
 
-pub match-allowed : (s : List ℕ) (q : ℕ) (a : Bag) → MatchCall s q a → Allowed (row (ImageMatch s q)) (ofBag a)
-unfolding row occurrences one ofBag
-match-allowed s q _ (no-image j p) = check-among s j (row (ImageMatch s q) .refusals) p (omega arith) (omega arith)
-match-allowed s q _ (no-coins a z) = omega arith
-match-allowed s q _ (the-hours a l f n m) = refl
-match-allowed s q _ (none a l m) = refl
+  -- ---- books
+  pub from-decided : (b : List ℕ) (e : ℕ) (out : List ℕ) → Decided M aNumber (reasons (ImageFromBcd b e out)) (ofImage (fromCall e b out .reply))
+  unfolding fromCall writeCall reasons unwritten ofImage
+  from-decided b e out =
+      let result : ImageResult → End = λ (r : ImageResult). ofImage (r .reply) in
+      where-false M aNumber result _ _ _ (page-size e) refl (λ p.
+      where-false M aNumber result _ _ _ (book b) refl (λ q. long-or-put p q))
+    where
+      i : List ℕ
+      i = image e (listOfBook b)
 
--- ---- books
-pub from-allowed : (b : List ℕ) (e : ℕ) (out : List ℕ) → Allowed (row (ImageFromBcd b e out)) (ofImage (fromCall e b out .reply))
-unfolding fromCall writeCall pick unwritten row occurrences one ofImage
-from-allowed b e out = go (leb 2 e && leb e 8) refl (decimal b) refl
-  where
-    xs : List ℕ
-    xs = listOfBook b
+      long-test : Denies (leb (length (listOfBook b)) 65536) (65536 < length b / 2)
+      long-test =
+          let t = not-above (length (listOfBook b)) 65536 in
+          (λ r. let l = t .0 r in omega (arith, length-listed b), λ r (h : 65536 < length b / 2). t .1 r (omega (arith, length-listed b)))
 
-    r : Row
-    r = row (ImageFromBcd b e out)
+      long-or-put : (leb 2 e && leb e 8) ≡ true → decimal b ≡ true
+          → Decided M aNumber (2 when (65536 < length b / 2) ∷ 4 when (length out < length i) ∷ []) (putting out i (lengthCall e (listOfBook b)))
+      long-or-put p q =
+          subst (λ (r : Reply). Decided M aNumber (2 when (65536 < length b / 2) ∷ 4 when (length out < length i) ∷ []) (putting out i r))
+          (sym (only-long e b (leb-true 2 e (left (leb 2 e) (leb e 8) p)) (leb-true e 8 (right (leb 2 e) (leb e 8) p)) q))
+          (where-false M aNumber (putting out i) _ _ _ long-test (put-refused out i 2) (λ _. put-given out i (length i)))
 
-    go : (t : Bool) → (leb 2 e && leb e 8) ≡ t → (u : Bool) → decimal b ≡ u
-        → Allowed r (ofImage (pick t (pick u (writeCall e xs out) (unwritten out 14)) (unwritten out 1) .reply))
-    go true p true q =
-        put-in r refl (omega arith) (lengthCall e xs) out (image e xs)
-        (subst (λ (a : Reply). Allowed r (ofImage a)) (sym
-        (only-long e b (leb-true 2 e (left (leb 2 e) (leb e 8) p)) (leb-true e 8 (right (leb 2 e) (leb e 8) p)) q))
-        (or-no r refl (leb (length xs) 65536) 2 (given (length (image e xs))) (omega arith) refl))
-    go true p false q = omega arith
-    go false p u q = omega arith
+  abbrev bookLeft : List ℕ → List ℕ → List Reason
+  bookLeft s out = 15 when TooWide s ∷ 4 when (length out < 2 * nOf s) ∷ []
 
-book-allowed : (r : Row) → r .gives ≡ aNumber → Among 15 (r .refusals) → Among 4 (r .refusals) → (xs out : List ℕ)
-    → Allowed r (ofImage (putBook xs out .reply))
-unfolding putBook put pick unwritten ofImage
-book-allowed r g a c xs out = go (fourDigits xs) (leb (length (bookOf xs)) (length out))
-  where
-    done : ImageResult
-    done = record { reply = given (length (bookOf xs)); bytes = bookOf xs ++ drop (length (bookOf xs)) out }
+  book-decided : (s out : List ℕ) → Decided M aNumber (bookLeft s out) (ofImage (putBook (listOf s) out .reply))
+  unfolding putBook put unwritten ofImage
+  book-decided s out =
+      let result : ImageResult → End = λ (r : ImageResult). ofImage (r .reply) in
+      where-false M aNumber result _ _ _ (narrow s) refl (λ _.
+      where-false M aNumber result _ _ _ short-test refl (λ _. none-left M aNumber _ refl))
+    where
+      short-test : Denies (leb (length (bookOf (listOf s))) (length out)) (length out < 2 * nOf s)
+      short-test =
+          let t = not-above (length (bookOf (listOf s))) (length out) in (
+            λ r. let l = t .0 r in omega (arith, length-book (listOf s), length-list s),
+            λ r (h : length out < 2 * nOf s). t .1 r (omega (arith, length-book (listOf s), length-list s)),
+          )
 
-    go : (t u : Bool) → Allowed r (ofImage (pick t (pick u done (unwritten out 4)) (unwritten out 15) .reply))
-    go true true = g
-    go true false = c
-    go false u = a
+  pub to-decided : (s out : List ℕ) → Decided M aNumber (reasons (ImageToBcd s out)) (ofImage (toCall s out .reply))
+  unfolding reasons ofImage told
+  to-decided s out =
+      ⊎-elim
+      (λ (q : accepted s ≡ true). past-check aNumber s _ _ q
+      (subst (λ (r : ImageResult). Decided M aNumber (bookLeft s out) (ofImage (r .reply))) (to-past s out q)
+      (book-decided s out)))
+      (λ (w : (j : ℕ) × (check s ≡ fails j)).
+      subst (λ (r : ImageResult). Decided M aNumber (reasons (ImageToBcd s out)) (ofImage (r .reply))) (to-fails s out (w .0) (w .1))
+      (fails-decided aNumber s (w .0) _ (w .1)))
+      (accepted-or s)
 
-pub to-allowed : (s out : List ℕ) → Allowed (row (ImageToBcd s out)) (ofImage (toCall s out .reply))
-unfolding toCall past unwritten row occurrences one ofImage ofCheck
-to-allowed s out = go (check s) (check-allowed s)
-  where
-    r : Row
-    r = row (ImageToBcd s out)
-
-    go : (v : Verdict) → Allowed (row (ImageCheck s)) (ofCheck v) → Allowed r (ofImage (past v (putBook (listOf s) out) out .reply))
-    go (holds n t) w = book-allowed r refl (omega arith) (omega arith) (listOf s) out
-    go (fails k) w = omega arith
+-- ---- reach, which alone may answer otherwise
+pub reach-decided : (M : ℕ → End → Type 0) (s : List ℕ) (p : ℕ) → ((n : ℕ) → n ≤ nOf s → M 6 (theNumber n)) → (a : Reply) → Reach s p a
+    → Decided M aNumber (reasons (ImageReach s p)) (ofImage a)
+unfolding reasons ofImage Decided
+reach-decided M s p m _ (header-wrong h) = inl (header s .0 h, inl refl)
+reach-decided M s p m _ (above-total h l) = inr (header s .1 h, inl (l, inl refl))
+reach-decided M s p m _ (smallest e l) =
+    inr (header s .1 (past-5 s e), inr (λ (k : sOf s < p). omega arith, inr (written s .1 e, refl)))
+reach-decided M s p m _ (damage h l e) = inr (header s .1 h, inr (λ (k : sOf s < p). omega arith, inl (written s .0 e, inl refl)))
+reach-decided M s p m _ (any-index h l e i k) =
+    inr (header s .1 h, inr (λ (z : sOf s < p). omega arith, inl (written s .0 e, inr (m i k))))

@@ -1,21 +1,28 @@
--- What demand 1 says of each call, in document 01's words: 'Where a call is turned down', line by line, and what C gets. Each law takes what
--- it says from `demand-1`, the last two from the exports' promise; a claim that says less fails here. Assumes nothing.
+-- What demand 1 says of each call, in document 01's words: 'Where a call is turned down', and what C gets. Each law takes what it says from
+-- `demand-1`, the last two from the exports' promise; a claim that says less fails here. Assumes nothing.
 use mathlib.Core.Path.{_≡_, refl, sym, ap, _∙_, subst}
-use mathlib.Core.Bool.{true}
+use mathlib.Core.Bool.{Bool, true, false}
 use mathlib.Core.List.{List, [], _∷_}
 use mathlib.Core.Logic.{_⊎_, inl, inr, ⊎-elim, _↔_, Iff·trans}
-use Prim.Native.Nat.{ℕ, _-_, _*_, _^_, _≤_, _<_}
+use Prim.Native.Nat.{ℕ, suc, _+_, _-_, _*_, _^_, _≤_, _<_}
+use native.Mathlib.Decide.{decLe}
+use native.Mathlib.Nat.{lt-of-not-le}
 use native.Mathlib.Omega.{arith}
+use lib.ListN.{getD}
 use Rattle.store.specs.Plain.{Append, Call, Count, Day, Free, Insert, Reach as ReachOf, Reading, Set, Strike}
 use Rattle.answers.specs.Store.{Answer, answered, changed, refused as turned}
 use Rattle.store.specs.Call.{call, freshCall}
+use Rattle.store.specs.Fitting.{Fitting}
 use Rattle.store.specs.Items.{Items}
+use Rattle.store.specs.Sound.{sound}
+use Rattle.store.proofs.ItemLaws.{sound-items}
 use Rattle.store.proofs.Refusals.{one-of-two}
 use Rattle.image.specs.Calls.{lengthCall, writeCall}
 use Rattle.image.specs.Check.{check}
 use Rattle.answers.specs.Image.{Verdict, fails, holds, Reply, given, refused}
 use Rattle.image.specs.Query.{count, reading}
 use Rattle.image.specs.Reach.{Reach}
+use Rattle.image.specs.Read.{nOf, sOf}
 use Rattle.freeze.specs.Freeze.{freezeCall}
 use Rattle.answers.specs.declared.image.Stretch.{Stretch}
 use Rattle.answers.specs.declared.image.Stretch.the-variants.{Run, Refused as NoStretch}
@@ -23,137 +30,72 @@ use Rattle.image_busiest.specs.Busiest.{BusiestCall}
 use Rattle.answers.specs.declared.image.Bag.{Bag}
 use Rattle.answers.specs.declared.image.Bag.the-variants.{Run as BagRun, None, Refused as NoBag}
 use Rattle.image_match.specs.Match.{MatchCall}
-use Rattle.hourlog_c.specs.Public.{Ends, Fresh, Freeze, ImageBusiest, ImageCheck, ImageCount, ImageLength, ImageMatch, ImageReach, ImageReading, ImageWrite, Live}
-use Rattle.words.specs.End.{End}
+use Rattle.hourlog_c.specs.Public.{Ends, Fresh, Freeze, ImageBusiest, ImageCheck, ImageCount, ImageFromBcd, ImageLength, ImageMatch, ImageReach}
+use Rattle.hourlog_c.specs.Public.{ImageReading, ImageToBcd, ImageWrite, Live}
 use Rattle.hourlog_c.specs.Public.{PublicCall, beside, lent}
-use Rattle.words.specs.End.{noRun, ofBag, ofCheck, ofImage, ofStore, ofStretch, refusal, theCells, theHours, theNumber, theRun, theSums}
+use Rattle.words.specs.End.{End, noRun, ofBag, ofCheck, ofImage, ofStore, ofStretch, refusal, theCells, theHours, theNumber, theRun, theSums}
 use Rattle.words.specs.ReadBack.{Reads, busiestFirst, busiestSum, checkedHours, checkedTotal, matchedFirst, matchedHours, returned, taken}
 use Rattle.hourlog_c.specs.Export.{Answers}
-use Rattle.words.proofs.EndLaws.{image-refused, store-refused}
-use Rattle.demands.specs.Demand1.{Among, Gives, Given, Kind, aNumber, cellsMoved, firstAndSum, hoursAndTotal, hoursOrNone, row}
-use Rattle.demands.proofs.Demand1.{demand-1}
-use Rattle.demands.proofs.Slices.{same-second, same-slice}
+use Rattle.demands.specs.Reasons.{NoHeader, NoneFits, Unsound, Wins, reasons}
+use Rattle.demands.specs.Demand1.{Allowed, Bytes, Gives, Given, Index, Kind, aNumber, cellsMoved, firstAndSum, hoursAndTotal, hoursOrNone, row}
+use Rattle.demands.proofs.Demand1.{demand-1, live-10}
+use Rattle.demands.proofs.Slices.{same-slice}
+use Rattle.demands.proofs.Winning.{Place, none-wins, stands, wins-at, without}
 
 -- ---- 'Nothing a caller lends can keep a call from ending'
 pub ends : (c : PublicCall) → (a : End) × (t : List (List ℕ)) × Ends c a t
 ends = demand-1 .some
 
--- ---- 'A refusal is its number alone; no byte changes'. Of the live calls and fresh
-module _ (s : List ℕ) (k : ℕ) where
-  live : (c : Call) → call c s .answer ≡ turned k → Among k (row (Live c s) .refusals) × (call c s .bytes ≡ s)
-  live c q =
-      let e : Ends (Live c s) (refusal k) (call c s .bytes ∷ beside c) = (sym (store-refused (call c s .answer) k .1 q), refl) in
-      (demand-1 .allowed (Live c s) (refusal k) (call c s .bytes ∷ beside c) e, same-slice (demand-1 .refused-keeps (Live c s) k (call c s .bytes ∷ beside c) e))
+-- ---- 'A refusal is its number alone; no byte changes'
+pub no-byte-changes : (c : PublicCall) (k : ℕ) (t : List (List ℕ)) → Ends c (refusal k) t → t ≡ lent c
+no-byte-changes = demand-1 .refused-keeps
 
-  -- 'fresh: 9'
-  pub fresh-refused : (P C : ℕ) → freshCall s P C .answer ≡ turned k → Among k (9 ∷ []) × (freshCall s P C .bytes ≡ s)
-  unfolding row
-  fresh-refused P C q =
-      let e : Ends (Fresh s P C) (refusal k) (freshCall s P C .bytes ∷ []) = (sym (store-refused (freshCall s P C .answer) k .1 q), refl) in (
-        demand-1 .allowed (Fresh s P C) (refusal k) (freshCall s P C .bytes ∷ []) e,
-        same-slice (demand-1 .refused-keeps (Fresh s P C) k (freshCall s P C .bytes ∷ []) e),
-      )
+-- ---- 'Where several fit, the earlier row wins.' A call that ends in refusal k does so because its reason fits and none before it does
+pub because : (c : PublicCall) (k : ℕ) (t : List (List ℕ)) → Bytes c → Ends c (refusal k) t → Wins k (reasons c)
+because c k = demand-1 .allowed c (refusal k)
 
-  -- 'store, every other live call and freeze: 10', then the plain list's: 'append v: refused 11 .., 3 .., 12 ..'
-  pub append-refused : (v : ℕ) → call (Append v) s .answer ≡ turned k → Among k (10 ∷ 11 ∷ 3 ∷ 12 ∷ []) × (call (Append v) s .bytes ≡ s)
-  unfolding row
-  append-refused v = live (Append v)
+-- where k is the first that fits the call ends in refusal k and in nothing else; reach alone may put an index in the place of 6
+pub nothing-else : (c : PublicCall) (a : End) (t : List (List ℕ)) (k : ℕ) → Bytes c → Ends c a t → ((n : ℕ) → Index c k n → ⊥) → Wins k (reasons c)
+    → a ≡ refusal k
+nothing-else c a t k b d m w = ⊎-elim (λ e. e) (λ x. absurd (m (x .0) (x .1))) (demand-1 .refuses c a t b d k w)
 
-  -- 'set i v: 7 if i ≥ N; 3; 12'
-  pub set-refused : (i v : ℕ) → call (Set i v) s .answer ≡ turned k → Among k (10 ∷ 7 ∷ 3 ∷ 12 ∷ []) × (call (Set i v) s .bytes ≡ s)
-  unfolding row
-  set-refused i v = live (Set i v)
+same-image : {i j : List ℕ} {p q : ℕ} → ImageReach i p ≡ ImageReach j q → i ≡ j
+same-image e = cc
 
-  -- document 02: 'Refusals 10, 7, 11, 3 and 12 apply in that order .. strike never meets 11 or 3'
-  pub insert-refused : (i v : ℕ) → call (Insert i v) s .answer ≡ turned k → Among k (10 ∷ 7 ∷ 11 ∷ 3 ∷ 12 ∷ []) × (call (Insert i v) s .bytes ≡ s)
-  unfolding row
-  insert-refused i v = live (Insert i v)
+-- 'reach past refusals 5 and 8 may give refusal 6 or any index from 0 to N'
+pub reach-six : (s : List ℕ) (p : ℕ) (a : End) (t : List (List ℕ)) → Ends (ImageReach s p) a t → Wins 6 (reasons (ImageReach s p))
+    → (a ≡ refusal 6) ⊎ ((n : ℕ) × (n ≤ nOf s) × (a ≡ theNumber n))
+reach-six s p a t d w =
+    ⊎-elim inl
+    (λ (x : (n : ℕ) × Index (ImageReach s p) 6 n × (a ≡ theNumber n)).
+    inr (x .0, subst (λ (i : List ℕ). x .0 ≤ nOf i) (sym (same-image (x .1 .2))) (x .1 .4), x .2))
+    (demand-1 .refuses (ImageReach s p) a t tt d 6 w)
 
-  pub strike-refused : (i : ℕ) → call (Strike i) s .answer ≡ turned k → Among k (10 ∷ 7 ∷ 12 ∷ []) × (call (Strike i) s .bytes ≡ s)
-  unfolding row
-  strike-refused i = live (Strike i)
+-- 'Nothing else is left free'
+pub only-reach : (c : PublicCall) (k n : ℕ) → Index c k n → (k ≡ 6) × ((i : List ℕ) × (p : ℕ) × (c ≡ ImageReach i p) × (n ≤ nOf i))
+only-reach c k n x = (x .3, (x .0, x .1, x .2, x .4))
 
-  -- 'count i: 7 if i ≥ N. Reading i: 7 if i > N'
-  pub count-refused : (i : ℕ) → call (Count i) s .answer ≡ turned k → Among k (10 ∷ 7 ∷ []) × (call (Count i) s .bytes ≡ s)
-  unfolding row
-  count-refused i = live (Count i)
+-- what is asked of the lent: that a store is bytes, and nothing else
+pub bytes-lent : (s : List ℕ) → ((i : ℕ) → getD s i 0 < 256) → ((c : Call) → Bytes (Live c s)) × ((e : ℕ) (out : List ℕ) → Bytes (Freeze s e out))
+bytes-lent s h = (λ c. h, λ e out. h)
 
-  pub reading-refused : (i : ℕ) → call (Reading i) s .answer ≡ turned k → Among k (10 ∷ 7 ∷ []) × (call (Reading i) s .bytes ≡ s)
-  unfolding row
-  reading-refused i = live (Reading i)
+pub anything-lent : (s t : List ℕ) (m n : ℕ) → Bytes (Fresh s m n) × Bytes (ImageLength s m) × Bytes (ImageWrite s m t) × Bytes (ImageCheck s)
+    × Bytes (ImageCount s m) × Bytes (ImageReading s m) × Bytes (ImageReach s m) × Bytes (ImageBusiest s m) × Bytes (ImageFromBcd s m t)
+    × Bytes (ImageToBcd s t) × Bytes (ImageMatch s m)
+anything-lent s t m n = (tt, tt, tt, tt, tt, tt, tt, tt, tt, tt, tt)
 
-  -- 'reach p: 8 if p is above the total'
-  pub reach-refused : (p : ℕ) → call (ReachOf p) s .answer ≡ turned k → Among k (10 ∷ 8 ∷ []) × (call (ReachOf p) s .bytes ≡ s)
-  unfolding row
-  reach-refused p = live (ReachOf p)
-
-  -- 'day d', of document 02's note 4: '16, right after 10', '7 now stands for a day whose end is above N'
-  pub day-refused : (d : ℕ) (changes : List ℕ) → call (Day d changes) s .answer ≡ turned k
-      → Among k (10 ∷ 16 ∷ 7 ∷ []) × (call (Day d changes) s .bytes ≡ s)
-  unfolding row
-  day-refused d changes = live (Day d changes)
-
-  -- 'free: C - need'
-  pub free-refused : call Free s .answer ≡ turned k → Among k (10 ∷ []) × (call Free s .bytes ≡ s)
-  unfolding row
-  free-refused = live Free
-
--- ---- of the calls on an image
-module _ (e k : ℕ) (xs out : List ℕ) where
-  -- 'page size (length, write, freeze): 1', 'list (length, write): 2', 'total: 3'
-  pub length-refused : lengthCall e xs ≡ refused k → Among k (1 ∷ 2 ∷ 3 ∷ [])
-  unfolding row
-  length-refused q = demand-1 .allowed (ImageLength xs e) (refusal k) (xs ∷ []) (sym (image-refused (lengthCall e xs) k .1 q), refl)
-
-  -- then 'output buffer: 4'
-  pub write-refused : writeCall e xs out .reply ≡ refused k → Among k (1 ∷ 2 ∷ 3 ∷ 4 ∷ []) × (writeCall e xs out .bytes ≡ out)
-  unfolding row
-  write-refused q =
-      let t : List (List ℕ) = xs ∷ writeCall e xs out .bytes ∷ [] in
-      let d : Ends (ImageWrite xs e out) (refusal k) t = (sym (image-refused (writeCall e xs out .reply) k .1 q), refl) in
-      (demand-1 .allowed (ImageWrite xs e out) (refusal k) t d, same-second (demand-1 .refused-keeps (ImageWrite xs e out) k t d))
-
-  -- freeze: 10, 1, 4; a store's list has neither 2 nor 3. Here xs is the store
-  pub freeze-refused : freezeCall e xs out .reply ≡ refused k → Among k (10 ∷ 1 ∷ 4 ∷ []) × (freezeCall e xs out .bytes ≡ out)
-  unfolding row
-  freeze-refused q =
-      let t : List (List ℕ) = xs ∷ freezeCall e xs out .bytes ∷ [] in
-      let d : Ends (Freeze xs e out) (refusal k) t = (sym (image-refused (freezeCall e xs out .reply) k .1 q), refl) in
-      (demand-1 .allowed (Freeze xs e out) (refusal k) t d, same-second (demand-1 .refused-keeps (Freeze xs e out) k t d))
-
-check-told : (v : Verdict) (k : ℕ) → v ≡ fails k → refusal k ≡ ofCheck v
-unfolding ofCheck
-check-told v k q = rw q refl
-
-module _ (s : List ℕ) (k : ℕ) where
-  -- 'image header: 5', 'image body: 6'
-  pub check-refused : check s ≡ fails k → Among k (5 ∷ 6 ∷ [])
-  unfolding row
-  check-refused q = demand-1 .allowed (ImageCheck s) (refusal k) (s ∷ []) (check-told (check s) k q, refl)
-
-  -- between them 'hour: 7'
-  pub image-count-refused : (i : ℕ) → count s i ≡ refused k → Among k (5 ∷ 7 ∷ 6 ∷ [])
-  unfolding row
-  image-count-refused i q = demand-1 .allowed (ImageCount s i) (refusal k) (s ∷ []) (sym (image-refused (count s i) k .1 q), refl)
-
-  pub image-reading-refused : (i : ℕ) → reading s i ≡ refused k → Among k (5 ∷ 7 ∷ 6 ∷ [])
-  unfolding row
-  image-reading-refused i q = demand-1 .allowed (ImageReading s i) (refusal k) (s ∷ []) (sym (image-refused (reading s i) k .1 q), refl)
-
-  -- or 'figure: 8'
-  pub image-reach-refused : (p : ℕ) → Reach s p (refused k) → Among k (5 ∷ 8 ∷ 6 ∷ [])
-  unfolding row ofImage
-  image-reach-refused p q = demand-1 .allowed (ImageReach s p) (refusal k) (s ∷ []) ((refused k, q, refl), refl)
-
-  -- document 02, note 1: 'It refuses after 5 and 6 with 13'
-  pub busiest-refused : (n : ℕ) → BusiestCall s n (NoStretch k) → Among k (5 ∷ 6 ∷ 13 ∷ [])
-  unfolding row ofStretch
-  busiest-refused n q = demand-1 .allowed (ImageBusiest s n) (refusal k) (s ∷ []) ((NoStretch k, q, refl), refl)
-
-  -- note 7: 'It refuses with 17, after 5 and 6'
-  pub match-refused : (q : ℕ) → MatchCall s q (NoBag k) → Among k (5 ∷ 6 ∷ 17 ∷ [])
-  unfolding row ofBag
-  match-refused q m = demand-1 .allowed (ImageMatch s q) (refusal k) (s ∷ []) ((NoBag k, m, refl), refl)
+-- where no reason fits the call gives its result: one that turns all down is shut out
+pub gives-result : (c : PublicCall) (a : End) (t : List (List ℕ)) → Bytes c → Ends c a t → NoneFits (reasons c) → Gives (row c .gives) a
+gives-result c a t b d n = go a (demand-1 .allowed c a t b d)
+  where
+    go : (a : End) → Allowed c a → Gives (row c .gives) a
+    go (theNumber m) w = w
+    go (theCells u v) w = w
+    go (theSums m s) w = w
+    go (theRun f s) w = w
+    go (theHours f m) w = w
+    go noRun w = w
+    go (refusal k) w = none-wins (reasons c) k n w
 
 -- ---- a question changes no byte
 module _ (s : List ℕ) where
@@ -214,12 +156,42 @@ module _ (s : List ℕ) (a : End) (t : List (List ℕ)) where
   unfolding row
   match-asks q = demand-1 .question-keeps (ImageMatch s q) a t refl
 
--- ---- what C gets. A word of 2^63 or above is minus one of the call's refusals, and then no lent byte changed
-pub minus-refusal : (c : PublicCall) (w : ℕ) (t : List (List ℕ)) → Answers c w t → 2 ^ 63 ≤ w → Among (2 ^ 64 - w) (row c .refusals) × (t ≡ lent c)
+-- ---- what C gets. A word of 2^63 or above is minus the number of the first reason that fits, and then no lent byte changed
+pub minus-refusal : (c : PublicCall) (w : ℕ) (t : List (List ℕ)) → Answers c w t → 2 ^ 63 ≤ w → Wins (2 ^ 64 - w) (reasons c) × (t ≡ lent c)
 minus-refusal c w t a l =
     let r = demand-1 .below c w t a l in
-    let e : 2 ^ 64 - w ≡ r .number = omega (arith, r .minus) in
-    (rw e (r .numbered), r .kept)
+    let e : r .number ≡ 2 ^ 64 - w = omega (arith, r .minus) in
+    (subst (λ (k : ℕ). Wins k (reasons c)) e (r .wins), r .kept)
+
+-- it is 2^64 - k exactly where k is the first that fits, but for reach and 6
+pub minus-exactly : (c : PublicCall) (w : ℕ) (t : List (List ℕ)) (k : ℕ) → 1 ≤ k → k ≤ 20 → (Index c k w → ⊥) → Answers c w t
+    → (w ≡ 2 ^ 64 - k) ↔ Wins k (reasons c)
+minus-exactly c w t k g h m a = (
+  λ (q : w ≡ 2 ^ 64 - k).
+      let e : 2 ^ 64 - w ≡ k = omega arith in
+      subst (λ (j : ℕ). Wins j (reasons c)) e (minus-refusal c w t a (omega arith) .0),
+  λ v. ⊎-elim (λ (e : w + k ≡ 2 ^ 64). omega arith) (λ x. absurd (m x)) (demand-1 .first-that-fits c w t a k v),
+)
+
+-- the same by the place of k in the call's row
+pub minus-at : (c : PublicCall) (w : ℕ) (t : List (List ℕ)) (k n : ℕ) → 1 ≤ k → k ≤ 20 → (Index c k w → ⊥) → stands k n (reasons c) ≡ true
+    → Answers c w t → (w ≡ 2 ^ 64 - k) ↔ Place n (reasons c)
+minus-at c w t k n g h m e a = Iff·trans (minus-exactly c w t k g h m a) (wins-at k n (reasons c) e)
+
+pub reach-six-word : (s : List ℕ) (p w : ℕ) (t : List (List ℕ)) → Answers (ImageReach s p) w t → Wins 6 (reasons (ImageReach s p))
+    → (w ≡ 2 ^ 64 - 6) ⊎ (w ≤ nOf s)
+reach-six-word s p w t a v =
+    ⊎-elim (λ (e : w + 6 ≡ 2 ^ 64). inl (omega arith))
+    (λ (x : Index (ImageReach s p) 6 w). inr (subst (λ (i : List ℕ). w ≤ nOf i) (sym (same-image (x .2))) (x .4)))
+    (demand-1 .first-that-fits (ImageReach s p) w t a 6 v)
+
+-- and zero or above where none fits
+pub result-word : (c : PublicCall) (w : ℕ) (t : List (List ℕ)) → Answers c w t → NoneFits (reasons c) → w < 2 ^ 63
+result-word c w t a n = go (decLe (2 ^ 63) w)
+  where
+    go : Dec (2 ^ 63 ≤ w) → w < 2 ^ 63
+    go (yes l) = absurd (none-wins (reasons c) (2 ^ 64 - w) n (minus-refusal c w t a l .0))
+    go (no m) = omega arith
 
 -- any other is the answer. What each kind of answer is read as
 number-in : {K : Kind} → K ≡ aNumber → (a : End) (w : ℕ) → Gives K a → Reads a w → a ≡ theNumber w
@@ -467,3 +439,35 @@ live-unsound c s w t a = Iff·trans (minus-in 10 (omega arith) (omega arith) (a 
 pub freeze-unsound : (s : List ℕ) (e : ℕ) (out : List ℕ) (w : ℕ) (t : List (List ℕ)) → Answers (Freeze s e out) w t
     → (w ≡ 2 ^ 64 - 10) ↔ (Items s → ⊥)
 freeze-unsound s e out w t a = Iff·trans (minus-in 10 (omega arith) (omega arith) (a .answer) w (a .reads)) (a .ten)
+
+-- past 10 a store meets the clauses of a sound one
+pub meets : (c : Call) (s : List ℕ) (w : ℕ) (t : List (List ℕ)) → Answers (Live c s) w t → (Unsound s → ⊥) → Items s
+meets c s w t a n = go (sound s) refl
+  where
+    go : (b : Bool) → sound s ≡ b → Items s
+    go true e = sound-items s e
+    go false e = absurd (n (live-10 c s (a .answer) (a .ends .0) (inr (a .ten)) e))
+
+-- what is not below is at least as large
+pub not-below : (m n : ℕ) → (m < n → ⊥) → n ≤ m
+not-below m n f = let l : n < suc m = lt-of-not-le f in omega arith
+
+-- ---- rows in C's words: 'fresh: 9, P, C or buffer length wrong', and where they are right a store is made
+module _ (s : List ℕ) (P C w : ℕ) (t : List (List ℕ)) (a : Answers (Fresh s P C) w t) where
+  pub fresh-minus-9 : (w ≡ 2 ^ 64 - 9) ↔ (Fitting s P C → ⊥)
+  unfolding reasons without stands
+  fresh-minus-9 = minus-at (Fresh s P C) w t 9 0 (omega arith) (omega arith) (λ x. omega (arith, x .3)) refl a
+
+  pub fresh-made : Fitting s P C → w < 2 ^ 63
+  unfolding reasons
+  fresh-made f = result-word (Fresh s P C) w t a (λ n. n f, tt)
+
+-- reach: 'past refusals 5 and 8' alone anything is left free
+module _ (s : List ℕ) (p w : ℕ) (t : List (List ℕ)) (a : Answers (ImageReach s p) w t) where
+  pub reach-minus-5 : (w ≡ 2 ^ 64 - 5) ↔ NoHeader s
+  unfolding reasons without stands
+  reach-minus-5 = minus-at (ImageReach s p) w t 5 0 (omega arith) (omega arith) (λ x. omega (arith, x .3)) refl a
+
+  pub reach-minus-8 : (w ≡ 2 ^ 64 - 8) ↔ ((NoHeader s → ⊥) × (sOf s < p))
+  unfolding reasons without stands
+  reach-minus-8 = minus-at (ImageReach s p) w t 8 1 (omega arith) (omega arith) (λ x. omega (arith, x .3)) refl a

@@ -1,18 +1,21 @@
 -- Demand 1: 'Nothing a caller lends can keep a call from ending in its result or in one of its numbered refusals. A refused call changes
 -- no byte.' Assumes nothing.
 use mathlib.Core.Bool.{Bool, true, false}
-use mathlib.Core.List.{List, [], _∷_}
+use mathlib.Core.List.{List}
+use mathlib.Core.Logic.{_⊎_}
 use mathlib.Core.Path.{_≡_}
 use Prim.Native.Nat.{ℕ, _+_, _^_, _≤_, _<_}
-use Rattle.lists.specs.Lists.{occurrences}
+use lib.ListN.{getD}
+use Rattle.image.specs.Read.{nOf}
 use Rattle.store.specs.Plain.{Append, Count, Day, Free, Insert, Reach, Reading, Set, Strike}
-use Rattle.hourlog_c.specs.Public.{Ends, Fresh, Freeze, ImageBusiest, ImageCheck, ImageCount, ImageFromBcd, ImageLength, ImageMatch, ImageReach, ImageReading}
+use Rattle.hourlog_c.specs.Public.{Ends, Fresh, Freeze, ImageBusiest, ImageCheck, ImageCount, ImageFromBcd, ImageLength, ImageMatch, ImageReach}
 use Rattle.words.specs.End.{End}
-use Rattle.hourlog_c.specs.Public.{ImageToBcd, ImageWrite, Live}
+use Rattle.hourlog_c.specs.Public.{ImageReading, ImageToBcd, ImageWrite, Live}
 use Rattle.hourlog_c.specs.Public.{PublicCall, lent}
 use Rattle.words.specs.End.{noRun, refusal, theCells, theHours, theNumber, theRun, theSums}
 use Rattle.words.specs.ReadBack.{Reads}
 use Rattle.hourlog_c.specs.Export.{Answers}
+use Rattle.demands.specs.Reasons.{Wins, reasons}
 
 -- what a call gives that is not refused: a number, the cells taken and given back, N and S, a run's first hour and its sum, a
 -- run's first hour and its hours or that there is none
@@ -32,55 +35,70 @@ Gives k (theHours f n) = k ≡ hoursOrNone
 Gives k noRun = k ≡ hoursOrNone
 Gives k (refusal j) = ⊥
 
--- A call's row of the table 'Where a call is turned down', or what its note in document 02 says of it: its refusals in their order, as numbers,
--- so that row and table can be held against each other; what it gives else; whether it is a question, which changes nothing
+-- The end of a call's row, where no reason to turn it down fits: what it gives, and whether it is a question, which changes nothing
 pub record Row : Type 0 where
-  pub refusals : List ℕ
   pub gives : Kind
   pub question : Bool
 
 unfoldable pub row : PublicCall → Row
-row (Fresh s P C) = record { refusals = 9 ∷ []; gives = aNumber; question = false }
-row (Live (Append v) s) = record { refusals = 10 ∷ 11 ∷ 3 ∷ 12 ∷ []; gives = cellsMoved; question = false }
-row (Live (Set i v) s) = record { refusals = 10 ∷ 7 ∷ 3 ∷ 12 ∷ []; gives = cellsMoved; question = false }
--- document 02, note 5: 'Refusals 10, 7, 11, 3 and 12 apply in that order', 'strike never meets 11 or 3'
-row (Live (Insert i v) s) = record { refusals = 10 ∷ 7 ∷ 11 ∷ 3 ∷ 12 ∷ []; gives = cellsMoved; question = false }
-row (Live (Strike i) s) = record { refusals = 10 ∷ 7 ∷ 12 ∷ []; gives = cellsMoved; question = false }
-row (Live (Count i) s) = record { refusals = 10 ∷ 7 ∷ []; gives = aNumber; question = true }
-row (Live (Reading i) s) = record { refusals = 10 ∷ 7 ∷ []; gives = aNumber; question = true }
-row (Live (Reach p) s) = record { refusals = 10 ∷ 8 ∷ []; gives = aNumber; question = true }
-row (Live (Day d changes) s) = record { refusals = 10 ∷ 16 ∷ 7 ∷ []; gives = aNumber; question = true }
-row (Live Free s) = record { refusals = 10 ∷ []; gives = aNumber; question = true }
-row (Freeze s e i) = record { refusals = 10 ∷ 1 ∷ 4 ∷ []; gives = aNumber; question = false }
-row (ImageLength xs e) = record { refusals = 1 ∷ 2 ∷ 3 ∷ []; gives = aNumber; question = true }
-row (ImageWrite xs e i) = record { refusals = 1 ∷ 2 ∷ 3 ∷ 4 ∷ []; gives = aNumber; question = false }
-row (ImageCheck i) = record { refusals = 5 ∷ 6 ∷ []; gives = hoursAndTotal; question = true }
-row (ImageCount i k) = record { refusals = 5 ∷ 7 ∷ 6 ∷ []; gives = aNumber; question = true }
-row (ImageReading i k) = record { refusals = 5 ∷ 7 ∷ 6 ∷ []; gives = aNumber; question = true }
-row (ImageReach i p) = record { refusals = 5 ∷ 8 ∷ 6 ∷ []; gives = aNumber; question = true }
-row (ImageBusiest i k) = record { refusals = 5 ∷ 6 ∷ 13 ∷ []; gives = firstAndSum; question = true }
-row (ImageFromBcd b e i) = record { refusals = 1 ∷ 14 ∷ 2 ∷ 4 ∷ []; gives = aNumber; question = false }
-row (ImageToBcd i b) = record { refusals = 5 ∷ 6 ∷ 15 ∷ 4 ∷ []; gives = aNumber; question = false }
-row (ImageMatch i q) = record { refusals = 5 ∷ 6 ∷ 17 ∷ []; gives = hoursOrNone; question = true }
+row (Fresh s P C) = record { gives = aNumber; question = false }
+row (Live (Append v) s) = record { gives = cellsMoved; question = false }
+row (Live (Set i v) s) = record { gives = cellsMoved; question = false }
+row (Live (Insert i v) s) = record { gives = cellsMoved; question = false }
+row (Live (Strike i) s) = record { gives = cellsMoved; question = false }
+row (Live (Count i) s) = record { gives = aNumber; question = true }
+row (Live (Reading i) s) = record { gives = aNumber; question = true }
+row (Live (Reach p) s) = record { gives = aNumber; question = true }
+row (Live (Day d changes) s) = record { gives = aNumber; question = true }
+row (Live Free s) = record { gives = aNumber; question = true }
+row (Freeze s e i) = record { gives = aNumber; question = false }
+row (ImageLength xs e) = record { gives = aNumber; question = true }
+row (ImageWrite xs e i) = record { gives = aNumber; question = false }
+row (ImageCheck i) = record { gives = hoursAndTotal; question = true }
+row (ImageCount i k) = record { gives = aNumber; question = true }
+row (ImageReading i k) = record { gives = aNumber; question = true }
+row (ImageReach i p) = record { gives = aNumber; question = true }
+row (ImageBusiest i k) = record { gives = firstAndSum; question = true }
+row (ImageFromBcd b e i) = record { gives = aNumber; question = false }
+row (ImageToBcd i b) = record { gives = aNumber; question = false }
+row (ImageMatch i q) = record { gives = hoursOrNone; question = true }
 
--- one of these numbers
-abbrev pub Among : ℕ → List ℕ → Type 0
-Among k ks = 1 ≤ occurrences k ks
+-- an answer that the call's reasons allow: the refusal of the first that fits, or a result of the call's kind
+abbrev pub Allowed : PublicCall → End → Type 0
+Allowed c (theNumber n) = Gives (row c .gives) (theNumber n)
+Allowed c (theCells t u) = Gives (row c .gives) (theCells t u)
+Allowed c (theSums n s) = Gives (row c .gives) (theSums n s)
+Allowed c (theRun f s) = Gives (row c .gives) (theRun f s)
+Allowed c (theHours f n) = Gives (row c .gives) (theHours f n)
+Allowed c noRun = Gives (row c .gives) noRun
+Allowed c (refusal k) = Wins k (reasons c)
 
--- an answer that the row allows
-abbrev pub Allowed : Row → End → Type 0
-Allowed r (theNumber n) = Gives (r .gives) (theNumber n)
-Allowed r (theCells t u) = Gives (r .gives) (theCells t u)
-Allowed r (theSums n s) = Gives (r .gives) (theSums n s)
-Allowed r (theRun f s) = Gives (r .gives) (theRun f s)
-Allowed r (theHours f n) = Gives (r .gives) (theHours f n)
-Allowed r noRun = Gives (r .gives) noRun
-Allowed r (refusal k) = Among k (r .refusals)
+-- What may stand in the place of refusal k: 'On an image that check doesn't accept, reach past refusals 5 and 8 may give refusal 6 or any index
+-- from 0 to N. Nothing else is left free'
+abbrev pub Index : PublicCall → ℕ → ℕ → Type 0
+Index c k n = (i : List ℕ) × (p : ℕ) × (c ≡ ImageReach i p) × (k ≡ 6) × (n ≤ nOf i)
 
--- C gets the word w, below zero as a signed number of 64 bits: minus one of the call's refusals, and nothing that was lent has changed
+-- a store is lent as bytes
+abbrev pub Bytes : PublicCall → Type 0
+Bytes (Fresh s P C) = Unit {0}
+Bytes (Live c s) = (i : ℕ) → getD s i 0 < 256
+Bytes (Freeze s e i) = (j : ℕ) → getD s j 0 < 256
+Bytes (ImageLength xs e) = Unit {0}
+Bytes (ImageWrite xs e i) = Unit {0}
+Bytes (ImageCheck i) = Unit {0}
+Bytes (ImageCount i j) = Unit {0}
+Bytes (ImageReading i j) = Unit {0}
+Bytes (ImageReach i p) = Unit {0}
+Bytes (ImageBusiest i j) = Unit {0}
+Bytes (ImageFromBcd b e i) = Unit {0}
+Bytes (ImageToBcd i b) = Unit {0}
+Bytes (ImageMatch i q) = Unit {0}
+
+-- C gets the word w, below zero as a signed number of 64 bits: minus the refusal of the first reason that fits, and nothing that was lent has
+-- changed
 pub record Refused (c : PublicCall) (w : ℕ) (t : List (List ℕ)) : Type 0 where
   pub number : ℕ
-  pub numbered : Among number (row c .refusals)
+  pub wins : Wins number (reasons c)
   pub minus : w + number ≡ 2 ^ 64
   pub kept : t ≡ lent c
 
@@ -96,8 +114,11 @@ pub record Given (c : PublicCall) (w : ℕ) (t : List (List ℕ)) : Type 0 where
 pub record Demand1 : Type 0 where
   -- there is an answer to end in
   pub some : (c : PublicCall) → (a : End) × (t : List (List ℕ)) × Ends c a t
-  -- 'its result or one of its numbered refusals'
-  pub allowed : (c : PublicCall) (a : End) (t : List (List ℕ)) → Ends c a t → Allowed (row c) a
+  -- 'its result or one of its numbered refusals', and this one because it is the first whose reason fits
+  pub allowed : (c : PublicCall) (a : End) (t : List (List ℕ)) → Bytes c → Ends c a t → Allowed c a
+  -- 'Where several fit, the earlier row wins': where k is the first that fits, the call ends in refusal k and nothing else
+  pub refuses : (c : PublicCall) (a : End) (t : List (List ℕ)) → Bytes c → Ends c a t → (k : ℕ) → Wins k (reasons c)
+      → (a ≡ refusal k) ⊎ ((n : ℕ) × Index c k n × (a ≡ theNumber n))
   -- 'A refused call changes no byte'
   pub refused-keeps : (c : PublicCall) (k : ℕ) (t : List (List ℕ)) → Ends c (refusal k) t → t ≡ lent c
   -- nor does a question
@@ -105,3 +126,4 @@ pub record Demand1 : Type 0 where
   -- the same in the words that C gets, from what the exports promise
   pub below : (c : PublicCall) (w : ℕ) (t : List (List ℕ)) → Answers c w t → 2 ^ 63 ≤ w → Refused c w t
   pub above : (c : PublicCall) (w : ℕ) (t : List (List ℕ)) → Answers c w t → w < 2 ^ 63 → Given c w t
+  pub first-that-fits : (c : PublicCall) (w : ℕ) (t : List (List ℕ)) → Answers c w t → (k : ℕ) → Wins k (reasons c) → (w + k ≡ 2 ^ 64) ⊎ Index c k w

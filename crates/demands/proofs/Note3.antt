@@ -1,39 +1,66 @@
--- What demand 1 says of the calls between books and images, in document 02's words, and over and back in the words that C gets. Each law takes
--- what it says from `demand-1` or `round-trips`; a claim that says less fails here. Assumes nothing.
-use mathlib.Core.Path.{_≡_, refl, sym, _∙_}
+-- Document 02, note 3, in its own words, of the word that C gets: the calls between books and images. Each law takes what it says from `demand-1`
+-- or `round-trips`; a claim that says less fails here. Assumes nothing.
+use mathlib.Core.Bool.{true}
 use mathlib.Core.List.{List, [], _∷_}
-use Prim.Native.Nat.{ℕ, _^_, _≤_, _<_}
-use lib.ListN.{length, take}
-use Rattle.answers.specs.Image.{given, refused}
-use Rattle.image.specs.Read.{eOf}
+use mathlib.Core.Logic.{_⊎_, inl, inr, _↔_}
+use mathlib.Core.Path.{_≡_, refl, sym, _∙_}
+use Prim.Native.Nat.{ℕ, _-_, _*_, _/_, _%_, _^_, _≤_, _<_}
+use native.Mathlib.Omega.{arith}
+use lib.ListN.{length, getD, take}
+use Rattle.answers.specs.Image.{given}
+use Rattle.image.specs.Check.{accepted}
+use Rattle.image.specs.Read.{eOf, listOf, nOf}
 use Rattle.book_in.specs.FromBook.{fromCall}
 use Rattle.book_out.specs.ToBook.{toCall}
 use Rattle.book_trips.specs.RoundTrips.{Gave}
 use Rattle.book_trips.proofs.Trips.{round-trips}
 use Rattle.book_trips.proofs.Given.{from-long, to-long}
-use Rattle.hourlog_c.specs.Public.{Ends, ImageFromBcd, ImageToBcd}
-use Rattle.words.specs.End.{refusal}
+use Rattle.hourlog_c.specs.Public.{ImageFromBcd, ImageToBcd}
 use Rattle.hourlog_c.specs.Export.{Answers}
-use Rattle.words.proofs.EndLaws.{image-refused}
-use Rattle.demands.specs.Demand1.{Among, Given, row}
+use Rattle.demands.specs.Reasons.{NoPageSize, TooWide, reasons}
+use Rattle.demands.specs.Demand1.{Given, row}
 use Rattle.demands.proofs.Demand1.{demand-1}
-use Rattle.demands.proofs.Sentences1.{image-number, number}
+use Rattle.demands.proofs.ReasonTests.{accepted-passes, past-6}
+use Rattle.demands.proofs.Sentences1.{image-number, minus-at, not-below, number}
 use Rattle.demands.proofs.Slices.{same-second}
+use Rattle.demands.proofs.Winning.{stands, without}
 
--- ---- 'with 14, after 1 and before 2 .., and with 15, after 5 and 6 and before 4'; refused, no byte changes
-pub from-refused : (e k : ℕ) (b out : List ℕ) → fromCall e b out .reply ≡ refused k → Among k (1 ∷ 14 ∷ 2 ∷ 4 ∷ []) × (fromCall e b out .bytes ≡ out)
-unfolding row
-from-refused e k b out q =
-    let t : List (List ℕ) = b ∷ fromCall e b out .bytes ∷ [] in
-    let d : Ends (ImageFromBcd b e out) (refusal k) t = (sym (image-refused (fromCall e b out .reply) k .1 q), refl) in
-    (demand-1 .allowed (ImageFromBcd b e out) (refusal k) t d, same-second (demand-1 .refused-keeps (ImageFromBcd b e out) k t d))
+-- ---- 'It refuses with 14, after 1 and before 2, a book of odd length or with a digit above 9', and then alone
+a-page-size : (e : ℕ) → (NoPageSize e → ⊥) ↔ ((2 ≤ e) × (e ≤ 8))
+a-page-size e = (λ n. (not-below e 2 (λ l. n (inl l)), not-below 8 e (λ l. n (inr l))), outside)
+  where
+    outside : (2 ≤ e) × (e ≤ 8) → NoPageSize e → ⊥
+    outside w (inl l) = omega (arith, w .0)
+    outside w (inr l) = omega (arith, w .1)
 
-pub to-refused : (k : ℕ) (s out : List ℕ) → toCall s out .reply ≡ refused k → Among k (5 ∷ 6 ∷ 15 ∷ 4 ∷ []) × (toCall s out .bytes ≡ out)
-unfolding row
-to-refused k s out q =
-    let t : List (List ℕ) = s ∷ toCall s out .bytes ∷ [] in
-    let d : Ends (ImageToBcd s out) (refusal k) t = (sym (image-refused (toCall s out .reply) k .1 q), refl) in
-    (demand-1 .allowed (ImageToBcd s out) (refusal k) t d, same-second (demand-1 .refused-keeps (ImageToBcd s out) k t d))
+pub refused-14 : (b : List ℕ) (e : ℕ) (out : List ℕ) (w : ℕ) (t : List (List ℕ)) → Answers (ImageFromBcd b e out) w t
+    → (w ≡ 2 ^ 64 - 14)
+    ↔ ((2 ≤ e) × (e ≤ 8) × ((length b % 2 ≡ 1) ⊎ ((i : ℕ) × (i < length b) × ((9 < getD b i 0 / 16) ⊎ (9 < getD b i 0 % 16)))))
+unfolding reasons without stands
+refused-14 b e out w t a =
+    let m = minus-at (ImageFromBcd b e out) w t 14 1 (omega arith) (omega arith) (λ x. omega (arith, x .3)) refl a in (
+      λ q. let x = m .0 q in let s = a-page-size e .0 (x .0) in (s .0, s .1, x .1),
+      λ x. m .1 (a-page-size e .1 (x .0, x .1), x .2),
+    )
+
+-- ---- 'with 15, after 5 and 6 .., an image with a count above 9999', and then alone
+module _ (s out : List ℕ) (w : ℕ) (t : List (List ℕ)) (a : Answers (ImageToBcd s out) w t) where
+  pub refused-15 : (w ≡ 2 ^ 64 - 15) ↔ ((accepted s ≡ true) × ((i : ℕ) × (i < nOf s) × (9999 < getD (listOf s) i 0)))
+  unfolding reasons without stands
+  refused-15 =
+      let m = minus-at (ImageToBcd s out) w t 15 2 (omega arith) (omega arith) (λ x. omega (arith, x .3)) refl a in (
+        λ q. let x = m .0 q .1 in (past-6 s (x .0), x .1),
+        λ x. let p = accepted-passes s (x .0) in m .1 (p .0, (p .1, x .1)),
+      )
+
+  -- '4, which comes last here', 'also covers a buffer shorter than the book': two bytes an hour
+  pub refused-4 : (w ≡ 2 ^ 64 - 4) ↔ ((accepted s ≡ true) × (TooWide s → ⊥) × (length out < 2 * nOf s))
+  unfolding reasons without stands
+  refused-4 =
+      let m = minus-at (ImageToBcd s out) w t 4 3 (omega arith) (omega arith) (λ x. omega (arith, x .3)) refl a in (
+        λ q. let x = m .0 q .1 in (past-6 s (x .0), x .1 .0, x .1 .1),
+        λ x. let p = accepted-passes s (x .0) in m .1 (p .0, (p .1, (x .1, x .2))),
+      )
 
 -- ---- 'Both calls return how many bytes they wrote'. The word w is no refusal; o is the buffer afterwards
 pub from-word : (e w : ℕ) (b out o : List ℕ) → w < 2 ^ 63 → Answers (ImageFromBcd b e out) w (b ∷ o ∷ []) → Gave (fromCall e b out) (take w o)

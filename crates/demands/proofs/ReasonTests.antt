@@ -1,0 +1,315 @@
+-- The tests of the definitions, held against the facts of the reasons. Assumes nothing.
+use mathlib.Core.Path.{_≡_, refl, sym, ap, _∙_}
+use mathlib.Core.Bool.{Bool, true, false, _&&_, not, true≢false}
+use mathlib.Core.List.{List, [], _∷_, map}
+use mathlib.Core.Logic.{_⊎_, inl, inr, ⊎-elim, _↔_}
+use Prim.Native.Nat.{ℕ, zero, suc, _+_, _-_, _/_, _%_, _^_, _≤_, _<_}
+use native.Mathlib.Decide.{ℕ-discrete}
+use native.Mathlib.Omega.{arith}
+use lib.ListN.{length, getD}
+use lib.Dec.{eqb, leb, ltb}
+use borrow.Author.Tests.{eq-eqb, eqb-true, le-leb, le-ltb, leb-false, leb-true, lt-ltb, ltb-false, ltb-true, not-false, not-true}
+use Rattle.lists.specs.Lists.{every, pick}
+use Rattle.lists.proofs.Tests.{each, every-no, every-of, left, right}
+use Rattle.bits.specs.Bits.{bits}
+use Rattle.reserve.specs.Reserve.{reserve}
+use Rattle.tree.specs.Read.{Found, damaged, found, later, leftAt, leftOf, rightAt, walk}
+use Rattle.days.specs.Days.{ChangesWrong, changesFit}
+use Rattle.days.proofs.ListedDays.{wrong-exactly}
+use Rattle.store.specs.Fitting.{Fitting, fits}
+use Rattle.store.specs.Sound.{sound}
+use Rattle.store.proofs.ItemLaws.{sound-items}
+use Rattle.store.proofs.LimitLaws.{fits-so, fitting}
+use Rattle.image.specs.Check.{accepted, headTests, headed}
+use Rattle.image.specs.Image.{bytesFor, pages, size}
+use Rattle.image.specs.Query.{beforePassing, look, lookIn, pageFine, pageTests, passing}
+use Rattle.image.specs.Read.{beforeOf, eOf, lOf, listOf, nOf, rootOf, sOf, startOf, sumOf, treeAt, widthOf}
+use Rattle.image.proofs.Accepted.{accepted-only, length-list}
+use Rattle.image.proofs.CheckLaws.{past-5}
+use Rattle.book.specs.Book.{decimal, decimalByte, fourDigits}
+use Rattle.book.proofs.BookLaws.{digits-of, four-at}
+use Rattle.demands.specs.Reasons.{Damage, Header, LeftAbove, NoHeader, NoImage, NoPageSize, NotDecimal, PageDamage, TooWide, Unsound}
+use Rattle.demands.specs.Reasons.{before-above, before-passing, below-before, left-above, root-above, root-passing, tree-passing}
+use Rattle.demands.proofs.Theorems.{accepted-if}
+
+-- a test that holds exactly where F does, and one that holds exactly where F does not
+abbrev pub Tells : Bool → Type 0 → Type 0
+Tells b F = (b ≡ true → F) × (b ≡ false → F → ⊥)
+
+abbrev pub Denies : Bool → Type 0 → Type 0
+Denies b F = (b ≡ false → F) × (b ≡ true → F → ⊥)
+
+pub at-most : (a b : ℕ) → Tells (leb a b) (a ≤ b)
+at-most a b = (leb-true a b, λ e l. let m = leb-false a b e in omega arith)
+
+pub below : (a b : ℕ) → Tells (ltb a b) (a < b)
+below a b = (ltb-true a b, λ e l. let m = ltb-false a b e in omega arith)
+
+pub not-above : (a b : ℕ) → Denies (leb a b) (b < a)
+not-above a b = (leb-false a b, λ e l. let m = leb-true a b e in omega arith)
+
+-- ---- a store: 'P, C or buffer length wrong'; 'not sound', where a store that is not does not meet the clauses
+pub sizes : (s : List ℕ) (P C : ℕ) → Denies (fits s P C) (Fitting s P C → ⊥)
+sizes s P C = (λ e w. true≢false (sym (fits-so s P C w) ∙ e), λ e n. n (fitting s P C e))
+
+pub clauses : (s : List ℕ) → (sound s ≡ false → Unsound s) → Denies (sound s) (Unsound s)
+clauses s h = (h, λ e n. n (sound-items s e))
+
+-- ---- a list of changed days
+pub changes : (cs : List ℕ) → Tells (not (changesFit cs)) (ChangesWrong cs)
+changes cs = (
+  λ e. wrong-exactly cs .0 (not-true (changesFit cs) e),
+  λ e w. true≢false (sym (not-false (changesFit cs) e) ∙ wrong-exactly cs .1 w),
+)
+
+-- ---- 'e outside 2 to 8'
+pub page-size : (e : ℕ) → Denies (leb 2 e && leb e 8) (NoPageSize e)
+page-size e = (out (leb 2 e) refl (leb e 8) refl, inside)
+  where
+    out : (a : Bool) → leb 2 e ≡ a → (b : Bool) → leb e 8 ≡ b → (a && b) ≡ false → NoPageSize e
+    out true p true q r = absurd (true≢false r)
+    out true p false q r = inr (leb-false e 8 q)
+    out false p b q r = inl (leb-false 2 e p)
+
+    inside : (leb 2 e && leb e 8) ≡ true → NoPageSize e → ⊥
+    inside p (inl l) = let m = leb-true 2 e (left (leb 2 e) (leb e 8) p) in omega arith
+    inside p (inr l) = let m = leb-true e 8 (right (leb 2 e) (leb e 8) p) in omega arith
+
+-- ---- an image's header, and its bytes
+header-of : (s : List ℕ) → headed s ≡ true → Header s
+unfolding headed size pages bytesFor
+header-of s e =
+    let w = each (headTests s) e in
+    record {
+      long = leb-true 16 (length s) (w .0);
+      edition = eqb-true (getD s 0 0) 1 (w .1 .0);
+      e-low = leb-true 2 (eOf s) (w .1 .1 .0);
+      e-high = leb-true (eOf s) 8 (w .1 .1 .1 .0);
+      zero-2 = eqb-true (getD s 2 0) 0 (w .1 .1 .1 .1 .0);
+      zero-3 = eqb-true (getD s 3 0) 0 (w .1 .1 .1 .1 .1 .0);
+      hours = leb-true (nOf s) 65536 (w .1 .1 .1 .1 .1 .1 .0);
+      all-bytes = eqb-true (length s) (size (eOf s) (nOf s) (lOf s)) (w .1 .1 .1 .1 .1 .1 .1 .0);
+    }
+
+header-so : (s : List ℕ) → Header s → headed s ≡ true
+unfolding headed size pages bytesFor
+header-so s h =
+    every-of (headTests s) (
+      le-leb 16 (length s) (h .long),
+      (
+        eq-eqb (getD s 0 0) 1 (h .edition),
+        (
+          le-leb 2 (eOf s) (h .e-low),
+          (
+            le-leb (eOf s) 8 (h .e-high),
+            (
+              eq-eqb (getD s 2 0) 0 (h .zero-2),
+              (
+                eq-eqb (getD s 3 0) 0 (h .zero-3),
+                (le-leb (nOf s) 65536 (h .hours), (eq-eqb (length s) (size (eOf s) (nOf s) (lOf s)) (h .all-bytes), tt)),
+              ),
+            ),
+          ),
+        ),
+      ),
+    )
+
+pub header : (s : List ℕ) → Denies (headed s) (NoHeader s)
+header s = (λ e h. true≢false (sym (header-so s h) ∙ e), λ e n. n (header-of s e))
+
+pub written : (s : List ℕ) → Denies (accepted s) (NoImage s)
+written s = (λ a e xs i. true≢false (sym (accepted-if s e xs i) ∙ a), λ a n. n (eOf s) (listOf s) (accepted-only s a))
+
+-- past 5 and 6 of the full check an image is accepted
+pub past-6 : (s : List ℕ) → (NoImage s → ⊥) → accepted s ≡ true
+past-6 s n = go (accepted s) refl
+  where
+    go : (b : Bool) → accepted s ≡ b → accepted s ≡ true
+    go true e = e
+    go false e = absurd (n (written s .0 e))
+
+pub accepted-passes : (s : List ℕ) → accepted s ≡ true → (NoHeader s → ⊥) × (NoImage s → ⊥)
+accepted-passes s a = (header s .1 (past-5 s a), written s .1 a)
+
+-- ---- damage on the way to an hour
+one-of-six : (a b c d e f : Bool) → every (map not (a ∷ b ∷ c ∷ d ∷ e ∷ f ∷ [])) ≡ false
+    → (a ≡ true) ⊎ ((b ≡ true) ⊎ ((c ≡ true) ⊎ ((d ≡ true) ⊎ ((e ≡ true) ⊎ (f ≡ true)))))
+unfolding every
+one-of-six true b c d e f q = inl refl
+one-of-six false true c d e f q = inr (inl refl)
+one-of-six false false true d e f q = inr (inr (inl refl))
+one-of-six false false false true e f q = inr (inr (inr (inl refl)))
+one-of-six false false false false true f q = inr (inr (inr (inr (inl refl))))
+one-of-six false false false false false true q = inr (inr (inr (inr (inr refl))))
+one-of-six false false false false false false q = absurd (true≢false q)
+
+later-damaged : (x : ℕ) (f : Found) → later x f ≡ damaged → f ≡ damaged
+unfolding later
+later-damaged x damaged e = refl
+later-damaged x (found y c) e = cc
+
+-- a walk finds damage exactly where a left sum is above its node
+module _ (s : ℕ) (b : List ℕ) (a j h : ℕ) where
+  abbrev l : ℕ
+  l = leftOf s b a
+
+  abbrev onLeft : Found
+  onLeft = walk h l b (leftAt s a) j
+
+  abbrev onRight : Found
+  onRight = walk h (s - l) b (rightAt h s l a) (j - 2 ^ h)
+
+  node-found : (onLeft ≡ damaged → LeftAbove h l b (leftAt s a) j) → (onRight ≡ damaged → LeftAbove h (s - l) b (rightAt h s l a) (j - 2 ^ h))
+      → (x : Bool) → leb l s ≡ x → (y : Bool) → ltb j (2 ^ h) ≡ y → pick x (pick y onLeft (later l onRight)) damaged ≡ damaged
+      → LeftAbove (suc h) s b a j
+  unfolding pick
+  node-found f g true p true q e = inr (inl (ltb-true j (2 ^ h) q, f e))
+  node-found f g true p false q e = inr (inr (ltb-false j (2 ^ h) q, g (later-damaged l onRight e)))
+  node-found f g false p y q e = inl (leb-false l s p)
+
+  node-damaged : (LeftAbove h l b (leftAt s a) j → onLeft ≡ damaged) → (LeftAbove h (s - l) b (rightAt h s l a) (j - 2 ^ h) → onRight ≡ damaged)
+      → (x : Bool) → leb l s ≡ x → LeftAbove (suc h) s b a j → pick x (pick (ltb j (2 ^ h)) onLeft (later l onRight)) damaged ≡ damaged
+  unfolding pick later
+  node-damaged f g false p w = refl
+  node-damaged f g true p (inl k) = let m = leb-true l s p in absurd (omega arith)
+  node-damaged f g true p (inr (inl (q, w))) = rw (lt-ltb j (2 ^ h) q) (f w)
+  node-damaged f g true p (inr (inr (q, w))) = rw (le-ltb j (2 ^ h) q, g w)
+
+walk-found : (h s : ℕ) (b : List ℕ) (a j : ℕ) → walk h s b a j ≡ damaged → LeftAbove h s b a j
+unfolding walk
+walk-found zero s b a j e = let z : _≡_ {A = ℕ} 0 1 = cc in omega arith
+walk-found (suc h) s b a j e =
+    node-found s b a j h (walk-found h (leftOf s b a) b (leftAt s a) j)
+    (walk-found h (s - leftOf s b a) b (rightAt h s (leftOf s b a) a) (j - 2 ^ h)) (leb (leftOf s b a) s) refl (ltb j (2 ^ h)) refl e
+
+walk-lost : (h s : ℕ) (b : List ℕ) (a j : ℕ) → LeftAbove h s b a j → walk h s b a j ≡ damaged
+unfolding walk
+walk-lost zero s b a j w = absurd w
+walk-lost (suc h) s b a j w =
+    node-damaged s b a j h (walk-lost h (leftOf s b a) b (leftAt s a) j)
+    (walk-lost h (s - leftOf s b a) b (rightAt h s (leftOf s b a) a) (j - 2 ^ h)) (leb (leftOf s b a) s) refl w
+
+module _ (s : List ℕ) (p j : ℕ) where
+  before-found : (q : ℕ) → p ≡ q → beforePassing s q ≡ true → PageDamage s p j
+  unfolding beforePassing
+  before-found zero e h = absurd (true≢false (sym h))
+  before-found (suc q) e h = before-passing q e (ltb-true (lOf s) (startOf s q + widthOf s) h)
+
+  -- a page that is not fine has one of the damages
+  page-found : pageFine s p ≡ false → PageDamage s p j
+  unfolding pageFine sumOf
+  page-found e =
+      go (one-of-six (passing s (startOf s p) (widthOf s)) (beforePassing s p) (ltb (sOf s) (rootOf s p)) (ltb (sOf s) (beforeOf s p))
+      (ltb (rootOf s p) (beforeOf s p)) (passing s (startOf s p + widthOf s) (reserve (eOf s) (sumOf s p))) e)
+    where
+      go : (passing s (startOf s p) (widthOf s) ≡ true)
+          ⊎ ((beforePassing s p ≡ true)
+          ⊎ ((ltb (sOf s) (rootOf s p) ≡ true)
+          ⊎ ((ltb (sOf s) (beforeOf s p) ≡ true)
+          ⊎ ((ltb (rootOf s p) (beforeOf s p) ≡ true) ⊎ (passing s (startOf s p + widthOf s) (reserve (eOf s) (sumOf s p)) ≡ true)))))
+          → PageDamage s p j
+      go (inl q) = root-passing (ltb-true _ _ q)
+      go (inr (inl q)) = before-found p refl q
+      go (inr (inr (inl q))) = root-above (ltb-true _ _ q)
+      go (inr (inr (inr (inl q)))) = before-above (ltb-true _ _ q)
+      go (inr (inr (inr (inr (inl q))))) = below-before (ltb-true _ _ q)
+      go (inr (inr (inr (inr (inr q))))) = tree-passing (ltb-true _ _ q)
+
+  not-fine : pageFine s p ≡ false → lookIn s p j ≡ damaged
+  unfolding lookIn pick
+  not-fine e = rw e
+
+  at-test : (k : ℕ) → getD (pageTests s p) k true ≡ false → lookIn s p j ≡ damaged
+  unfolding pageFine
+  at-test k e = not-fine (every-no (pageTests s p) k e)
+
+  walk-damaged : walk (eOf s) (sumOf s p) (bits s) (treeAt s p) j ≡ damaged → lookIn s p j ≡ damaged
+  unfolding lookIn pick later
+  walk-damaged q = rw q (go (pageFine s p))
+    where
+      go : (b : Bool) → pick b damaged damaged ≡ damaged
+      go true = refl
+      go false = refl
+
+  page-damaged : PageDamage s p j → lookIn s p j ≡ damaged
+  unfolding sumOf beforePassing
+  page-damaged (root-passing l) = at-test 0 (ap not (lt-ltb _ _ l))
+  page-damaged (before-passing q e l) = at-test 1 (ap not (ap (beforePassing s) e ∙ lt-ltb _ _ l))
+  page-damaged (root-above l) = at-test 2 (ap not (lt-ltb _ _ l))
+  page-damaged (before-above l) = at-test 3 (ap not (lt-ltb _ _ l))
+  page-damaged (below-before l) = at-test 4 (ap not (lt-ltb _ _ l))
+  page-damaged (tree-passing l) = at-test 5 (ap not (lt-ltb _ _ l))
+  page-damaged (left-above w) = walk-damaged (walk-lost (eOf s) (rootOf s p - beforeOf s p) (bits s) (treeAt s p) j w)
+
+  damage-found : lookIn s p j ≡ damaged → PageDamage s p j
+  unfolding lookIn pick sumOf
+  damage-found e = go (pageFine s p) refl e
+    where
+      go : (b : Bool) → pageFine s p ≡ b
+          → pick b (later (beforeOf s p) (walk (eOf s) (sumOf s p) (bits s) (treeAt s p) j)) damaged ≡ damaged → PageDamage s p j
+      go true q w = left-above (walk-found (eOf s) (sumOf s p) (bits s) (treeAt s p) j (later-damaged (beforeOf s p) _ w))
+      go false q w = page-found q
+
+pub damage-exactly : (s : List ℕ) (i : ℕ) → (look s i ≡ damaged) ↔ Damage s i
+unfolding look
+damage-exactly s i = (damage-found s (i / 2 ^ eOf s) (i % 2 ^ eOf s), page-damaged s (i / 2 ^ eOf s) (i % 2 ^ eOf s))
+
+-- ---- a book's digits
+digit-found : (x : ℕ) → decimalByte x ≡ false → (9 < x / 16) ⊎ (9 < x % 16)
+unfolding decimalByte
+digit-found x = go (leb (x / 16) 9) refl (leb (x % 16) 9) refl
+  where
+    go : (a : Bool) → leb (x / 16) 9 ≡ a → (b : Bool) → leb (x % 16) 9 ≡ b → (a && b) ≡ false → (9 < x / 16) ⊎ (9 < x % 16)
+    go true p true q e = absurd (true≢false e)
+    go true p false q e = inr (leb-false (x % 16) 9 q)
+    go false p b q e = inl (leb-false (x / 16) 9 p)
+
+byte-or : (x : ℕ) (b : List ℕ)
+    → (every (map decimalByte b) ≡ false → (i : ℕ) × (i < length b) × ((9 < getD b i 0 / 16) ⊎ (9 < getD b i 0 % 16))) → (t : Bool)
+    → decimalByte x ≡ t → (t && every (map decimalByte b)) ≡ false
+    → (i : ℕ) × (i < length (x ∷ b)) × ((9 < getD (x ∷ b) i 0 / 16) ⊎ (9 < getD (x ∷ b) i 0 % 16))
+byte-or x b more false q e = (0, omega arith, digit-found x q)
+byte-or x b more true q e = let r = more e in (suc (r .0), omega (arith, r .1), r .2)
+
+-- the first that is wrong
+byte-found : (b : List ℕ) → every (map decimalByte b) ≡ false → (i : ℕ) × (i < length b) × ((9 < getD b i 0 / 16) ⊎ (9 < getD b i 0 % 16))
+unfolding every
+byte-found [] e = absurd (true≢false e)
+byte-found (x ∷ b) e = byte-or x b (λ r. byte-found b r) (decimalByte x) refl e
+
+byte-at : (b : List ℕ) → every (map decimalByte b) ≡ true → (i : ℕ) → i < length b → decimalByte (getD b i 0) ≡ true
+unfolding every
+byte-at [] e i l = absurd (omega arith)
+byte-at (x ∷ b) e zero l = left (decimalByte x) (every (map decimalByte b)) e
+byte-at (x ∷ b) e (suc i) l = byte-at b (right (decimalByte x) (every (map decimalByte b)) e) i (omega arith)
+
+pub book : (b : List ℕ) → Denies (decimal b) (NotDecimal b)
+unfolding decimal
+book b = (wrong (ℕ-discrete (length b % 2) 0), fine)
+  where
+    wrong : Dec (length b % 2 ≡ 0) → (eqb (length b % 2) 0 && every (map decimalByte b)) ≡ false → NotDecimal b
+    wrong (no n) q = inl (omega (arith, n))
+    wrong (yes e) q = inr (byte-found b (sym (ap (λ (t : Bool). t && every (map decimalByte b)) (eq-eqb (length b % 2) 0 e)) ∙ q))
+
+    fine : (eqb (length b % 2) 0 && every (map decimalByte b)) ≡ true → NotDecimal b → ⊥
+    fine q (inl e) = let m = eqb-true (length b % 2) 0 (left (eqb (length b % 2) 0) (every (map decimalByte b)) q) in omega arith
+    fine q (inr (i, l, d)) =
+        let g = digits-of (getD b i 0) (byte-at b (right (eqb (length b % 2) 0) (every (map decimalByte b)) q) i l) in
+        ⊎-elim (λ (h : 9 < getD b i 0 / 16). omega (arith, g .high)) (λ (h : 9 < getD b i 0 % 16). omega (arith, g .low)) d
+
+-- ---- counts of more than four digits
+wide-or : (x : ℕ) (xs : List ℕ) → (fourDigits xs ≡ false → (i : ℕ) × (i < length xs) × (9999 < getD xs i 0)) → (t : Bool) → leb x 9999 ≡ t
+    → (t && fourDigits xs) ≡ false → (i : ℕ) × (i < length (x ∷ xs)) × (9999 < getD (x ∷ xs) i 0)
+wide-or x xs more false q e = (0, omega arith, leb-false x 9999 q)
+wide-or x xs more true q e = let r = more e in (suc (r .0), omega (arith, r .1), r .2)
+
+wide-found : (xs : List ℕ) → fourDigits xs ≡ false → (i : ℕ) × (i < length xs) × (9999 < getD xs i 0)
+unfolding fourDigits every
+wide-found [] e = absurd (true≢false e)
+wide-found (x ∷ xs) e = wide-or x xs (λ r. wide-found xs r) (leb x 9999) refl e
+
+pub narrow : (s : List ℕ) → Denies (fourDigits (listOf s)) (TooWide s)
+narrow s = (
+  λ e. let w = wide-found (listOf s) e in (w .0, omega (arith, w .1, length-list s), w .2),
+  λ e w. omega (arith, w .2, four-at (listOf s) e (w .0)),
+)
