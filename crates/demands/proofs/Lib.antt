@@ -14,3 +14,9 @@ pub mod Demand3
 pub mod Sentences3
 pub mod Note1
 pub mod Note7
+pub mod ExampleForms
+pub mod ExampleSearches
+pub mod ExamplesLive
+pub mod ExamplesStore
+pub mod ExamplesImage
+pub mod ExamplesNotes
