@@ -10,8 +10,8 @@ use native.Mathlib.Nat.{le-of-suc-le-suc, not-suc-le-zero}
 use native.Mathlib.Omega.{arith}
 use lib.Dec.{leb, ltb, eqb}
 use lib.ListN.{length}
-use borrow.Author.Tests.{eqb-false, eqb-true, leb-true, ltb-true, not-true}
-use Rattle.lists.specs.Lists.{every, pick, reached, sum, tabulate}
+use borrow.Author.Tests.{eqb-false, eqb-true, leb-true, ltb-false, ltb-true, not-true}
+use Rattle.lists.specs.Lists.{every, pick, reached, tabulate}
 use Rattle.lists.proofs.Tests.{each, left, right}
 use Rattle.answers.specs.Image.{Reply, fails, given, refused as turned}
 use Rattle.answers.specs.declared.image.Bag.{Bag}
@@ -30,7 +30,6 @@ use Rattle.words.specs.End.{End, noRun, ofBag, ofImage, ofStretch, refusal, the
 use Rattle.words.specs.Words.{wordOf}
 use Rattle.hourlog_c.specs.Public.{Ends, ImageBusiest, ImageMatch, ImageReach}
 use Rattle.demands.proofs.ExampleForms.{Leaves, Line, calls, same-first, same-rest, words}
-use Rattle.demands.proofs.Theorems.{reach-accepted}
 
 -- the full check accepts the bytes i, and they say the list xs
 pub record Is (i xs : List ℕ) : Type 0 where
@@ -45,10 +44,6 @@ Reaches i (l ∷ ls) = Leaves (ImageReach i (l .asked)) (l .word) (i ∷ []) × 
 pub record Reaching (i : List ℕ) (ls : List (Line ℕ)) : Type 0 where
   pub lines : Reaches i ls
 
-unfoldable pub reachWords : List ℕ → List ℕ → List ℕ
-reachWords xs [] = []
-reachWords xs (p ∷ ps) = wordOf (ofImage (pick (ltb (sum xs) p) (turned 8) (given (reached p xs)))) ∷ reachWords xs ps
-
 -- where the only answer is r
 only : (i : List ℕ) (p w : ℕ) (r : Reply) → ((s : Reply) → Reach i p s → s ≡ r) → wordOf (ofImage r) ≡ w → Leaves (ImageReach i p) w (i ∷ [])
 only i p w r h e = record {
@@ -57,16 +52,7 @@ only i p w r h e = record {
       (a .word ∙ ap wordOf (d .2 ∙ ap ofImage (h (d .0) (d .1))) ∙ e, a .ends .1);
 }
 
-reaches : (i : List ℕ) (ls : List (Line ℕ)) → accepted i ≡ true → reachWords (listOf i) (calls ls) ≡ words ls → Reaches i ls
-unfolding reachWords
-reaches i [] h e = tt
-reaches i (l ∷ ls) h e =
-    (only i (l .asked) (l .word) _ (reach-accepted i h (l .asked)) (same-first e), reaches i ls h (same-rest e))
-
-pub reaching : {i xs : List ℕ} {ls : List (Line ℕ)} → Is i xs → reachWords xs (calls ls) ≡ words ls → Reaching i ls
-reaching {i} {xs} {ls} h e = record { lines = reaches i ls (h .accepts) (ap (λ (z : List ℕ). reachWords z (calls ls)) (h .says) ∙ e) }
-
--- and on other bytes: a wrong header is refused 5, and a figure above the total 8, whatever the body is
+-- a wrong header is refused 5; a figure above the total 8, whatever the body is; on accepted bytes any other figure is reached
 five : (i : List ℕ) (p : ℕ) → headed i ≡ false → (r : Reply) → Reach i p r → r ≡ turned 5
 unfolding accepted
 five i p h _ (header-wrong w) = refl
@@ -81,6 +67,41 @@ eight i p h g _ (above-total w l) = refl
 eight i p h g _ (smallest a l) = absurd (omega arith)
 eight i p h g _ (damage w l a) = absurd (omega arith)
 eight i p h g _ (any-index w l a k m) = absurd (omega arith)
+
+index : (i : List ℕ) (p : ℕ) → accepted i ≡ true → p ≤ sOf i → (r : Reply) → Reach i p r → r ≡ given (reached p (listOf i))
+unfolding accepted
+index i p h g _ (header-wrong w) = absurd (true≢false (sym (left (headed i) _ h) ∙ w))
+index i p h g _ (above-total w l) = absurd (omega arith)
+index i p h g _ (smallest a l) = refl
+index i p h g _ (damage w l a) = absurd (true≢false (sym h ∙ a))
+index i p h g _ (any-index w l a k m) = absurd (true≢false (sym h ∙ a))
+
+-- the word of a figure p, where the bytes say the total t and the list xs
+unfoldable pub reachWord : ℕ → List ℕ → ℕ → ℕ
+reachWord t xs p = wordOf (ofImage (pick (ltb t p) (turned 8) (given (reached p xs))))
+
+line : {i xs : List ℕ} (p : ℕ) → Is i xs → Leaves (ImageReach i p) (reachWord (sOf i) xs p) (i ∷ [])
+unfolding reachWord accepted pick
+line {i} {xs} p h = go (ltb (sOf i) p) refl
+  where
+    go : (b : Bool) → ltb (sOf i) p ≡ b → Leaves (ImageReach i p) (wordOf (ofImage (pick b (turned 8) (given (reached p xs))))) (i ∷ [])
+    go true e = only i p _ (turned 8) (eight i p (left (headed i) _ (h .accepts)) (ltb-true (sOf i) p e)) refl
+    go false e =
+        only i p _ (given (reached p xs))
+        (λ r w. index i p (h .accepts) (ltb-false (sOf i) p e) r w ∙ ap (λ (z : List ℕ). given (reached p z)) (h .says)) refl
+
+unfoldable pub reachWords : ℕ → List ℕ → List ℕ → List ℕ
+reachWords t xs [] = []
+reachWords t xs (p ∷ ps) = reachWord t xs p ∷ reachWords t xs ps
+
+reaches : (i xs : List ℕ) (ls : List (Line ℕ)) → Is i xs → reachWords (sOf i) xs (calls ls) ≡ words ls → Reaches i ls
+unfolding reachWords
+reaches i xs [] h e = tt
+reaches i xs (l ∷ ls) h e =
+    (subst (λ (w : ℕ). Leaves (ImageReach i (l .asked)) w (i ∷ [])) (same-first e) (line (l .asked) h), reaches i xs ls h (same-rest e))
+
+pub reaching : {i xs : List ℕ} {ls : List (Line ℕ)} → Is i xs → reachWords (sOf i) xs (calls ls) ≡ words ls → Reaching i ls
+reaching {i} {xs} {ls} h e = record { lines = reaches i xs ls h e }
 
 pub reach-5 : {i : List ℕ} {p w : ℕ} → headed i ≡ false → wordOf (refusal 5) ≡ w → Leaves (ImageReach i p) w (i ∷ [])
 unfolding ofImage

@@ -15,6 +15,7 @@ use Rattle.bits.specs.Bits.{bits, field, valueFrom}
 use Rattle.bits.specs.Numbers.{little, number}
 use Rattle.bits.specs.Pack.{pack}
 use Rattle.reserve.specs.Reserve.{ceil, dense, digits, reserve, sparse}
+use Rattle.tree.specs.Ranges.{Side, child, end, left, node, right}
 use Rattle.tree.specs.Read.{counts, later, leftOf, walk}
 use Rattle.tree.specs.Tree.{tree}
 use Rattle.tree.proofs.Shape.{length-tree}
@@ -25,11 +26,13 @@ use Rattle.image.specs.Image.{Limits, bytesFor, code, header, image, packed, pa
 use Rattle.image.specs.Query.{beforePassing, count, look, lookIn, pageFine, reading, readingAt, theCount, theReading}
 use Rattle.image.specs.Read.{beforeOf, codeAt, eOf, lOf, listOf, nOf, pageOf, pagesOf, rootOf, sOf, startOf, sumOf, treeAt, widthOf}
 use Rattle.words.specs.End.{noRun, ofCheck, ofImage, refusal, theCells, theHours, theNumber, theRun, theSums}
+use Rattle.words.specs.ReadBack.{busiestFirst, busiestSum, checkedHours, checkedTotal, matchedFirst, matchedHours, returned, taken}
 use Rattle.words.specs.Words.{minus, pair, wordOf}
 use Rattle.hourlog_c.specs.Public.{ImageCheck, ImageCount, ImageLength, ImageReach, ImageReading, ImageWrite}
+use Rattle.demands.specs.Demand2.{pageStart, treeStart}
 use Rattle.demands.proofs.Demand2.{demand-2}
 use Rattle.demands.proofs.ExampleForms.{Asking, Leaves, _gives_, asking, binary, ended, endings, expected, hex, holding, leaves, refused}
-use Rattle.demands.proofs.ExampleSearches.{Is, May, Reaching, may-give, may-refuse, never-gives, reach-5, reach-8, reachWords, reaching}
+use Rattle.demands.proofs.ExampleSearches.{Is, May, Reaching, may-give, may-refuse, never-gives, reach-5, reach-8, reachWord, reachWords, reaching}
 
 -- ---- the words of C: a number; taken + returned·2^16; S + N·2^40; a run's sum + its first hour·2^40; its first hour + its hours·2^32; 0 for none;
 -- 2^64 - k for a refusal
@@ -64,6 +67,14 @@ pub in-digits :
 unfolding wordOf pair minus
 in-digits = refl
 
+-- and what C reads in them, by the functions of include/hourlog.h
+pub read-in-c :
+    ((taken 196610 ≡ 2) × (returned 196610 ≡ 3) × (taken 524288 ≡ 0) × (returned 524288 ≡ 8))
+    × ((checkedHours 72057598332895231 ≡ 65536) × (checkedTotal 72057598332895231 ≡ 4294967295))
+    × ((busiestFirst 72056498821267455 ≡ 65535) × (busiestSum 72056498821267455 ≡ 4294967295))
+    × ((matchedFirst 281474976776191 ≡ 65535) × (matchedHours 281474976776191 ≡ 65536) × (matchedHours 0 ≡ 0))
+read-in-c = ((refl, refl, refl, refl), (refl, refl), (refl, refl), (refl, refl, refl))
+
 -- ---- 'Let t be the binary digits of s, 0 for s = 0'; 'R(2,1)=1, R(2,2)=2, R(4,3)=5, R(4,6)=8, R(8,5)=12, R(64,1)=6, R(64,31)=117, R(64,32)=120,
 -- R(64,122)=240 (one cell), R(64,123)=241 (two), R(64,4294967295)=1820 (eight)', and '0 if s = 0'
 pub reserves :
@@ -87,6 +98,33 @@ pub trees :
     ≡ binary "0011 01 1 1 1 1 10 00 10 00 0011 00 11 00 11 000 000 000 000 101 00 000 000 0 000")
 unfolding binary tree fill field digits reserve dense sparse sum pick
 trees = (refl, refl, refl)
+
+-- where the subtrees of the eight counts stand, if the tree starts at bit 100: the first bit of each, and the bit behind its range
+abbrev range : List Side → List ℕ
+range ds = let n = node ds 3 (3 ∷ 1 ∷ 0 ∷ 2 ∷ 0 ∷ 0 ∷ 4 ∷ 1 ∷ []) 100 in n .first ∷ end n ∷ []
+
+pub ranges :
+    map range
+    ([]
+    ∷ (left ∷ [])
+    ∷ (right ∷ [])
+    ∷ (left ∷ left ∷ [])
+    ∷ (left ∷ right ∷ [])
+    ∷ (right ∷ left ∷ [])
+    ∷ (right ∷ right ∷ [])
+    ∷ (right ∷ right ∷ left ∷ [])
+    ∷ [])
+    ≡ (100 ∷ 120 ∷ [])
+    ∷ (104 ∷ 112 ∷ [])
+    ∷ (112 ∷ 119 ∷ [])
+    ∷ (107 ∷ 110 ∷ [])
+    ∷ (110 ∷ 112 ∷ [])
+    ∷ (115 ∷ 115 ∷ [])
+    ∷ (115 ∷ 118 ∷ [])
+    ∷ (118 ∷ 118 ∷ [])
+    ∷ []
+unfolding node child digits reserve dense sparse sum pick
+ranges = refl
 
 -- ---- images: 'Header, 16 bytes: 0 is 1 (edition), 1 is e, 2-3 zero, 4-7 N, 8-11 total S, 12-15 L, the bits of code. Per page, 4 bytes: its start
 -- bit. L bits of code, last byte filled with zeros'
@@ -114,6 +152,25 @@ manyCoins =
     ++ (hex "20 18 10 0C 03 02 01 80 60 40 20 00 00 04 03 02 01 40 30 20 18 06 04 02 00 00 00"
     ++ hex "60 48 30 1C 03 02 01 80 60 40 20 00 00 08 06 04 02 40 30 20 18 06 04 02 00 00 00")
 
+-- pages of 256: 2 coins in hour 100, 3 in hour 256. Page 0 is 010, then 2, 0, 0, 2, 2, 0, 2, 2 of 2; page 1 is 101, then 3 of 3 eight times
+abbrev wideList : List ℕ
+wideList = replicate 100 0 ++ 2 ∷ replicate 155 0 ++ 3 ∷ []
+
+abbrev wide : List ℕ
+wide = hex "01 08 00 00 01 01 00 00 05 00 00 00 2D 00 00 00 00 00 00 00 13 00 00 00 50 51 57 FF FC 00"
+
+-- the largest total, in fields of 32 bits: 0xABCDEF01 of it in hour 0, the rest in hour 1
+abbrev richList : List ℕ
+richList = 2882400001 ∷ 1412567294 ∷ []
+
+abbrev rich : List ℕ
+rich = hex "01 02 00 00 02 00 00 00 FF FF FF FF 80 00 00 00 00 00 00 00 FF FF FF FF FF FF FF FF AB CD EF 01 00 00 00 00"
+
+-- where page 1 of the second one stands among the bits of all its bytes, and its tree: behind 24 bytes, and 25 bits of code
+pub addresses : (pageStart 3 twoPagesList 1 ≡ 192 + 25) × (treeStart 3 twoPagesList 1 ≡ 192 + 25 + 5)
+unfolding start pageCode root page pages window tabulate concat tree fill field sum digits reserve dense sparse pick
+addresses = (refl, refl)
+
 abbrev blank : ℕ → List ℕ
 blank n = replicate n 0xFF
 
@@ -123,6 +180,8 @@ pub writes :
     × Leaves (ImageWrite printedList 2 (blank 29)) 27 (printedList ∷ (printed ++ blank 2) ∷ [])
     × Leaves (ImageWrite twoPagesList 3 (blank 30)) 30 (twoPagesList ∷ twoPages ∷ [])
     × Leaves (ImageWrite manyCoinsList 2 (blank 86)) 86 (manyCoinsList ∷ manyCoins ∷ [])
+    × Leaves (ImageWrite wideList 8 (blank 30)) 30 (wideList ∷ wide ∷ [])
+    × Leaves (ImageWrite richList 2 (blank 36)) 36 (richList ∷ rich ∷ [])
     × Leaves (ImageWrite (7 ∷ []) 2 (blank 22)) 22
     ((7 ∷ []) ∷ hex "01 02 00 00 01 00 00 00 07 00 00 00 0C 00 00 00 00 00 00 00 FF 80" ∷ [])
     × Leaves (ImageWrite (8 ∷ []) 2 (blank 22)) 22
@@ -133,6 +192,8 @@ pub writes :
 unfolding hex ended writeCall lengthCall putAfter put unwritten image header table packed code start pageCode root page pages window tabulate concat little
     pack bytesFor valueFrom tree fill field sum digits reserve dense sparse pick wordOf ofImage
 writes = (
+  leaves refl,
+  leaves refl,
   leaves refl,
   leaves refl,
   leaves refl,
@@ -182,7 +243,7 @@ two-pages-is = record { accepts = refl; says = refl }
 pub reaches :
     Reaching printed (0 gives 0 ∷ 1 gives 1 ∷ 2 gives 3 ∷ 3 gives 3 ∷ 4 gives 5 ∷ 8 gives 5 ∷ 9 gives refused 8 ∷ [])
     × Reaching twoPages (1 gives 1 ∷ 3 gives 1 ∷ 4 gives 2 ∷ 6 gives 4 ∷ 7 gives 7 ∷ 11 gives 8 ∷ 12 gives 11 ∷ 18 gives 11 ∷ 19 gives refused 8 ∷ [])
-unfolding reachWords least reached sum pick wordOf ofImage minus
+unfolding hex sOf number reachWords reachWord least reached sum pick wordOf ofImage minus
 reaches = (reaching printed-is refl, reaching two-pages-is refl)
 
 -- the printed bytes with another byte at place k
@@ -207,6 +268,16 @@ Answered =
     ∷ ImageReading twoPages 11 gives 18
     ∷ ImageCheck manyCoins gives holding 13 269223940
     ∷ ImageReading manyCoins 12 gives 201917955
+    ∷ ImageCheck wide gives holding 257 5
+    ∷ ImageCount wide 100 gives 2
+    ∷ ImageCount wide 255 gives 0
+    ∷ ImageCount wide 256 gives 3
+    ∷ ImageReading wide 100 gives 0
+    ∷ ImageReading wide 256 gives 2
+    ∷ ImageReading wide 257 gives 5
+    ∷ ImageCheck rich gives holding 2 4294967295
+    ∷ ImageCount rich 0 gives 2882400001
+    ∷ ImageReading rich 2 gives 4294967295
     ∷ [])
 
 -- 5, 'image header: under 16 bytes; edition, e, zero bytes or N wrong; byte length not the one N, e and L give'; before 7

@@ -3,15 +3,21 @@
 -- number. A `Session` starts on a fresh store and goes on from line to line; the lines under `Holding` are asked each on its own, of any store that
 -- holds the list. Assumes nothing.
 use mathlib.Core.List.{List, [], _∷_, _++_, map}
-use mathlib.Core.Path.{_≡_, refl}
-use Prim.Native.Nat.{ℕ}
-use lib.ListN.{replicate}
-use Rattle.lists.specs.Lists.{every, least, pick, reached, sum, tabulate}
+use mathlib.Core.Bool.{true}
+use mathlib.Core.Path.{_≡_, refl, ap, _∙_}
+use Prim.Native.Nat.{ℕ, _+_, _-_, _*_, _≤_}
+use native.Mathlib.Omega.{arith}
+use borrow.Author.Tests.{lt-ltb}
+use lib.Dec.{ltb}
+use lib.ListN.{length, replicate}
+use Rattle.lists.specs.Lists.{every, least, pick, reached, reading, sum, tabulate}
 use Rattle.reserve.specs.Reserve.{ceil, digits, reserve}
 use Rattle.days.specs.Days.{changesFit, dayEnd, dayHours, dayNumbers, dayStart, hoursGiven, isChange, rises}
-use Rattle.coin_cost.specs.Cost.{cellsFor}
+use Rattle.coin_cost.specs.Cost.{cellsFor, gain, pageGain}
+use Rattle.answers.specs.Store.{refused as turned}
+use Rattle.store.proofs.DayLaws.{old-day}
 use Rattle.store.specs.PageCode.{cells}
-use Rattle.store.specs.Plain.{Append, Count, Day, Free, Insert, Plain, Reach, Reading, Set, Strike, change, inserted, need, next, page, plainAnswers, step, struck}
+use Rattle.store.specs.Plain.{Append, Count, Day, Free, Insert, Outcome, Plain, Reach, Reading, Set, Strike, change, inserted, need, next, page, plainAnswers, refuse, step, struck, tell}
 use Rattle.words.specs.End.{ofStore}
 use Rattle.words.specs.Words.{minus, pair, wordOf}
 use Rattle.demands.specs.Demand3.{wordsOf}
@@ -127,6 +133,7 @@ Questions =
     ∷ Reach 9 gives refused 8
     ∷ [])
     × Holding (log 1 1 (1 ∷ 1 ∷ [])) (Reach 1 gives 1 ∷ Reach 2 gives 2 ∷ Reach 3 gives refused 8 ∷ [])
+    × Holding (log 5 9 (replicate 300 1)) (Count 299 gives 1 ∷ Reading 257 gives 257 ∷ Reach 257 gives 257 ∷ Reach 300 gives 300 ∷ [])
     × Holding (log 1 1 [])
     (Count 0 gives refused 7 ∷ Reading 0 gives 0 ∷ Reading 1 gives refused 7 ∷ Reach 0 gives 0 ∷ Reach 1 gives refused 8 ∷ Free gives 1 ∷ [])
 
@@ -246,7 +253,7 @@ live = (
     (held refl, held refl, held refl, held refl, held refl, held refl),
   ),
   (session refl refl, session refl refl),
-  (held refl, held refl, held refl),
+  (held refl, held refl, held refl, held refl),
   (held refl, held refl, held refl, held refl),
 )
 
@@ -269,9 +276,23 @@ shifts = (
 )
 
 -- ---- document 02, note 6: 'at most ceil(d / 40) more cells, or eight if that is less', and 'a page with twice the sum reserves at most 63 more
--- bits': a page of 32 coins does reserve 63 more for 64
+-- bits': a page of 32 coins does reserve 63 more for 64. An hour that goes from 7 to 9 coins gains 2, one that goes to 3 none; when 9 coins stand before
+-- hour 63 that stood there before, its page gains none, and the next one 5
 pub costs :
     (map cellsFor (0 ∷ 1 ∷ 40 ∷ 41 ∷ 80 ∷ 280 ∷ 281 ∷ 320 ∷ 321 ∷ 4294967295 ∷ []) ≡ 0 ∷ 1 ∷ 1 ∷ 2 ∷ 2 ∷ 7 ∷ 8 ∷ 8 ∷ 8 ∷ 8 ∷ [])
     × (map (reserve 6) (32 ∷ 64 ∷ []) ≡ 120 ∷ 183 ∷ [])
-unfolding cellsFor ceil reserve
-costs = (refl, refl)
+    × (map (gain (5 ∷ 7 ∷ []) 1) (9 ∷ 7 ∷ 3 ∷ []) ≡ 2 ∷ 0 ∷ 0 ∷ [])
+    × (map (pageGain (idle 62 ++ 9 ∷ 5 ∷ []) (idle 63 ++ 9 ∷ 5 ∷ [])) (0 ∷ 1 ∷ []) ≡ 0 ∷ 5 ∷ [])
+unfolding cellsFor ceil reserve gain pageGain page tabulate sum
+costs = (refl, refl, refl, refl)
+
+-- ---- nothing wraps: day 4,294,967,295 of 24 hours ends behind hour 65,536, and so is refused 7
+not-yet : (L : Plain) → ltb (length (L .counts)) 103079215104 ≡ true
+    → pick (ltb (length (L .counts)) (24 * 4294967295 + 24)) (refuse 7 L) (tell (reading (L .counts) (24 * 4294967295 + 24) - reading (L .counts) (24 * 4294967295)) L)
+    ≡ refuse 7 L
+unfolding pick
+not-yet L e = rw e
+
+pub last-day : (L : Plain) → length (L .counts) ≤ 65536 → step (Day 4294967295 []) L .answer ≡ turned 7
+unfolding pick
+last-day L l = ap (λ (o : Outcome). o .answer) (old-day 4294967295 L ∙ not-yet L (lt-ltb (length (L .counts)) 103079215104 (omega (arith, l))))

@@ -215,8 +215,12 @@ books = (
   asking refl,
 )
 
--- 2 for more than 65,536 hours, in any buffer: 65,537 have 131,074 bytes. A byte more, and 14 comes first
+-- 2 for more than 65,536 hours, in any buffer: 65,537 have 131,074 bytes. A byte more, and 14 comes first; and 1 before both
 module _ (b out : List ℕ) where
+  pub any-book : Leaves (ImageFromBcd b 9 out) (refused 1) (b ∷ out ∷ [])
+  unfolding ended fromCall unwritten pick wordOf ofImage minus
+  any-book = leaves refl
+
   pub long-book : length b ≡ 131074 → decimal b ≡ true → Leaves (ImageFromBcd b 2 out) (refused 2) (b ∷ out ∷ [])
   unfolding ended fromCall writeCall putAfter unwritten pick wordOf ofImage minus
   long-book l d =

@@ -3,7 +3,7 @@
 use mathlib.Core.Bool.{false, true}
 use mathlib.Core.List.{List, [], _∷_, _++_}
 use mathlib.Core.Path.{_≡_, refl}
-use Prim.Native.Nat.{ℕ}
+use Prim.Native.Nat.{ℕ, _+_}
 use Prim.Native.String.{String}
 use lib.ListN.{replicate, set, take}
 use Rattle.lists.specs.Lists.{concat, every, fill, first, least, occurrences, one, pick, reached, same, sum, tabulate, window}
@@ -17,10 +17,11 @@ use Rattle.days.specs.Days.{changesFit, dayEnd, dayHours, dayNumbers, dayStart,
 use Rattle.store.specs.Call.{after, call, freshCall, settle}
 use Rattle.store.specs.Fitting.{fits}
 use Rattle.store.specs.Layout.{Model, bytesOf, entry, fresh, header, laidAt, lay, layAll, layPages}
+use Rattle.store.specs.OneCell.{giveCell, takeCell, times}
 use Rattle.store.specs.PageCode.{cells, pageBytes, pageCounts}
 use Rattle.store.specs.Plain.{Append, Count, Day, Free, Insert, Plain, Reach, Reading, Set, Strike, change, inserted, need, next, page, plainAnswers, step, struck}
 use Rattle.store.specs.Reading.{chainFrom, chainIn, codeIn, pageIn, read, readFor, spareIn, sumIn}
-use Rattle.store.specs.Settle.{pagewise, settled, shrunk, sizeTo}
+use Rattle.store.specs.Settle.{pagewise, settled, settledByCells, shrunk, sizeTo}
 use Rattle.store.specs.Sound.{fine, onChains, sound, tests, within}
 use Rattle.image.specs.Calls.{lengthCall, put, putAfter, unwritten, writeCall}
 use Rattle.image.specs.Image.{bytesFor, code, header as imageHeader, image, packed, page as imagePage, pageCode, pages, root, start, table}
@@ -77,8 +78,15 @@ twoHours = board "01 00 01 00 02 00 00 00 00 00 00 00 02 00 00 00" "80 00 00 00 
 abbrev cellBack : List ℕ
 cellBack = board "01 00 01 00 02 00 02 00 01 00 00 00 02 00 00 00" "05 00 00 00 01 00" "00 00 B6 DA" "00 00"
 
+-- of two pages and three cells: 'every page entry zero, and free chain 1, 2, .., C'
+abbrev newPages : List ℕ
+newPages =
+    hex "01 00 02 00 03 00 01 00 03 00 00 00 00 00 00 00"
+    ++ (replicate 12 0 ++ (fill 32 (hex "02 00") ++ (fill 32 (hex "03 00") ++ fill 32 (hex "00 00"))))
+
 pub session-bytes :
-    Leaves (Fresh (replicate 86 0xFF) 1 2) 0 (new ∷ [])
+    Leaves (Fresh (replicate 124 0xFF) 2 3) 0 (newPages ∷ [])
+    × Leaves (Fresh (replicate 86 0xFF) 1 2) 0 (new ∷ [])
     × Leaves (Live (Append 122) new) (taken 1) (oneCell ∷ [])
     × Leaves (Live (Set 0 123) oneCell) (taken 1) (twoCells ∷ [])
     × Leaves (Live (Append 5) twoCells) 0 (twoHours ∷ [])
@@ -86,7 +94,7 @@ pub session-bytes :
 unfolding hex ended freshCall fits fresh call sound fine tests within onChains occurrences one same read readFor chainFrom chainIn codeIn pageIn spareIn
     sumIn pageCounts counts leftOf bits number valueFrom after settle settled shrunk pagewise sizeTo step change need page cells ceil reserve digits
     bytesOf header entry layAll layPages lay laidAt pageBytes tree field pack little first fill concat tabulate sum pick every wordOf ofStore pair
-session-bytes = (leaves refl, leaves refl, leaves refl, leaves refl, leaves refl)
+session-bytes = (leaves refl, leaves refl, leaves refl, leaves refl, leaves refl, leaves refl)
 
 -- ---- 'Stored numbers of several bytes put the low byte first': 0x04030201 and 0x0605; P, C, the first free cell, how many are free, and N above 255
 pub low-byte-first :
@@ -118,20 +126,64 @@ risingBytes =
     ++ (fill 32 (hex "00 00")
     ++ hex "01 00 3E 07 83 86 24 4A 30 26 45 0A 65 8E 00 4E 23 21 41 25 2A 2C 66 62 C3 47 2E 3C 00 04 F0 8E")))
 
+-- two pages, in cells 2 and 3: 5 and 1 coins in hours 62 and 63, 7 in hour 64
+abbrev twoPages : Model
+twoPages = record {
+  plain = record { pages = 2; cells = 3; counts = replicate 62 0 ++ 5 ∷ 1 ∷ 7 ∷ [] };
+  chains = (2 ∷ []) ∷ (3 ∷ []) ∷ [];
+  spare = 1 ∷ [];
+}
+
+abbrev twoPagesBytes : List ℕ
+twoPagesBytes =
+    hex "01 00 02 00 03 00 01 00 01 00 00 00 41 00 00 00"
+    ++ (hex "06 00 00 00 02 00"
+    ++ (hex "07 00 00 00 03 00"
+    ++ (fill 32 (hex "00 00") ++ (fill 32 (hex "00 00 00 01 40") ++ fill 32 (hex "00 00 FF FF C0")))))
+
+-- eight cells, which no page needs more than: 67,108,800 + j coins in hour j
+abbrev eightCells : Model
+eightCells = record {
+  plain = record { pages = 1; cells = 8; counts = tabulate 64 (λ j. 67108800 + j) };
+  chains = (1 ∷ 2 ∷ 3 ∷ 4 ∷ 5 ∷ 6 ∷ 7 ∷ 8 ∷ []) ∷ [];
+  spare = [];
+}
+
+abbrev eightCellsBytes : List ℕ
+eightCellsBytes =
+    hex "01 00 01 00 08 00 00 00 00 00 00 00 40 00 00 00"
+    ++ (hex "E0 F7 FF FF 01 00"
+    ++ (hex "02 00 7F FF F9 F0 7F FF F8 F0 FF FF F0 E3 FF FF C1 9F FF FE 05 FF FF E0 3F FF FC 21 FF FF E2 5F"
+    ++ (hex "03 00 FF FE 23 FF FF C6 07 FF FF 93 3F FF FC 8B FF FF C8 7F FF F9 43 FF FF CC BF FF FC C7 FF FF"
+    ++ (hex "04 00 9C 03 FF FF D3 8F FF FF 46 7F FF FA 17 FF FF A0 FF FF F4 87 FF FF A9 7F FF FA 8F FF FF 58"
+    ++ (hex "05 00 1F FF FE CC FF FF F6 2F FF FF 61 FF FF ED 0F FF FF 72 FF FF F7 1F FF FE F0 03 FF FF E7 87"
+    ++ (hex "06 00 FF FF C7 1F FF FF 0C FF FF F8 2F FF FF 81 FF FF F1 0F FF FF 92 FF FF F9 1F FF FF 30 3F FF"
+    ++ (hex "07 00 FE 99 FF FF F4 5F FF FF 43 FF FF EA 1F FF FF 65 FF FF F6 3F FF FE E0 1F FF FF 9C 7F FF FE"
+    ++ (hex "08 00 33 FF FF F0 BF FF FF 07 FF FF E4 3F FF FF 4B FF FF F4 7F FF FE C0 FF FF FE 67 FF FF F1 7F"
+    ++ hex "00 00 FF FF 0F FF FF E8 7F FF FF 97 FF FF F8 FF FF FF 80 00 00 00 00 00 00 00 00 00 00 00 00 00"))))))))
+
 pub along-its-chain :
-    (bytesOf rising ≡ risingBytes)
+    ((bytesOf rising ≡ risingBytes) × (read risingBytes ≡ rising))
+    × ((bytesOf twoPages ≡ twoPagesBytes) × (read twoPagesBytes ≡ twoPages))
+    × ((bytesOf eightCells ≡ eightCellsBytes) × (read eightCellsBytes ≡ eightCells))
     × Asking
     (Live (Count 49) risingBytes gives 49
     ∷ Live (Reading 50) risingBytes gives 1225
     ∷ Live (Reach 1177) risingBytes gives 50
     ∷ Live (Day 1 []) risingBytes gives 852
+    ∷ Live (Day 1 (0 ∷ 25 ∷ [])) risingBytes gives 876
+    ∷ Live (Reading 64) twoPagesBytes gives 6
+    ∷ Live (Reach 7) twoPagesBytes gives 65
+    ∷ Live Free twoPagesBytes gives 1
+    ∷ Live (Count 63) eightCellsBytes gives 67108863
+    ∷ Live Free eightCellsBytes gives 0
     ∷ Live Free risingBytes gives 1
     ∷ [])
 unfolding hex endings ended call sound fine tests within onChains occurrences one same read readFor chainFrom chainIn codeIn pageIn spareIn sumIn pageCounts
     counts leftOf bits number valueFrom after settle step need page cells ceil reserve digits reached least dayEnd dayStart dayHours changesFit dayNumbers
     hoursGiven rises isChange bytesOf header entry layAll layPages lay laidAt pageBytes tree field pack little first fill concat tabulate sum pick every
     wordOf ofStore
-along-its-chain = (refl, asking refl)
+along-its-chain = ((refl, refl), (refl, refl), (refl, refl), asking refl)
 
 -- ---- 'A page that grows takes cells from the front of the free chain, in that order, onto the end of its own. A page that shrinks gives its last
 -- cell to the front of the free chain, then the one before it'
@@ -175,6 +227,20 @@ pub chains-in-order :
 unfolding fine tests within onChains occurrences one same after settle settled shrunk pagewise sizeTo step change inserted struck need page cells ceil reserve
     digits concat tabulate sum pick every wordOf ofStore pair
 chains-in-order = (settles refl refl refl, settles refl refl refl, settles refl refl refl, settles refl refl refl)
+
+-- the same cell by cell: a page takes one from the front of the free chain, and gives its last one back to it
+abbrev chainsOf : Model → List (List ℕ)
+chainsOf m = m .spare ∷ m .chains
+
+pub cell-by-cell :
+    (chainsOf (takeCell 0 small) ≡ (6 ∷ 1 ∷ 5 ∷ 3 ∷ []) ∷ (4 ∷ 2 ∷ []) ∷ [] ∷ [])
+    × (chainsOf (giveCell 0 large) ≡ (1 ∷ 5 ∷ 3 ∷ []) ∷ (4 ∷ 2 ∷ 6 ∷ []) ∷ [] ∷ [])
+    × (settledByCells small (large .plain) ≡ large)
+    × (settledByCells large (smallAgain .plain) ≡ smallAgain)
+    × (settledByCells beforeInsert (behindInsert .plain) ≡ behindInsert)
+    × (settledByCells behindInsert (behindStrike .plain) ≡ behindStrike)
+unfolding takeCell giveCell times settledByCells pagewise page cells ceil reserve digits first tabulate sum pick
+cell-by-cell = (refl, refl, refl, refl, refl, refl)
 
 -- ---- 'store, every other live call and freeze: 10, not sound': the store of 122 coins with one byte changed
 abbrev but : ℕ → ℕ → List ℕ
@@ -255,18 +321,24 @@ total-fits = (refl, refl)
 abbrev frozen : List ℕ
 frozen = hex "01 02 00 00 02 00 00 00 80 00 00 00 1E 00 00 00 00 00 00 00 80 80 7B 00"
 
+-- of the two pages, e = 6
+abbrev frozenPages : List ℕ
+frozenPages = hex "01 06 00 00 41 00 00 00 0D 00 00 00 4D 00 00 00 00 00 00 00 24 00 00 00 60 00 14 00 0D FF FF C0 00 00"
+
 pub freezes :
     Leaves (Freeze twoHours 2 (replicate 24 0xFF)) 24 (twoHours ∷ frozen ∷ [])
     × Leaves (Freeze twoHours 2 (replicate 26 0xFF)) 24 (twoHours ∷ (frozen ++ 0xFF ∷ 0xFF ∷ []) ∷ [])
+    × Leaves (Freeze twoPagesBytes 6 (replicate 34 0xFF)) 34 (twoPagesBytes ∷ frozenPages ∷ [])
     × Asking
     (Freeze twoHours 2 (replicate 23 0xFF) gives refused 4
     ∷ Freeze twoHours 1 [] gives refused 1
     ∷ Freeze twoHours 9 [] gives refused 1
     ∷ Freeze twoHours 8 (replicate 83 0) gives refused 4
     ∷ Freeze (but 0 2) 9 [] gives refused 10
+    ∷ Freeze (but 0 2) 2 [] gives refused 10
     ∷ [])
 unfolding hex endings ended freezeCall sound fine tests within onChains occurrences one same read readFor chainFrom chainIn codeIn pageIn spareIn sumIn
     pageCounts counts leftOf bits number valueFrom page cells ceil reserve digits bytesOf header entry layAll layPages lay laidAt pageBytes tree field pack
     little first fill concat tabulate sum pick every writeCall lengthCall putAfter put unwritten image imageHeader table packed code start pageCode root
     imagePage pages window bytesFor wordOf ofImage minus
-freezes = (leaves refl, leaves refl, asking refl)
+freezes = (leaves refl, leaves refl, leaves refl, asking refl)
