@@ -25,3 +25,9 @@ pub mod Note3
 pub mod Note4
 pub mod Note5
 pub mod Note7
+pub mod ExampleForms
+pub mod ExampleSearches
+pub mod ExamplesLive
+pub mod ExamplesStore
+pub mod ExamplesImage
+pub mod ExamplesNotes
