@@ -121,6 +121,9 @@ from_c() {
     tests/header_copies
     build stack "$HOURLOG_LIB" gcc -std=c99 -O2 tests/stack.c
     "$out/stack"
+    # the library has the header's calls, and no other
+    nm -g --defined-only "$HOURLOG_LIB/libhourlog_c.a" | sed -n 's/.* T //p' | sort >"$out/exported.txt"
+    sed -n 's/^int64_t \(hourlog_[a-z_]*\)(.*/\1/p' include/hourlog.h | sort | diff - "$out/exported.txt"
     gcc -shared -Wl,--whole-archive "$HOURLOG_LIB/libhourlog_c.a" -Wl,--no-whole-archive -o "$out/hourlog.so"
     tests/sizing "$out/hourlog.so"
     echo '#include "hourlog.h"

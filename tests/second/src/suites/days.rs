@@ -15,8 +15,7 @@ const FIRST_SEED: u64 = 8_600_000;
 const STORES: u64 = 200;
 const LONGEST: u64 = 12;
 
-/// Hours of the longest log, and days of which it has not all: 23 hours are the
-/// fewest of a day.
+/// Hours of the longest log, and more days than it can have, of 23 hours each.
 const HOURS: usize = 65_536;
 const DAYS: u32 = 65_536 / 23 + 1;
 
@@ -26,6 +25,8 @@ const WILD: [u32; 5] = [178_956_969, 178_956_970, 178_956_971, 1 << 31, u32::MAX
 pub fn play(run: &mut Run) -> Outcome {
     let result = by_document_02(run);
     run.note("days by document 02", result)?;
+    let result = days_of_later_years(run);
+    run.note("days of later years by document 02", result)?;
     let result = long_lists(run).and_then(|()| longest_lists(run));
     run.note("long lists of changed days", result)?;
     run.each_seed(FIRST_SEED, STORES, random_store)?;
@@ -69,6 +70,29 @@ fn by_document_02(run: &mut Run) -> Result<(), String> {
         same_word(done.word, expected, "document 02").map_err(|text| format!("{call}: {text}"))?;
     }
     wrong_lists(run, &bytes)
+}
+
+/// The longest log with a coin in every hour: the coins of a day are its hours.
+/// Eight hours less in the first days, and day 2,730 ends with the log.
+fn days_of_later_years(run: &mut Run) -> Result<(), String> {
+    let store = built(1_024, 1_800, &[1; HOURS], &mut Random::new(1));
+    let bytes = store.expect("a cell for each page suffices").bytes();
+    let eight: Vec<u32> = (0..8).flat_map(|day| [day, 23]).collect();
+    let words: [(u32, &[u32], i64); 9] = [
+        (2_729, &[], 24),
+        (2_730, &[], -7),
+        (365, &[365, 25], 25),
+        (400, &[400, 25], 25),
+        (400, &[399, 25], 24),
+        (2_729, &[2_729, 23], 23),
+        (2_729, &[88, 23, 2_729, 25], 25),
+        (2_730, &eight, 24),
+        (2_730, &eight[2..], -7),
+    ];
+    for (day, changes, expected) in words {
+        gives(run, &bytes, day, changes, expected, "document 02")?;
+    }
+    Ok(())
 }
 
 /// 16 for every day, logged or not; 10 before it.
