@@ -1,12 +1,11 @@
 // The header as C++ sees it: it compiles, its constants are constants, its names
-// link without C++'s mangling, and what it says of lengths, cells, NULL, the bytes of
-// a store and the refusals' texts is so. The stores that docs/FORMAT.md works out are so too.
-#include "hourlog.h"
+// link without C++'s mangling, its numbers and texts are those of header_words.h, and what
+// it says of lengths, cells, NULL and the bytes of a store is so of the library. The stores
+// that docs/FORMAT.md works out are so too.
+#include "header_words.h"
 
-#undef NDEBUG
-#include <cassert>
 #include <cstdio>
-#include <cstring>
+#include <sys/mman.h>
 #include <vector>
 
 static_assert(HOURLOG_STORE_LENGTH(1, 2) == 86, "16 + 6 + 64");
@@ -15,7 +14,6 @@ static_assert(HOURLOG_STORE_LENGTH(HOURLOG_PAGES_MAX, HOURLOG_CELLS_MAX) == 6376
 static_assert(HOURLOG_IMAGE_LENGTH_MAX(5, 2) == 16 + 8 + 32, "two pages of 128 bits");
 static_assert(HOURLOG_FREEZE_LENGTH_MAX(1, 2, 6) == 16 + 8 + 60, "one page of two cells");
 static_assert(HOURLOG_FREEZE_LENGTH_MAX(4, 12, 8) == 16 + 4 + 864, "one page of 6,908 bits");
-static_assert(HOURLOG_VERSION == 1000 * HOURLOG_VERSION_MAJOR + HOURLOG_VERSION_MINOR, "");
 
 // One page that holds the greatest total is the longest page of its size.
 static void longest_images()
@@ -112,16 +110,9 @@ static void freezing_needs_it()
     }
 }
 
-// P, C, N and the total as the store lays them out, low byte first, and as the calls count.
+// P, C, N and the total as the store lays them out and as the calls count.
 static void bytes_of_a_store()
 {
-    const uint8_t bytes[28] = {1, 0, 2, 0, 7, 8, 0, 0, 0, 0, 0, 0, 0x44, 0x33, 0x22, 0x81,
-                               1, 2, 3, 4, 9, 9, 4, 3, 2, 1, 9, 9};
-    assert(hourlog_pages(bytes) == 2);
-    assert(hourlog_cells(bytes) == 0x0807u);
-    assert(hourlog_hours(bytes) == 0x81223344u);
-    assert(hourlog_total(bytes) == 0x05050505u);
-
     std::vector<uint8_t> store(HOURLOG_STORE_LENGTH(5, 10));
     assert(hourlog_fresh(store.data(), store.size(), 5, 10) == 0);
     assert(store[0] == HOURLOG_STORE_EDITION);
@@ -212,25 +203,6 @@ static void worked_book()
     assert(hourlog_image_to_bcd(image.data(), static_cast<size_t>(wide), nullptr, 0) == -HOURLOG_REFUSED_DIGITS);
 }
 
-// A text for every number: each its own, and one for all that there are not.
-static void texts()
-{
-    const char *const unknown = hourlog_refusal_text(99);
-    assert(hourlog_refusal_text(-1) == unknown);
-    assert(std::strcmp(hourlog_refusal_text(0), "no refusal") == 0);
-    std::vector<int> numbers{HOURLOG_REFUSED_STRETCH, HOURLOG_REFUSED_BOOK, HOURLOG_REFUSED_DIGITS, HOURLOG_REFUSED_CHANGES,
-                             HOURLOG_REFUSED_BAG};
-    for (int k = 0; k <= HOURLOG_REFUSED_CELLS; k++) {
-        numbers.push_back(k);
-    }
-    for (const int k : numbers) {
-        assert(hourlog_refusal_text(k) != unknown);
-        for (const int j : numbers) {
-            assert((std::strcmp(hourlog_refusal_text(j), hourlog_refusal_text(k)) == 0) == (j == k));
-        }
-    }
-}
-
 // With length 0 a pointer is not followed and may be NULL, in every call that takes one.
 static void null_with_length_0()
 {
@@ -274,6 +246,29 @@ static void null_with_length_0()
     }
 }
 
+// A length is 64 bits wide: one whose low 32 bits alone would be good is refused. So much
+// memory is mapped, and hardly any of it used.
+static void lengths_above_32_bits()
+{
+    const size_t more = static_cast<size_t>(1) << 32;
+    void *const memory = mmap(nullptr, 5 * more, PROT_READ | PROT_WRITE, MAP_PRIVATE | MAP_ANONYMOUS | MAP_NORESERVE, -1, 0);
+    assert(memory != MAP_FAILED);
+    uint8_t *const bytes = static_cast<uint8_t *>(memory);
+    const uint32_t *const counts = static_cast<const uint32_t *>(memory);
+    const size_t store = HOURLOG_STORE_LENGTH(1, 2);
+    assert(hourlog_fresh(bytes, store + more, 1, 2) == -HOURLOG_REFUSED_FRESH);
+    assert(hourlog_fresh(bytes, store, 1, 2) == 0 && hourlog_free(bytes, store) == 2);
+    assert(hourlog_free(bytes, store + more) == -HOURLOG_REFUSED_UNSOUND);
+    assert(hourlog_append(bytes, store + more, 1) == -HOURLOG_REFUSED_UNSOUND);
+    assert(hourlog_image_length(counts, more, 2) == -HOURLOG_REFUSED_LIST);
+    assert(hourlog_image_write(counts, more, 2, nullptr, 0) == -HOURLOG_REFUSED_LIST);
+    assert(hourlog_image_write(nullptr, 0, 2, bytes, 16 + more) == 16);
+    assert(hourlog_image_check(bytes, 16) == 0);
+    assert(hourlog_image_check(bytes, 16 + more) == -HOURLOG_REFUSED_HEADER);
+    assert(hourlog_image_reading(bytes, 16 + more, 0) == -HOURLOG_REFUSED_HEADER);
+    assert(munmap(memory, 5 * more) == 0);
+}
+
 // What a pair is taken apart into: the busiest two hours, first hour and sum; a bag's first hour and hours.
 static void pairs_of_images()
 {
@@ -293,6 +288,7 @@ static void pairs_of_images()
 
 int main()
 {
+    header_words();
     pairs_of_images();
     longest_images();
     cells_of_a_page();
@@ -302,8 +298,8 @@ int main()
     worked_store();
     worked_chains();
     worked_book();
-    texts();
     null_with_length_0();
+    lengths_above_32_bits();
     std::vector<uint8_t> store(HOURLOG_STORE_LENGTH(1, 2));
     assert(hourlog_fresh(store.data(), store.size(), 1, 2) == 0);
 

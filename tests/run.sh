@@ -1,10 +1,10 @@
 #!/bin/sh
 # The tests outside the proofs: the library and the session program against the
 # second implementation, how the program reads and writes, the C example as C and
-# as C++, the header and its figures, those of docs/SIZING.md, the library
-# installed and used from there, how often a change works out a page's reserve, in
-# a copy that counts it, and comparison and example once more in a build with
-# AddressSanitizer.
+# as C++, the header and its figures, wrong copies of the header, the figures of
+# docs/SIZING.md, the library installed and used from there, how often a change
+# works out a page's reserve, in a copy that counts it, and comparison and example
+# once more in a build with AddressSanitizer.
 #
 # usage: tests/run.sh
 #   HOURLOG_LIB     the folder that holds libhourlog_c.a (else it is built); the
@@ -118,8 +118,12 @@ from_c() {
         build header-$standard "$HOURLOG_LIB" g++ -std=$standard $strict -Wold-style-cast tests/header.cpp
     done
     "$out/header-c++11"
+    tests/header_copies
     build stack "$HOURLOG_LIB" gcc -std=c99 -O2 tests/stack.c
     "$out/stack"
+    # the library has the header's calls, and no other
+    nm -g --defined-only "$HOURLOG_LIB/libhourlog_c.a" | sed -n 's/.* T //p' | sort >"$out/exported.txt"
+    sed -n 's/^int64_t \(hourlog_[a-z_]*\)(.*/\1/p' include/hourlog.h | sort | diff - "$out/exported.txt"
     gcc -shared -Wl,--whole-archive "$HOURLOG_LIB/libhourlog_c.a" -Wl,--no-whole-archive -o "$out/hourlog.so"
     tests/sizing "$out/hourlog.so"
     echo '#include "hourlog.h"

@@ -87,9 +87,16 @@ fn day_by_day(day: u64, changes: &[u32]) -> Range<u128> {
 }
 
 pub fn self_test() {
-    let right: [&[u32]; 5] = [&[], &[0, 23], &[3, 25], &[3, 23, 7, 25], &[1, 25, 2, 25]];
+    let right: [&[u32]; 6] = [
+        &[],
+        &[0, 23],
+        &[3, 25],
+        &[3, 23, 7, 25],
+        &[1, 25, 2, 25],
+        &[88, 23, 305, 25, 453, 23, 670, 25, 2_278, 23, 2_495, 25],
+    ];
     for changes in right {
-        for day in 0..12 {
+        for day in (0..12).chain(360..370).chain(450..456).chain(2_490..2_500) {
             assert_eq!(hours_of(day, changes), Ok(day_by_day(day, changes)));
         }
     }

@@ -64,7 +64,7 @@ fn draw(random: &mut Random, pages: u32, cells: u32, plain: &Plain, taste: &Tast
         0..=6 => Call::Count(hour(random, plain)),
         7..=13 => Call::Reading(hour(random, plain)),
         14..=20 => Call::Reach(figure(random, plain)),
-        21..=24 => Call::Day(day(random, plain), changes(random)),
+        21..=24 => Call::Day(day(random, plain), changes(random, plain)),
         25..=27 => Call::Free,
         28 => Call::Freeze(page_size(random), room(random)),
         _ => fresh(random, pages, cells),
@@ -96,21 +96,23 @@ fn insert_or_strike(random: &mut Random, pages: u32, plain: &Plain, size: Size) 
     }
 }
 
-/// None, a wrong list, or one with changes on some of the first days.
-fn changes(random: &mut Random) -> Changes {
+/// None, a wrong list, or one with changes on some of the days logged.
+fn changes(random: &mut Random, plain: &Plain) -> Changes {
     match random.below(8) {
         0 | 1 => Changes::NONE,
         2 => Changes::of(random.pick(&WRONG)),
-        _ => right_changes(random),
+        _ => right_changes(random, plain.counts().len() as u64 / 24),
     }
 }
 
-pub fn right_changes(random: &mut Random) -> Changes {
+/// Changes on the first of so many days, or all over them.
+pub fn right_changes(random: &mut Random, days: u64) -> Changes {
     let mut list = Vec::new();
-    let mut number = random.below(3) as u32;
+    let step = random.pick(&[4, 4 + days / 4]);
+    let mut number = random.below(step) as u32;
     for _ in 0..random.below(Changes::MOST as u64 / 2) {
         list.extend([number, random.pick(&[23, 25])]);
-        number += random.between(1, 4) as u32;
+        number += random.between(1, step) as u32;
     }
     if random.one_in(4) {
         list.extend([u32::MAX, random.pick(&[23, 25])]);

@@ -177,18 +177,35 @@ fn session(seed: u64) -> Vec<u8> {
     input
 }
 
+/// The largest sizes, and sizes above them, some of which would be small again
+/// in two bytes.
+const LARGE: [&str; 6] = [
+    "n 1024 1800",
+    "n 1025 1800",
+    "n 1024 1801",
+    "n 65537 9",
+    "n 1 65545",
+    "n 4294967295 4294967295",
+];
+
+/// An hour of the first two pages, or one whose low bits alone would be one.
+fn hour(random: &mut Random) -> u64 {
+    let far: u64 = random.pick(&[1 << 16, 1 << 31]);
+    random.below(90) + if random.one_in(12) { far } else { 0 }
+}
+
 fn good_line(random: &mut Random, size: Size) -> String {
-    let hour = random.below(90);
+    let hour = hour(random);
     let value = count(random, size);
     match random.below(20) {
         0 if random.one_in(3) => format!("n {} {}", random.below(4), random.below(12)),
-        0 => "n 1024 1800".into(),
+        0 => random.pick(&LARGE).into(),
         1..=8 => format!("a {value}"),
         9..=11 => format!("s {hour} {value}"),
         12 => format!("g {hour}"),
         13 | 14 => format!("r {hour}"),
         15 | 16 => format!("w {value}"),
-        17 => format!("d {}", random.below(5)),
+        17 => format!("d {}", random.pick(&[0, 1, 2, 3, 178_956_970])),
         _ => "f".into(),
     }
 }

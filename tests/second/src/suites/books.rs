@@ -11,7 +11,9 @@ use crate::store_calls::{same_bytes, same_word};
 
 const FIRST_SEED: u64 = 8_400_000;
 const LISTS: u64 = 300;
-const MOST_BYTES: usize = 2 * 65_536;
+const LONG: u64 = 40;
+const MOST: usize = 65_536;
+const MOST_BYTES: usize = 2 * MOST;
 
 pub fn play(run: &mut Run) -> Outcome {
     let result = by_document_02(run);
@@ -21,12 +23,15 @@ pub fn play(run: &mut Run) -> Outcome {
         run.note(format!("books, e = {e}"), result)?;
     }
     for e in run.page_sizes() {
-        let result = page_borders(run, e).and_then(|()| longest(run, e));
+        let result = page_borders(run, e)
+            .and_then(|()| longest(run, e))
+            .and_then(|()| one_count_above(run, e));
         run.note(format!("books, e = {e}"), result)?;
     }
     let result = digits(run).and_then(|()| counts_above(run));
     run.note("books, digits and counts", result)?;
-    run.each_seed(FIRST_SEED, LISTS, random_book)
+    run.each_seed(FIRST_SEED, LISTS, random_book)?;
+    run.each_seed(FIRST_SEED + 100_000, LONG, one_hour_of_a_long_book)
 }
 
 /// Ten coins are 00 10; and each refusal before the next.
@@ -107,8 +112,8 @@ fn page_borders(run: &mut Run, e: u32) -> Result<(), String> {
 
 /// The most hours, an hour more and a byte more, and a fault in their last byte.
 fn longest(run: &mut Run, e: u32) -> Result<(), String> {
-    round_trip(run, &counts(&mut Random::new(7), 65_536, Size::Usual), e)?;
-    round_trip(run, &vec![9_999; 65_536], e)?;
+    round_trip(run, &counts(&mut Random::new(7), MOST, Size::Usual), e)?;
+    round_trip(run, &vec![9_999; MOST], e)?;
     for length in [MOST_BYTES, MOST_BYTES + 1, MOST_BYTES + 2, MOST_BYTES + 3] {
         let mut book = vec![0x99; length];
         compare_from_book(&mut run.library, &book, e)?;
@@ -152,6 +157,34 @@ fn counts_above(run: &mut Run) -> Result<(), String> {
         }
     }
     Ok(())
+}
+
+/// The most hours, of which one alone has too many coins: late, the last, and on
+/// either side of page borders.
+fn one_count_above(run: &mut Run, e: u32) -> Result<(), String> {
+    let page = 1 << e;
+    let border = MOST / 2;
+    for hour in [border - 1, border, MOST - page - 1, MOST - page, MOST - 1] {
+        let mut list = vec![7; MOST];
+        list[hour] = 10_000;
+        compare_to_book(&mut run.library, &image_of(&list, e), &Ok(list))
+            .map_err(|difference| format!("10,000 coins in hour {hour}: {difference}"))?;
+    }
+    Ok(())
+}
+
+/// A long book in which one hour alone, wherever it is, is not decimal, and an
+/// image in which it has too many coins.
+fn one_hour_of_a_long_book(run: &mut Run, seed: u64) -> Result<(), String> {
+    let mut random = Random::new(seed);
+    let (e, length) = (random.between(2, 8) as u32, random.between(1_000, 65_536));
+    let mut list = counts(&mut random, length as usize, Size::Usual);
+    let hour = random.below(length) as usize;
+    let mut book = book_of(&list);
+    book[2 * hour + random.below(2) as usize] |= random.pick(&[0x0A, 0xA0]);
+    compare_from_book(&mut run.library, &book, e)?;
+    list[hour] = random.between(10_000, 70_000);
+    compare_to_book(&mut run.library, &image_of(&list, e), &Ok(list))
 }
 
 /// A good book, and the same one with a byte that may not be decimal.

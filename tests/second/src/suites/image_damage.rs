@@ -1,6 +1,6 @@
 //! Images that are damaged: verdict and every query must agree.
 
-use crate::bits::turn;
+use crate::bits::{number, turn};
 use crate::image::image_of;
 use crate::image_calls::{compare_looking, Questions};
 use crate::random::{counts, Random, Size};
@@ -16,7 +16,12 @@ pub fn play(run: &mut Run) -> Outcome {
     run.each_seed(FIRST_SEED, EACH_BIT, each_bit_and_length)?;
     run.each_seed(FIRST_SEED + 100_000, RANDOM, random_damage)?;
     run.each_seed(FIRST_SEED + 200_000, GARBAGE, garbage_body)?;
-    run.each_seed(FIRST_SEED + 300_000, LONGER, longer_image)
+    run.each_seed(FIRST_SEED + 300_000, LONGER, longer_image)?;
+    for e in run.page_sizes() {
+        let result = last_page_of_the_longest(run, e);
+        run.note(format!("the longest image, damaged, e = {e}"), result)?;
+    }
+    Ok(())
 }
 
 /// An image of a few dozen hours, so that several pages and all parts of a
@@ -64,6 +69,34 @@ fn longer_image(run: &mut Run, seed: u64) -> Result<(), String> {
         let bit = random.below(8 * image.len() as u64) as usize;
         turn(&mut damaged, bit);
         let questions = Questions::of(&damaged, &mut random, 300);
+        compare_looking(&mut run.library, &damaged, &questions)
+            .map_err(|text| format!("bit {bit}: {text}"))?;
+    }
+    Ok(())
+}
+
+/// The longest image with one bit turned that belongs to its last page: of its
+/// start, its root and its tree, the last of the code and the last of all.
+fn last_page_of_the_longest(run: &mut Run, e: u32) -> Result<(), String> {
+    let image = image_of(&counts(&mut Random::new(e.into()), 65_536, Size::Few), e);
+    let code = 16 + 4 * (65_536 >> e);
+    let start = number(&image[code - 4..code]) as usize;
+    let code_bits = number(&image[12..16]) as usize;
+    let questions = Questions {
+        hours: vec![0, 65_535, 65_536],
+        figures: vec![0, 1],
+        stretches: vec![1],
+        bags: vec![1],
+    };
+    for bit in [
+        8 * (code - 4) + 7,
+        8 * code + start,
+        8 * code + start + (code_bits - start) / 2,
+        8 * code + code_bits - 1,
+        8 * image.len() - 1,
+    ] {
+        let mut damaged = image.clone();
+        turn(&mut damaged, bit);
         compare_looking(&mut run.library, &damaged, &questions)
             .map_err(|text| format!("bit {bit}: {text}"))?;
     }

@@ -65,7 +65,27 @@ fn rise_and_fall(run: &mut Run) -> Result<(), String> {
         (Call::Insert(0, 0), 0),
         (Call::Insert(1, u32::MAX - 123), 6),
     ];
-    all_give(run, &roomy.bytes(), &words)
+    all_give(run, &roomy.bytes(), &words)?;
+    many_cells(run)
+}
+
+/// Each page of the largest store has as many coins as a cell holds, every
+/// second one five of them in its last hour: an hour more at the front brings
+/// those five to a page that is full, an hour less brings them back.
+fn many_cells(run: &mut Run) -> Result<(), String> {
+    let mut list = vec![0; 65_535];
+    for page in (0..1_024).step_by(2) {
+        list[64 * page] = 117;
+        list[64 * page + 63] = 5;
+        list[64 * page + 64] = 122;
+    }
+    let store = built(1_024, 1_800, &list, &mut Random::new(0));
+    let mut bytes = store.expect("a cell for each page").bytes();
+    for (call, expected) in [(Call::Insert(0, 0), 512), (Call::Strike(0), 512 * 65_536)] {
+        let done = compare(&mut run.library, &mut bytes, call)?;
+        same_word(done.word, expected, "document 02")?;
+    }
+    Ok(())
 }
 
 fn all_give(run: &mut Run, bytes: &[u8], words: &[(Call, i64)]) -> Result<(), String> {

@@ -1,5 +1,5 @@
-//! Lists of calls on the largest stores and on other shapes whose cell numbers
-//! need both bytes.
+//! Fresh stores of every size, and lists of calls on the largest stores and on
+//! other shapes whose cell numbers need both bytes.
 
 use crate::draw::{calls, Taste};
 use crate::plain::TOTAL_LIMIT;
@@ -7,7 +7,8 @@ use crate::random::{counts, Random, Size};
 use crate::reserve::cells;
 use crate::run::{Outcome, Run};
 use crate::session::{Session, Start};
-use crate::store_calls::Call;
+use crate::store_bytes::length;
+use crate::store_calls::{compare, Call};
 use crate::suites::sessions::compare_session;
 
 const FIRST_SEED: u64 = 2_000_000;
@@ -26,12 +27,29 @@ const SHAPES: [(u32, u32); 6] = [
 ];
 
 pub fn play(run: &mut Run) -> Outcome {
+    let result = fresh_stores(run);
+    run.note("fresh stores", result)?;
     run.each_seed(FIRST_SEED, STARTS, |run, seed| {
         compare_session(run, &large_session(seed), PLAYS)
     })?;
     run.each_seed(FIRST_SEED + 100_000, 1, |run, seed| {
         compare_session(run, &freezes_of_a_full_log(seed), PLAYS)
     })
+}
+
+/// Sizes around one byte, and at their limits and beyond, each in a buffer of
+/// the length that it asks for.
+fn fresh_stores(run: &mut Run) -> Result<(), String> {
+    for pages in [0, 1, 2, 255, 256, 257, 1_023, 1_024, 1_025] {
+        for cells in [0, 1, 2, 255, 256, 257, 1_799, 1_800, 1_801] {
+            let mut bytes = vec![0xC3; length(pages as usize, cells as usize)];
+            for call in [Call::Fresh(pages, cells), Call::Free] {
+                compare(&mut run.library, &mut bytes, call)
+                    .map_err(|difference| format!("{pages} and {cells}: {difference}"))?;
+            }
+        }
+    }
+    Ok(())
 }
 
 fn large_session(seed: u64) -> Session {

@@ -37,6 +37,10 @@ pub fn play(run: &mut Run) -> Outcome {
         let result = verdict(&mut run.library, &bytes, Some(-10));
         run.note(name, result)?;
     }
+    for fault in &LAST_FAULTS {
+        let result = fault_of_the_largest(&mut run.library, fault);
+        run.note(fault.0, result)?;
+    }
     let result = total_above_limit(&mut run.library);
     run.note("total above its limit", result)?;
     let result = hours_from_n_on(&mut run.library);
@@ -110,6 +114,38 @@ const FAULTS: [Fault; 33] = [
     }),
 ];
 
+/// Faults in the last page and the last cells of the largest store, where a
+/// check that ends early does not come.
+const LAST_FAULTS: [Fault; 9] = [
+    ("the last hour is not logged", |s| {
+        s.bytes[12..16].copy_from_slice(&65_535u32.to_le_bytes());
+    }),
+    ("the last page's sum asks for two cells", |s| {
+        s.put(16 + 6 * 1_023, 123);
+    }),
+    ("the last page has no chain", |s| {
+        s.put(16 + 6 * 1_023 + 4, 0)
+    }),
+    ("the last page's chain runs on", |s| {
+        s.link(s.last(1_023), s.store.free[0]);
+    }),
+    ("an unused bit of the last page is set", |s| {
+        s.turn(s.last(1_023), 239)
+    }),
+    ("the last free cell has its last bit set", |s| {
+        s.turn(s.last_free(), 239)
+    }),
+    ("the last free cell leads to itself", |s| {
+        s.link(s.last_free(), s.last_free())
+    }),
+    ("the last free cell leads above C", |s| {
+        s.link(s.last_free(), 1_801)
+    }),
+    ("the free count is one more than the last", |s| {
+        s.put(8, s.store.free.len() + 1);
+    }),
+];
+
 /// Changes after which document 01 still calls the store sound.
 const STILL_SOUND: [Fault; 3] = [
     ("nothing", |_| ()),
@@ -125,6 +161,16 @@ impl Sample {
         list[64 + random.below(60) as usize] = random.between(130, 250);
         list[HOURS - 1] = random.between(1, 122);
         let store = built(PAGES, CELLS, &list, &mut random).expect("24 cells suffice");
+        Sample::of(store)
+    }
+
+    /// The largest store with a coin in every hour.
+    fn largest() -> Sample {
+        let store = built(1_024, 1_800, &[1; 65_536], &mut Random::new(4));
+        Sample::of(store.expect("a cell for each page suffices"))
+    }
+
+    fn of(store: Store) -> Sample {
         let bytes = store.bytes();
         Sample { store, bytes }
     }
@@ -137,6 +183,15 @@ impl Sample {
         *self.chain(page).last().expect("the page has cells")
     }
 
+    fn last_free(&self) -> usize {
+        *self.store.free.last().expect("some cells are free")
+    }
+
+    /// Where a cell stands.
+    fn cell(&self, number: usize) -> usize {
+        length(self.store.pages.len(), number - 1)
+    }
+
     /// Puts a number of two bytes.
     fn put(&mut self, at: usize, value: usize) {
         let value = u16::try_from(value).expect("two bytes hold it");
@@ -144,12 +199,13 @@ impl Sample {
     }
 
     fn link(&mut self, from: usize, to: usize) {
-        self.put(length(PAGES, from - 1), to);
+        self.put(self.cell(from), to);
     }
 
     /// Turns a bit of a cell's code.
     fn turn(&mut self, cell: usize, bit: usize) {
-        turn(&mut self.bytes, 8 * (length(PAGES, cell - 1) + 2) + bit);
+        let code = self.cell(cell) + 2;
+        turn(&mut self.bytes, 8 * code + bit);
     }
 }
 
@@ -204,6 +260,19 @@ fn verdict(library: &mut Library, bytes: &[u8], all: Option<i64>) -> Result<(), 
         } else if done.word == -10 {
             return Err(format!("{call}: refused 10 on a sound store"));
         }
+    }
+    Ok(())
+}
+
+/// Sound without the fault, and refused 10 with it.
+fn fault_of_the_largest(library: &mut Library, (_, make): &Fault) -> Result<(), String> {
+    let mut sample = Sample::largest();
+    let free = compare(library, &mut sample.bytes, Call::Free)?;
+    same_word(free.word, 776, "document 01")?;
+    make(&mut sample);
+    for call in [Call::Free, Call::Append(0), Call::Strike(65_535)] {
+        let done = compare(library, &mut sample.bytes, call)?;
+        same_word(done.word, -10, "document 01")?;
     }
     Ok(())
 }
