@@ -12,9 +12,9 @@ use lib.Dec.{leb, eqb}
 use borrow.Author.Tests.{eqb-false, eqb-true, leb-false, leb-true}
 use Rattle.lists.proofs.Tests.{left, right}
 use Rattle.days.specs.Days.{ChangesWrong, changesFit, dayHours, isChange}
-use Rattle.days.proofs.Pairs.{Pairs, fit, fit-is, fit-odd, fitFrom, none, other-day, pair, this-day}
+use Rattle.days.proofs.Pairs.{Pairs, fit, fit-is, fitFrom, none, other-day, pair, this-day}
 
--- an entry behind the first pair
+-- an entry behind the first pair, read behind it
 behind : (x h i j : ℕ) (rest : List ℕ) → i ≡ suc (suc j) → getD (x ∷ h ∷ rest) i 0 ≡ getD rest j 0
 behind x h i j rest e = ap (λ (z : ℕ). getD (x ∷ h ∷ rest) z 0) e
 

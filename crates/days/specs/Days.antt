@@ -34,8 +34,8 @@ isChange h = eqb h 23 || eqb h 25
 unfoldable pub changesFit : List ℕ → Bool
 changesFit cs = every (eqb (length cs % 2) 0 ∷ rises (dayNumbers cs) ∷ every (map isChange (hoursGiven cs)) ∷ [])
 
--- The same in facts, of a list that does not fit: 'an odd number of entries'; a day number, 2k entries before it, and the next one, not above it;
--- hours that are 'neither 23 nor 25'
+-- The same in facts, of a list that does not fit. Days stand at 2k and their hours at 2k + 1: 'an odd number of entries'; a day that the next one
+-- is not above; hours that are 'neither 23 nor 25'
 abbrev pub ChangesWrong : List ℕ → Type 0
 ChangesWrong cs =
     (length cs % 2 ≡ 1)

@@ -28,7 +28,7 @@ use Rattle.image.proofs.Accepted.{accepted-only, length-list}
 use Rattle.image.proofs.CheckLaws.{past-5}
 use Rattle.book.specs.Book.{decimal, decimalByte, fourDigits}
 use Rattle.book.proofs.BookLaws.{digits-of, four-at}
-use Rattle.demands.specs.Reasons.{Damage, Header, LeftAbove, NoHeader, NoImage, NoPageSize, NotDecimal, PageDamage, TooWide, Unsound}
+use Rattle.demands.specs.Reasons.{Damage, Header, LeftAbove, NoHeader, NoImage, NoPageSize, NotDecimal, PageDamage, Sized, TooWide, Unsound}
 use Rattle.demands.specs.Reasons.{before-above, before-passing, below-before, left-above, root-above, root-passing, tree-passing}
 use Rattle.demands.proofs.Theorems.{accepted-if}
 
@@ -49,8 +49,26 @@ pub not-above : (a b : ℕ) → Denies (leb a b) (b < a)
 not-above a b = (leb-false a b, λ e l. let m = leb-true a b e in omega arith)
 
 -- ---- a store: 'P, C or buffer length wrong'; 'not sound', where a store that is not does not meet the clauses
-pub sizes : (s : List ℕ) (P C : ℕ) → Denies (fits s P C) (Fitting s P C → ⊥)
-sizes s P C = (λ e w. true≢false (sym (fits-so s P C w) ∙ e), λ e n. n (fitting s P C e))
+fitting-sized : (s : List ℕ) (P C : ℕ) → Fitting s P C ↔ Sized s P C
+fitting-sized s P C = (
+  λ w. let l = w .limits in record {
+    pages-low = l .pages-low;
+    pages-high = l .pages-high;
+    cells-low = l .cells-low;
+    cells-high = l .cells-high;
+    long = w .long;
+  },
+  λ w. record {
+    limits = record { pages-low = w .pages-low; pages-high = w .pages-high; cells-low = w .cells-low; cells-high = w .cells-high };
+    long = w .long;
+  },
+)
+
+pub sizes : (s : List ℕ) (P C : ℕ) → Denies (fits s P C) (Sized s P C → ⊥)
+sizes s P C = (
+  λ e w. true≢false (sym (fits-so s P C (fitting-sized s P C .1 w)) ∙ e),
+  λ e n. n (fitting-sized s P C .0 (fitting s P C e)),
+)
 
 pub clauses : (s : List ℕ) → (sound s ≡ false → Unsound s) → Denies (sound s) (Unsound s)
 clauses s h = (h, λ e n. n (sound-items s e))

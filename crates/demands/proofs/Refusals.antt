@@ -2,7 +2,7 @@
 use mathlib.Core.Path.{_≡_, refl, sym, _∙_, subst}
 use mathlib.Core.Bool.{Bool, true, false, _&&_}
 use mathlib.Core.List.{List, [], _∷_, _++_}
-use mathlib.Core.Logic.{_⊎_, inl, inr, ⊎-elim}
+use mathlib.Core.Logic.{inl, inr, ⊎-elim}
 use Prim.Native.Nat.{ℕ, zero, suc, _-_, _*_, _/_, _≤_, _<_}
 use native.Mathlib.Omega.{arith}
 use lib.ListN.{length, set}
@@ -35,7 +35,7 @@ use Rattle.answers.specs.declared.image.Bag.{Bag}
 use Rattle.answers.specs.declared.image.Stretch.{Stretch}
 use Rattle.image_busiest.specs.Busiest.{BusiestCall, no-such-run, not-accepted, the-run}
 use Rattle.image_match.specs.Match.{MatchCall, no-coins, none, not-accepted as no-image, the-run as the-hours}
-use Rattle.book.specs.Book.{bookOf, decimal, fourDigits, listOfBook}
+use Rattle.book.specs.Book.{bookOf, decimal, listOfBook}
 use Rattle.book.proofs.BookLaws.{length-book, length-listed}
 use Rattle.book_in.specs.FromBook.{fromCall}
 use Rattle.book_in.proofs.FromLaws.{only-long}

@@ -1,5 +1,5 @@
 -- What demand 1 says of each call, in document 01's words: 'Where a call is turned down', and what C gets. Each law takes what it says from
--- `demand-1`, the last two from the exports' promise; a claim that says less fails here. Assumes nothing.
+-- `demand-1`, but for `live-unsound` and `freeze-unsound`, which the exports promise; a claim that says less fails here. Assumes nothing.
 use mathlib.Core.Path.{_≡_, refl, sym, ap, _∙_, subst}
 use mathlib.Core.Bool.{Bool, true, false}
 use mathlib.Core.List.{List, [], _∷_}
@@ -12,7 +12,6 @@ use lib.ListN.{getD}
 use Rattle.store.specs.Plain.{Append, Call, Count, Day, Free, Insert, Reach as ReachOf, Reading, Set, Strike}
 use Rattle.answers.specs.Store.{Answer, answered, changed, refused as turned}
 use Rattle.store.specs.Call.{call, freshCall}
-use Rattle.store.specs.Fitting.{Fitting}
 use Rattle.store.specs.Items.{Items}
 use Rattle.store.specs.Sound.{sound}
 use Rattle.store.proofs.ItemLaws.{sound-items}
@@ -36,7 +35,7 @@ use Rattle.hourlog_c.specs.Public.{PublicCall, beside, lent}
 use Rattle.words.specs.End.{End, noRun, ofBag, ofCheck, ofImage, ofStore, ofStretch, refusal, theCells, theHours, theNumber, theRun, theSums}
 use Rattle.words.specs.ReadBack.{Reads, busiestFirst, busiestSum, checkedHours, checkedTotal, matchedFirst, matchedHours, returned, taken}
 use Rattle.hourlog_c.specs.Export.{Answers}
-use Rattle.demands.specs.Reasons.{NoHeader, NoneFits, Unsound, Wins, reasons}
+use Rattle.demands.specs.Reasons.{NoHeader, NoneFits, Sized, Unsound, Wins, reasons}
 use Rattle.demands.specs.Demand1.{Allowed, Bytes, Gives, Given, Index, Kind, aNumber, cellsMoved, firstAndSum, hoursAndTotal, hoursOrNone, row}
 use Rattle.demands.proofs.Demand1.{demand-1, live-10}
 use Rattle.demands.proofs.Slices.{same-slice}
@@ -454,11 +453,11 @@ not-below m n f = let l : n < suc m = lt-of-not-le f in omega arith
 
 -- ---- rows in C's words: 'fresh: 9, P, C or buffer length wrong', and where they are right a store is made
 module _ (s : List ℕ) (P C w : ℕ) (t : List (List ℕ)) (a : Answers (Fresh s P C) w t) where
-  pub fresh-minus-9 : (w ≡ 2 ^ 64 - 9) ↔ (Fitting s P C → ⊥)
+  pub fresh-minus-9 : (w ≡ 2 ^ 64 - 9) ↔ (Sized s P C → ⊥)
   unfolding reasons without stands
   fresh-minus-9 = minus-at (Fresh s P C) w t 9 0 (omega arith) (omega arith) (λ x. omega (arith, x .3)) refl a
 
-  pub fresh-made : Fitting s P C → w < 2 ^ 63
+  pub fresh-made : Sized s P C → w < 2 ^ 63
   unfolding reasons
   fresh-made f = result-word (Fresh s P C) w t a (λ n. n f, tt)
 

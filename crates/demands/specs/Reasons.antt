@@ -12,7 +12,6 @@ use Rattle.tree.specs.Read.{leftAt, leftOf, rightAt}
 use Rattle.image.specs.Image.{IsImage, image}
 use Rattle.image.specs.Read.{beforeOf, eOf, lOf, listOf, nOf, rootOf, sOf, startOf, treeAt, widthOf}
 use Rattle.days.specs.Days.{ChangesWrong, dayEnd}
-use Rattle.store.specs.Fitting.{Fitting}
 use Rattle.store.specs.Items.{Items}
 use Rattle.store.specs.Plain.{Append, Call, Count, Day, Free, Insert, Plain, Reach, Reading, Set, Strike, need}
 use Rattle.store.specs.Reading.{listIn, read}
@@ -38,6 +37,14 @@ Wins k (r ∷ rs) = ((k ≡ r .number) × r .fits) ⊎ ((r .fits → ⊥) × Win
 abbrev pub NoneFits : List Reason → Type 0
 NoneFits [] = Unit {0}
 NoneFits (r ∷ rs) = (r .fits → ⊥) × NoneFits rs
+
+-- ---- of a buffer for a store: not 'P, C or buffer length wrong'
+pub record Sized (s : List ℕ) (P C : ℕ) : Type 0 where
+  pub pages-low : 1 ≤ P
+  pub pages-high : P ≤ 1024
+  pub cells-low : 1 ≤ C
+  pub cells-high : C ≤ 1800
+  pub long : length s ≡ 16 + 6 * P + 32 * C
 
 -- ---- of a store, and of the list that it holds
 -- 'not sound', the clauses of document 01 not being all met
@@ -128,7 +135,7 @@ plainReasons Free L = []
 
 -- each call's row, its numbers in their order, so that row and table can be held against each other
 unfoldable pub reasons : PublicCall → List Reason
-reasons (Fresh s P C) = 9 when (Fitting s P C → ⊥) ∷ []
+reasons (Fresh s P C) = 9 when (Sized s P C → ⊥) ∷ []
 -- 'store, every other live call and freeze'
 reasons (Live c s) = 10 when Unsound s ∷ plainReasons c (read s .plain)
 reasons (Freeze s e i) = 10 when Unsound s ∷ 1 when NoPageSize e ∷ 4 when (length i < length (image e (listIn s))) ∷ []
