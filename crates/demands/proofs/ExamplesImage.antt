@@ -1,133 +1,37 @@
--- The frozen image by examples, in the numbers of documents 01 and 02: the words of C, the reserve, the tree code bit by bit, images byte by byte,
--- and what the calls on images give at each border, from both sides. A line is a call and its word (`ExampleForms`). Assumes nothing.
+-- The frozen image by examples, in the numbers of documents 01 and 02: images byte by byte, and what the calls on them give at each border, from
+-- both sides, and which of two refusals that fit is answered. `Leaves` says what C gets and what is left of all that a call was lent; under `Asking`
+-- nothing of that changes (`ExampleForms`). Assumes nothing.
 use mathlib.Core.Bool.{_&&_, false, true}
-use mathlib.Core.List.{List, [], _∷_, _++_, map}
+use mathlib.Core.List.{List, [], _∷_, _++_}
 use mathlib.Core.Path.{_≡_, refl, ap, ap₂, _∙_}
 use Prim.Native.Nat.{ℕ, _+_, _*_, _≤_}
 use native.Mathlib.Omega.{arith}
 use lib.Dec.{leb}
 use lib.ListN.{getD, length, length-append, replicate, set, take}
-use Rattle.lists.specs.Lists.{concat, every, fill, least, pick, reached, same, sum, tabulate, window}
+use Rattle.lists.specs.Lists.{pick, sum, window}
 use Rattle.lists.proofs.Sums.{sum-nones, zero-at}
 use Rattle.lists.proofs.Tables.{concat-most}
+use Rattle.bits.specs.Bits.{field}
 use Rattle.bits.proofs.Laws.{length-field}
-use Rattle.bits.specs.Bits.{bits, field, valueFrom}
-use Rattle.bits.specs.Numbers.{little, number}
-use Rattle.bits.specs.Pack.{pack}
-use Rattle.reserve.specs.Reserve.{ceil, dense, digits, reserve, sparse}
-use Rattle.tree.specs.Ranges.{Side, child, end, left, node, right}
-use Rattle.tree.specs.Read.{counts, later, leftOf, walk}
+use Rattle.reserve.specs.Reserve.{digits, reserve}
 use Rattle.tree.specs.Tree.{tree}
 use Rattle.tree.proofs.Shape.{length-tree}
 use Rattle.answers.specs.Image.{Reply, given, refused as turned}
-use Rattle.image.specs.Calls.{Result, lengthCall, put, putAfter, unwritten, writeCall}
-use Rattle.image.specs.Check.{accepted, check, headed}
-use Rattle.image.specs.Image.{Limits, bytesFor, code, header, image, packed, page, pageCode, pages, root, size, start, table}
-use Rattle.image.specs.Query.{beforePassing, count, look, lookIn, pageFine, reading, readingAt, theCount, theReading}
-use Rattle.image.specs.Read.{beforeOf, codeAt, eOf, lOf, listOf, nOf, pageOf, pagesOf, rootOf, sOf, startOf, sumOf, treeAt, widthOf}
-use Rattle.words.specs.End.{noRun, ofCheck, ofImage, refusal, theCells, theHours, theNumber, theRun, theSums}
-use Rattle.words.specs.ReadBack.{busiestFirst, busiestSum, checkedHours, checkedTotal, matchedFirst, matchedHours, returned, taken}
-use Rattle.words.specs.Words.{minus, pair, wordOf}
+use Rattle.image.specs.Calls.{Result, lengthCall, putAfter}
+use Rattle.image.specs.Check.{accepted, headed}
+use Rattle.image.specs.Image.{Limits, code, image, page, pageCode, pages, root, size}
+use Rattle.image.specs.Read.{sOf}
+use Rattle.words.specs.End.{ofImage, refusal, theNumber}
+use Rattle.words.specs.Words.{wordOf}
 use Rattle.hourlog_c.specs.Public.{ImageCheck, ImageCount, ImageLength, ImageReach, ImageReading, ImageWrite}
 use Rattle.demands.specs.Demand2.{pageStart, treeStart}
 use Rattle.demands.proofs.Demand2.{demand-2}
-use Rattle.demands.proofs.ExampleForms.{Asking, Leaves, _gives_, asking, binary, ended, endings, expected, hex, holding, leaves, refused}
-use Rattle.demands.proofs.ExampleSearches.{Is, May, Reaching, may-give, may-refuse, never-gives, reach-5, reach-8, reachWord, reachWords, reaching}
+use Rattle.demands.proofs.ExampleForms.{Asking, Ended, Leaves, _gives_, asking, expected, hex, holding, leaves, refused}
+use Rattle.demands.proofs.ExampleSearches.{Is, May, Reaching, may-give, may-refuse, never-gives, reach-5, reach-8, reaching}
+use Rattle.demands.proofs.Computing.{the-image}
 
--- ---- the words of C: a number; taken + returned·2^16; S + N·2^40; a run's sum + its first hour·2^40; its first hour + its hours·2^32; 0 for none;
--- 2^64 - k for a refusal
-pub in-digits :
-    map wordOf
-    (theNumber 4294967295
-    ∷ theCells 2 3
-    ∷ theCells 0 8
-    ∷ theSums 5 8
-    ∷ theSums 65536 4294967295
-    ∷ theRun 4 5
-    ∷ theRun 65535 4294967295
-    ∷ theHours 1 2
-    ∷ theHours 65535 65536
-    ∷ noRun
-    ∷ refusal 1
-    ∷ refusal 17
-    ∷ [])
-    ≡ 4294967295
-    ∷ 196610
-    ∷ 524288
-    ∷ 5497558138888
-    ∷ 72057598332895231
-    ∷ 4398046511109
-    ∷ 72056498821267455
-    ∷ 8589934593
-    ∷ 281474976776191
-    ∷ 0
-    ∷ 18446744073709551615
-    ∷ 18446744073709551599
-    ∷ []
-unfolding wordOf pair minus
-in-digits = refl
-
--- and what C reads in them, by the functions of include/hourlog.h
-pub read-in-c :
-    ((taken 196610 ≡ 2) × (returned 196610 ≡ 3) × (taken 524288 ≡ 0) × (returned 524288 ≡ 8))
-    × ((checkedHours 72057598332895231 ≡ 65536) × (checkedTotal 72057598332895231 ≡ 4294967295))
-    × ((busiestFirst 72056498821267455 ≡ 65535) × (busiestSum 72056498821267455 ≡ 4294967295))
-    × ((matchedFirst 281474976776191 ≡ 65535) × (matchedHours 281474976776191 ≡ 65536) × (matchedHours 0 ≡ 0))
-read-in-c = ((refl, refl, refl, refl), (refl, refl), (refl, refl), (refl, refl, refl))
-
--- ---- 'Let t be the binary digits of s, 0 for s = 0'; 'R(2,1)=1, R(2,2)=2, R(4,3)=5, R(4,6)=8, R(8,5)=12, R(64,1)=6, R(64,31)=117, R(64,32)=120,
--- R(64,122)=240 (one cell), R(64,123)=241 (two), R(64,4294967295)=1820 (eight)', and '0 if s = 0'
-pub reserves :
-    (map digits (0 ∷ 1 ∷ 2 ∷ 3 ∷ 4 ∷ 7 ∷ 8 ∷ 255 ∷ 256 ∷ 4294967295 ∷ []) ≡ 0 ∷ 1 ∷ 2 ∷ 2 ∷ 3 ∷ 3 ∷ 4 ∷ 8 ∷ 9 ∷ 32 ∷ [])
-    × (map (reserve 1) (0 ∷ 1 ∷ 2 ∷ []) ≡ 0 ∷ 1 ∷ 2 ∷ [])
-    × (map (reserve 2) (0 ∷ 3 ∷ 6 ∷ []) ≡ 0 ∷ 5 ∷ 8 ∷ [])
-    × (map (reserve 3) (0 ∷ 5 ∷ []) ≡ 0 ∷ 12 ∷ [])
-    × (map (reserve 6) (0 ∷ 1 ∷ 31 ∷ 32 ∷ 122 ∷ 123 ∷ 4294967295 ∷ []) ≡ 0 ∷ 6 ∷ 117 ∷ 120 ∷ 240 ∷ 241 ∷ 1820 ∷ [])
-unfolding reserve digits dense sparse
-reserves = (refl, refl, refl, refl, refl)
-
--- ---- 'the first t bits are the sum of the left half, high bit first. The left subtree starts at a + t; the right one starts where the left one's
--- reserve ends. Bits left over are 0'
--- Eight counts of sum 11: left 6 of 11; left 4 of 6, then 3 of 4 and 0 of 2; left 0 of 5, then 4 of 5; a bit left over there, and one at the root.
--- 64 counts of sum 12: left 3 of 12; left 1 of 3, then 1 of 1 four times, and 2, 0, 2, 0 of 2; left 3 of 9, then 0, 3, 0, 3 of 3 and three bits left
--- over; 0 of 6 three times and 5 of 6; then bits left over, 2, 3, 3, 1 and 3
-pub trees :
-    (tree 2 (1 ∷ 0 ∷ 2 ∷ 0 ∷ []) ≡ binary "01110")
-    × (tree 3 (3 ∷ 1 ∷ 0 ∷ 2 ∷ 0 ∷ 0 ∷ 4 ∷ 1 ∷ []) ≡ binary "0110 100 011 00 000 100 0 0")
-    × (tree 6 (1 ∷ replicate 20 0 ++ 2 ∷ replicate 20 0 ++ 3 ∷ replicate 19 0 ++ 5 ∷ 1 ∷ [])
-    ≡ binary "0011 01 1 1 1 1 10 00 10 00 0011 00 11 00 11 000 000 000 000 101 00 000 000 0 000")
-unfolding binary tree fill field digits reserve dense sparse sum pick
-trees = (refl, refl, refl)
-
--- where the subtrees of the eight counts stand, if the tree starts at bit 100: the first bit of each, and the bit behind its range
-abbrev range : List Side → List ℕ
-range ds = let n = node ds 3 (3 ∷ 1 ∷ 0 ∷ 2 ∷ 0 ∷ 0 ∷ 4 ∷ 1 ∷ []) 100 in n .first ∷ end n ∷ []
-
-pub ranges :
-    map range
-    ([]
-    ∷ (left ∷ [])
-    ∷ (right ∷ [])
-    ∷ (left ∷ left ∷ [])
-    ∷ (left ∷ right ∷ [])
-    ∷ (right ∷ left ∷ [])
-    ∷ (right ∷ right ∷ [])
-    ∷ (right ∷ right ∷ left ∷ [])
-    ∷ [])
-    ≡ (100 ∷ 120 ∷ [])
-    ∷ (104 ∷ 112 ∷ [])
-    ∷ (112 ∷ 119 ∷ [])
-    ∷ (107 ∷ 110 ∷ [])
-    ∷ (110 ∷ 112 ∷ [])
-    ∷ (115 ∷ 115 ∷ [])
-    ∷ (115 ∷ 118 ∷ [])
-    ∷ (118 ∷ 118 ∷ [])
-    ∷ []
-unfolding node child digits reserve dense sparse sum pick
-ranges = refl
-
--- ---- images: 'Header, 16 bytes: 0 is 1 (edition), 1 is e, 2-3 zero, 4-7 N, 8-11 total S, 12-15 L, the bits of code. Per page, 4 bytes: its start
--- bit. L bits of code, last byte filled with zeros'
+-- ---- 'Header, 16 bytes: 0 is 1 (edition), 1 is e, 2-3 zero, 4-7 N, 8-11 total S, 12-15 L, the bits of code. Per page, 4 bytes: its start bit. L
+-- bits of code, last byte filled with zeros'
 -- 'e = 2, counts 1,0,2,0,5: ..'
 abbrev printedList : List ℕ
 printedList = 1 ∷ 0 ∷ 2 ∷ 0 ∷ 5 ∷ []
@@ -135,7 +39,7 @@ printedList = 1 ∷ 0 ∷ 2 ∷ 0 ∷ 5 ∷ []
 abbrev printed : List ℕ
 printed = hex "01 02 00 00 05 00 00 00 08 00 00 00 14 00 00 00 00 00 00 00 09 00 00 00 37 45 A0"
 
--- pages of eight: 01011 and the tree of eight above; then 10010 and the tree of 0,0,7
+-- pages of eight, 18 coins: 01011 and the tree of the first eight, 0110 100 011 00 000 100 0 0; then 10010 and that of 0,0,7
 abbrev twoPagesList : List ℕ
 twoPagesList = 3 ∷ 1 ∷ 0 ∷ 2 ∷ 0 ∷ 0 ∷ 4 ∷ 1 ∷ 0 ∷ 0 ∷ 7 ∷ []
 
@@ -166,15 +70,17 @@ richList = 2882400001 ∷ 1412567294 ∷ []
 abbrev rich : List ℕ
 rich = hex "01 02 00 00 02 00 00 00 FF FF FF FF 80 00 00 00 00 00 00 00 FF FF FF FF FF FF FF FF AB CD EF 01 00 00 00 00"
 
--- where page 1 of the second one stands among the bits of all its bytes, and its tree: behind 24 bytes, and 25 bits of code
-pub addresses : (pageStart 3 twoPagesList 1 ≡ 192 + 25) × (treeStart 3 twoPagesList 1 ≡ 192 + 25 + 5)
-unfolding start pageCode root page pages window tabulate concat tree fill field sum digits reserve dense sparse pick
-addresses = (refl, refl)
+-- no hour; and 300 hours without a coin
+abbrev none : List ℕ
+none = hex "01 02 00 00 00 00 00 00 00 00 00 00 00 00 00 00"
+
+abbrev idle : List ℕ
+idle = hex "01 08 00 00 2C 01 00 00 00 00 00 00 00 00 00 00 00 00 00 00 00 00 00 00"
 
 abbrev blank : ℕ → List ℕ
 blank n = replicate n 0xFF
 
--- 'Bytes beyond the image are left unchanged'. 'Let r be the binary digits of S': three for 7, four for 8. 300 hours, 0x012C, without a coin
+-- 'Let r be the binary digits of S': three for 7, four for 8. 'Bytes beyond the image are left unchanged'
 pub writes :
     Leaves (ImageWrite printedList 2 (blank 27)) 27 (printedList ∷ printed ∷ [])
     × Leaves (ImageWrite printedList 2 (blank 29)) 27 (printedList ∷ (printed ++ blank 2) ∷ [])
@@ -186,11 +92,9 @@ pub writes :
     ((7 ∷ []) ∷ hex "01 02 00 00 01 00 00 00 07 00 00 00 0C 00 00 00 00 00 00 00 FF 80" ∷ [])
     × Leaves (ImageWrite (8 ∷ []) 2 (blank 22)) 22
     ((8 ∷ []) ∷ hex "01 02 00 00 01 00 00 00 08 00 00 00 0E 00 00 00 00 00 00 00 88 80" ∷ [])
-    × Leaves (ImageWrite (replicate 300 0) 8 (blank 24)) 24
-    (replicate 300 0 ∷ hex "01 08 00 00 2C 01 00 00 00 00 00 00 00 00 00 00 00 00 00 00 00 00 00 00" ∷ [])
-    × Leaves (ImageWrite [] 2 (blank 16)) 16 ([] ∷ hex "01 02 00 00 00 00 00 00 00 00 00 00 00 00 00 00" ∷ [])
-unfolding hex ended writeCall lengthCall putAfter put unwritten image header table packed code start pageCode root page pages window tabulate concat little
-    pack bytesFor valueFrom tree fill field sum digits reserve dense sparse pick wordOf ofImage
+    × Leaves (ImageWrite (replicate 300 0) 8 (blank 24)) 24 (replicate 300 0 ∷ idle ∷ [])
+    × Leaves (ImageWrite [] 2 (blank 16)) 16 ([] ∷ none ∷ [])
+unfolding the-image
 writes = (
   leaves refl,
   leaves refl,
@@ -203,6 +107,11 @@ writes = (
   leaves refl,
   leaves refl,
 )
+
+-- where page 1 of the second one stands among the bits of all its bytes, and its tree: behind 24 bytes and 25 bits of code, and its root
+pub addresses : (pageStart 3 twoPagesList 1 ≡ 192 + 25) × (treeStart 3 twoPagesList 1 ≡ 192 + 25 + 5)
+unfolding the-image
+addresses = (refl, refl)
 
 -- length and write: 1, 'e outside 2 to 8'; 3, the total 'above 4,294,967,295'; 4, a buffer 'shorter than the image'; in that order
 pub write-borders :
@@ -222,36 +131,11 @@ pub write-borders :
     ∷ ImageWrite (4294967295 ∷ 1 ∷ []) 2 [] gives refused 3
     ∷ ImageWrite (4294967295 ∷ 1 ∷ []) 9 [] gives refused 1
     ∷ [])
-unfolding endings ended writeCall lengthCall putAfter put unwritten image header table packed code start pageCode root page pages window tabulate concat
-    little pack bytesFor valueFrom tree fill field sum digits reserve dense sparse pick wordOf ofImage minus
+unfolding the-image
 write-borders = asking refl
 
--- ---- 'check (returns N and S)', count, reading and reach
-printed-is : Is printed printedList
-unfolding hex accepted headed every same pick eOf nOf sOf lOf number pagesOf widthOf startOf codeAt rootOf beforeOf sumOf treeAt pageOf listOf bits counts
-    leftOf size image header table packed code start pageCode root page pages window tabulate concat little pack bytesFor valueFrom tree fill field sum
-    digits reserve dense sparse
-printed-is = record { accepts = refl; says = refl }
-
-two-pages-is : Is twoPages twoPagesList
-unfolding hex accepted headed every same pick eOf nOf sOf lOf number pagesOf widthOf startOf codeAt rootOf beforeOf sumOf treeAt pageOf listOf bits counts
-    leftOf size image header table packed code start pageCode root page pages window tabulate concat little pack bytesFor valueFrom tree fill field sum
-    digits reserve dense sparse
-two-pages-is = record { accepts = refl; says = refl }
-
--- 'There reach 3 is 3, reach 4 is 5, reach 0 is 0, reach 9 is refused 8'
-pub reaches :
-    Reaching printed (0 gives 0 ∷ 1 gives 1 ∷ 2 gives 3 ∷ 3 gives 3 ∷ 4 gives 5 ∷ 8 gives 5 ∷ 9 gives refused 8 ∷ [])
-    × Reaching twoPages (1 gives 1 ∷ 3 gives 1 ∷ 4 gives 2 ∷ 6 gives 4 ∷ 7 gives 7 ∷ 11 gives 8 ∷ 12 gives 11 ∷ 18 gives 11 ∷ 19 gives refused 8 ∷ [])
-unfolding hex sOf number reachWords reachWord least reached sum pick wordOf ofImage minus
-reaches = (reaching printed-is refl, reaching two-pages-is refl)
-
--- the printed bytes with another byte at place k
-abbrev but : ℕ → ℕ → List ℕ
-but k v = set printed k v
-
-abbrev Answered : Type 0
-Answered =
+-- ---- check, which 'returns N and S', count and reading
+pub answered :
     Asking
     (ImageCheck printed gives holding 5 8
     ∷ ImageCount printed 0 gives 1
@@ -278,19 +162,42 @@ Answered =
     ∷ ImageCheck rich gives holding 2 4294967295
     ∷ ImageCount rich 0 gives 2882400001
     ∷ ImageReading rich 2 gives 4294967295
+    ∷ ImageCheck none gives holding 0 0
+    ∷ ImageCount none 0 gives refused 7
+    ∷ ImageReading none 0 gives 0
+    ∷ ImageReading none 1 gives refused 7
     ∷ [])
+unfolding the-image
+answered = asking refl
 
--- 5, 'image header: under 16 bytes; edition, e, zero bytes or N wrong; byte length not the one N, e and L give'; before 7
-abbrev WrongHeader : Type 0
-WrongHeader =
+-- reach: 'There reach 3 is 3, reach 4 is 5, reach 0 is 0, reach 9 is refused 8'
+accepted-so : Is printed printedList × Is twoPages twoPagesList × Is none []
+unfolding the-image
+accepted-so = (record { accepts = refl; says = refl }, record { accepts = refl; says = refl }, record { accepts = refl; says = refl })
+
+pub reaches :
+    Reaching printed (0 gives 0 ∷ 1 gives 1 ∷ 2 gives 3 ∷ 3 gives 3 ∷ 4 gives 5 ∷ 8 gives 5 ∷ 9 gives refused 8 ∷ [])
+    × Reaching twoPages
+    (1 gives 1 ∷ 3 gives 1 ∷ 4 gives 2 ∷ 6 gives 4 ∷ 7 gives 7 ∷ 11 gives 8 ∷ 12 gives 11 ∷ 18 gives 11 ∷ 19 gives refused 8 ∷ [])
+    × Reaching none (0 gives 0 ∷ 1 gives refused 8 ∷ [])
+unfolding the-image
+reaches = (reaching (accepted-so .0) refl, reaching (accepted-so .1) refl, reaching (accepted-so .2) refl)
+
+-- ---- 5, 'image header: under 16 bytes; edition, e, zero bytes or N wrong; byte length not the one N, e and L give'; before 7
+-- the printed bytes with another byte at place k
+abbrev but : ℕ → ℕ → List ℕ
+but k v = set printed k v
+
+pub wrong-header :
     Asking
     (ImageCheck [] gives refused 5
-    ∷ ImageCheck (take 15 printed) gives refused 5
-    ∷ ImageCheck (hex "01 02 00 00 00 00 00 00 00 00 00 00 00 00 00 00") gives holding 0 0
+    ∷ ImageCheck (take 15 none) gives refused 5
+    ∷ ImageCheck none gives holding 0 0
     ∷ ImageCheck (but 0 0) gives refused 5
     ∷ ImageCheck (but 0 2) gives refused 5
-    ∷ ImageCheck (but 1 1) gives refused 5
-    ∷ ImageCheck (but 1 9) gives refused 5
+    ∷ ImageCheck (set none 1 1) gives refused 5
+    ∷ ImageCheck (set none 1 8) gives holding 0 0
+    ∷ ImageCheck (set none 1 9) gives refused 5
     ∷ ImageCheck (but 2 1) gives refused 5
     ∷ ImageCheck (but 3 1) gives refused 5
     ∷ ImageCheck (take 26 printed) gives refused 5
@@ -299,18 +206,27 @@ WrongHeader =
     ∷ ImageReading (but 0 2) 6 gives refused 5
     ∷ ImageReading (but 0 2) 0 gives refused 5
     ∷ [])
+unfolding the-image
+wrong-header = asking refl
 
--- N at most 65,536: a header of so many hours and no coins, 256 pages of 256, and one of an hour more
-abbrev LongLog : Type 0
-LongLog =
+-- 'N at most 65,536': a header of so many hours and no coin, with 256 pages of 256; and of an hour more, with 257
+pub longest-header :
     Asking
     (ImageReading (hex "01 08 00 00 00 00 01 00 00 00 00 00 00 00 00 00" ++ replicate 1024 0) 0 gives 0
     ∷ ImageReading (hex "01 08 00 00 01 00 01 00 00 00 00 00 00 00 00 00" ++ replicate 1028 0) 0 gives refused 5
     ∷ [])
+unfolding the-image
+longest-header = asking refl
 
--- 6, 'check: not the writer's bytes; queries: damage', on their path alone; behind 7
-abbrev Damage : Type 0
-Damage =
+-- ---- 6, 'check: not the writer's bytes; queries: damage', on their path alone; behind 7. Beside the printed image those of 0,0,0,0,5, where page 1
+-- starts at bit 3 of 13, and of 1,0,2,0,6, where S is 9
+abbrev fifth : List ℕ
+fifth = hex "01 02 00 00 05 00 00 00 05 00 00 00 0D 00 00 00 00 00 00 00 03 00 00 00 16 D0"
+
+abbrev nine : List ℕ
+nine = hex "01 02 00 00 05 00 00 00 09 00 00 00 15 00 00 00 00 00 00 00 09 00 00 00 37 4E C0"
+
+pub damages :
     Asking
     -- page 0's root above S
     (ImageCheck (but 24 0xB7) gives refused 6
@@ -319,47 +235,47 @@ Damage =
     ∷ ImageCount (but 24 0xB7) 5 gives refused 7
     ∷ ImageReading (but 24 0xB7) 0 gives 0
     ∷ ImageReading (but 24 0xB7) 6 gives refused 7
-    -- page 1's root, 7, is not S, which check alone minds; 2, below page 0's, is damage for its hours
-    ∷ ImageCheck (but 25 0x3D) gives refused 6
+    -- page 1's root above an S of 8
+    ∷ ImageCheck (set nine 8 8) gives refused 6
+    ∷ ImageCount (set nine 8 8) 4 gives refused 6
+    ∷ ImageCount (set nine 8 8) 2 gives 2
+    -- page 1's root 2, below page 0's
+    ∷ ImageCheck (but 25 0x15) gives refused 6
     ∷ ImageCount (but 25 0x15) 4 gives refused 6
     ∷ ImageCount (but 25 0x15) 2 gives 2
+    -- page 0's root from bit 11 on passes L, which page 1 minds too
+    ∷ ImageCheck (set fifth 16 11) gives refused 6
+    ∷ ImageCount (set fifth 16 11) 4 gives refused 6
+    -- page 1's tree passes an L of 19, and its root one of 12
+    ∷ ImageCheck (but 12 19) gives refused 6
+    ∷ ImageCount (but 12 19) 4 gives refused 6
+    ∷ ImageReading (but 12 19) 4 gives 3
+    ∷ ImageCount (set (take 26 printed) 12 12) 4 gives refused 6
     -- a left sum above its node's, in page 1
     ∷ ImageCheck (but 25 0x47) gives refused 6
     ∷ ImageCount (but 25 0x47) 4 gives refused 6
     ∷ ImageCount (but 25 0x47) 2 gives 2
-    -- a bit behind the code
+    -- a bit behind the code, which check alone minds
     ∷ ImageCheck (but 26 0xA1) gives refused 6
     ∷ ImageCount (but 26 0xA1) 4 gives 5
-    -- L a bit too small for page 1
-    ∷ ImageCheck (but 12 0x13) gives refused 6
-    ∷ ImageCount (but 12 0x13) 4 gives refused 6
-    ∷ ImageReading (but 12 0x13) 4 gives 3
     ∷ [])
-
-pub answers : Answered × WrongHeader × LongLog × Damage
-unfolding hex endings ended check accepted count reading readingAt look lookIn theCount theReading pageFine beforePassing walk later headed every same pick
-    eOf nOf sOf lOf number pagesOf widthOf startOf codeAt rootOf beforeOf sumOf treeAt pageOf listOf bits counts leftOf size image header table packed code
-    start pageCode root page pages window tabulate concat little pack bytesFor valueFrom tree fill field sum digits reserve dense sparse wordOf ofCheck
-    ofImage pair minus
-answers = (asking refl, asking refl, asking refl, asking refl)
+unfolding the-image
+damages = asking refl
 
 -- ---- reach: 5 before 8, and 8 before 6. 'On an image that check doesn't accept, reach past refusals 5 and 8 may give refusal 6 or any index from 0
--- to N'
+-- to N', which is 5
 abbrev damaged : List ℕ
 damaged = but 24 0xB7
 
--- the printed bytes with page 0's root above S are headed, say that S is 8 and N is 5, and are not accepted
 damaged-so : (headed damaged ≡ true) × (leb 8 (sOf damaged) ≡ true) × (accepted damaged ≡ false)
-unfolding hex accepted headed every same pick eOf nOf sOf lOf number pagesOf widthOf startOf codeAt rootOf beforeOf sumOf treeAt pageOf listOf bits counts
-    leftOf size image header table packed code start pageCode root page pages window tabulate concat little pack bytesFor valueFrom tree fill field sum
-    digits reserve dense sparse
+unfolding the-image
 damaged-so = (refl, refl, refl)
 
 pub reach-refusals :
     Leaves (ImageReach (but 0 2) 9) (refused 5) (but 0 2 ∷ [])
     × Leaves (ImageReach damaged 9) (refused 8) (damaged ∷ [])
     × (May damaged 8 (refusal 6) × May damaged 8 (theNumber 0) × May damaged 8 (theNumber 5) × (May damaged 8 (theNumber 6) → ⊥))
-unfolding hex headed every sOf nOf eOf lOf size pages bytesFor number wordOf minus
+unfolding the-image
 reach-refusals =
     let h = damaged-so .0 in
     let l = damaged-so .1 in
@@ -380,17 +296,20 @@ module _ (xs out : List ℕ) (long : length xs ≡ 65537) where
       × Leaves (ImageWrite xs 8 out) (refused 2) (xs ∷ out ∷ [])
       × Leaves (ImageLength xs 9) (refused 1) (xs ∷ [])
       × Leaves (ImageWrite xs 1 out) (refused 1) (xs ∷ out ∷ [])
-  unfolding ended lengthCall writeCall putAfter unwritten pick wordOf ofImage minus
+  unfolding the-image
   too-long = (
     leaves (ap (λ (r : Reply). expected (wordOf (ofImage r)) (xs ∷ [])) (over-2 2 xs refl long)),
-    leaves (ap (λ (r : Result). expected (wordOf (ofImage (r .reply))) (xs ∷ r .bytes ∷ [])) (ap (λ (r : Reply). putAfter r out (image 8 xs)) (over-2 8 xs refl long))),
+    leaves (ap (λ (r : Reply). written (putAfter r out (image 8 xs))) (over-2 8 xs refl long)),
     leaves refl,
     leaves refl,
   )
+    where
+      written : Result → Ended
+      written r = expected (wordOf (ofImage (r .reply))) (xs ∷ r .bytes ∷ [])
 
 -- 65,536 hours without a coin are 256 pages of 256 without code: 16 + 4·256 bytes
 nothing-for-zero : (digits 0 ≡ 0) × (reserve 8 0 ≡ 0)
-unfolding digits reserve
+unfolding the-image
 nothing-for-zero = (refl, refl)
 
 module _ (xs : List ℕ) (long : length xs ≡ 65536) (idle : sum xs ≡ 0) where
@@ -412,7 +331,9 @@ module _ (xs : List ℕ) (long : length xs ≡ 65536) (idle : sum xs ≡ 0) wher
   no-code = omega (arith, concat-most (pages 8 (length xs)) 0 (pageCode 8 xs) (λ p l. no-bits p))
 
   pub longest : Leaves (ImageLength xs 8) 1040 (xs ∷ [])
-  unfolding ended size pages bytesFor wordOf ofImage
+  unfolding the-image
   longest =
       let m : Limits 8 xs = record { e-low = omega arith; e-high = omega arith; hours = omega (arith, long); total = omega (arith, idle) } in
-      leaves (ap (λ (r : Reply). expected (wordOf (ofImage r)) (xs ∷ [])) (demand-2 .lengths 8 xs m ∙ ap₂ (λ (n l : ℕ). given (size 8 n l)) long no-code))
+      let e : lengthCall 8 xs ≡ given (size 8 65536 0) =
+      demand-2 .lengths 8 xs m ∙ ap₂ (λ (n l : ℕ). given (size 8 n l)) long no-code in
+      leaves (ap (λ (r : Reply). expected (wordOf (ofImage r)) (xs ∷ [])) e)

@@ -1,32 +1,20 @@
--- Busiest, books and match by examples, in the numbers of document 02, notes 1, 3 and 7: what C gets at each border, from both sides. A line is a call
--- and its word (`ExampleForms`). Assumes nothing.
-use mathlib.Core.Bool.{_&&_, true}
-use mathlib.Core.List.{List, [], _∷_, _++_, map}
+-- Busiest, match and books by examples, in the numbers of document 02, notes 1, 7 and 3: what C gets at each border, from both sides, and which of two
+-- refusals that fit is answered. `Leaves` says what C gets and what is left of all that a call was lent; under `Asking` nothing of that changes
+-- (`ExampleForms`). Assumes nothing.
+use mathlib.Core.Bool.{true}
+use mathlib.Core.List.{List, [], _∷_, _++_}
 use mathlib.Core.Path.{_≡_, refl, ap, _∙_}
 use Prim.Native.Nat.{ℕ, _/_}
 use lib.ListN.{length, replicate, set}
-use Rattle.lists.specs.Lists.{concat, every, fill, least, pick, reached, same, sum, tabulate, window}
-use Rattle.bits.specs.Bits.{bits, field, valueFrom}
-use Rattle.bits.specs.Numbers.{little, number}
-use Rattle.bits.specs.Pack.{pack}
-use Rattle.reserve.specs.Reserve.{dense, digits, reserve, sparse}
-use Rattle.tree.specs.Read.{counts, leftOf}
-use Rattle.tree.specs.Tree.{tree}
 use Rattle.answers.specs.Image.{fails}
-use Rattle.image.specs.Calls.{lengthCall, put, putAfter, unwritten, writeCall}
-use Rattle.image.specs.Check.{accepted, check, headed}
-use Rattle.image.specs.Image.{bytesFor, code, header, image, packed, page, pageCode, pages, root, size, start, table}
-use Rattle.image.specs.Read.{beforeOf, codeAt, eOf, lOf, listOf, nOf, pageOf, pagesOf, rootOf, sOf, startOf, sumOf, treeAt, widthOf}
-use Rattle.book.specs.Book.{bookOf, decimal, decimalByte, fourDigits, listOfBook}
+use Rattle.image.specs.Check.{check}
+use Rattle.book.specs.Book.{decimal, listOfBook}
 use Rattle.book.proofs.BookLaws.{length-listed}
-use Rattle.book_in.specs.FromBook.{fromCall}
-use Rattle.book_out.specs.ToBook.{past, putBook, toCall}
-use Rattle.words.specs.End.{ofImage}
-use Rattle.words.specs.Words.{minus, pair, wordOf}
 use Rattle.hourlog_c.specs.Public.{ImageBusiest, ImageFromBcd, ImageMatch, ImageToBcd}
-use Rattle.demands.proofs.ExampleForms.{Asking, Leaves, _gives_, asking, ended, endings, hex, hours, leaves, none, refused, stretch}
+use Rattle.demands.proofs.ExampleForms.{Asking, Leaves, _gives_, asking, hex, hours, leaves, none, refused, stretch}
+use Rattle.demands.proofs.ExampleSearches.{Is, busiest, busiest-fails, match-fails, matched, no-coins-asked, no-hours, too-many-hours, unmatched}
 use Rattle.demands.proofs.ExamplesImage.{over-2}
-use Rattle.demands.proofs.ExampleSearches.{Is, busiest, busiest-fails, busiestTests, match-fails, matchTests, matched, no-coins-asked, no-hours, noneBefore, too-many-hours, unmatched}
+use Rattle.demands.proofs.Computing.{the-book, the-image, the-runs}
 
 -- ---- three images, e = 2: document 01's of 1,0,2,0,5; of 3,1,3,1; of 0,0,5. And the first with page 0's root above S, and with another edition
 abbrev printed : List ℕ
@@ -46,9 +34,7 @@ otherEdition = set printed 0 2
 
 accepted-so : Is printed (1 ∷ 0 ∷ 2 ∷ 0 ∷ 5 ∷ []) × Is ties (3 ∷ 1 ∷ 3 ∷ 1 ∷ []) × Is late (0 ∷ 0 ∷ 5 ∷ [])
     × (check damaged ≡ fails 6) × (check otherEdition ≡ fails 5)
-unfolding hex check accepted headed every same pick eOf nOf sOf lOf number pagesOf widthOf startOf codeAt rootOf beforeOf sumOf treeAt pageOf listOf bits
-    counts leftOf size image header table packed code start pageCode root page pages window tabulate concat little pack bytesFor valueFrom tree fill field
-    sum digits reserve dense sparse
+unfolding the-image
 accepted-so = (
   record { accepts = refl; says = refl },
   record { accepts = refl; says = refl },
@@ -71,7 +57,7 @@ pub stretches :
     × Busiest printed 6 (refused 13))
     × (Busiest ties 1 (stretch 0 3) × Busiest ties 2 (stretch 0 4) × Busiest ties 3 (stretch 0 7) × Busiest late 1 (stretch 2 5))
     × (Busiest damaged 0 (refused 6) × Busiest damaged 1 (refused 6) × Busiest otherEdition 0 (refused 5))
-unfolding busiestTests every tabulate sum wordOf pair minus
+unfolding the-runs
 stretches = (
   (
     no-hours (accepted-so .0) refl refl,
@@ -110,7 +96,7 @@ pub bags :
     × Match printed 9 none)
     × (Match ties 3 (hours 0 1) × Match ties 4 (hours 0 2) × Match ties 5 (hours 1 3) × Match late 5 (hours 0 3))
     × (Match damaged 0 (refused 6) × Match damaged 1 (refused 6) × Match otherEdition 0 (refused 5))
-unfolding matchTests noneBefore every tabulate sum wordOf pair minus
+unfolding the-runs
 bags = (
   (
     no-coins-asked (accepted-so .0) refl refl,
@@ -152,26 +138,29 @@ most = hex "01 02 00 00 01 00 00 00 0F 27 00 00 36 00 00 00 00 00 00 00 9C 3E 70
 abbrev tooMany : List ℕ
 tooMany = hex "01 02 00 00 01 00 00 00 10 27 00 00 36 00 00 00 00 00 00 00 9C 42 71 09 C4 00 00"
 
-abbrev Over : Type 0
-Over =
+-- over, 'with a given e'
+pub over :
     Leaves (ImageFromBcd (hex "00 10") 2 (blank 22)) 22 (hex "00 10" ∷ ten ∷ [])
     × Leaves (ImageFromBcd (hex "00 10") 2 (blank 23)) 22 (hex "00 10" ∷ (ten ++ blank 1) ∷ [])
     × Leaves (ImageFromBcd (hex "12 34") 2 (blank 26)) 26 (hex "12 34" ∷ digits1234 ∷ [])
     × Leaves (ImageFromBcd (hex "99 99") 2 (blank 27)) 27 (hex "99 99" ∷ most ∷ [])
     × Leaves (ImageFromBcd (hex "00 01 00 00 00 02 00 00 00 05") 2 (blank 27)) 27 (hex "00 01 00 00 00 02 00 00 00 05" ∷ printed ∷ [])
     × Leaves (ImageFromBcd [] 2 (blank 16)) 16 ([] ∷ hex "01 02 00 00 00 00 00 00 00 00 00 00 00 00 00 00" ∷ [])
+unfolding the-book
+over = (leaves refl, leaves refl, leaves refl, leaves refl, leaves refl, leaves refl)
 
-abbrev Back : Type 0
-Back =
+-- and back
+pub back :
     Leaves (ImageToBcd ten (blank 2)) 2 (ten ∷ hex "00 10" ∷ [])
     × Leaves (ImageToBcd ten (blank 3)) 2 (ten ∷ hex "00 10 FF" ∷ [])
     × Leaves (ImageToBcd digits1234 (blank 2)) 2 (digits1234 ∷ hex "12 34" ∷ [])
     × Leaves (ImageToBcd most (blank 2)) 2 (most ∷ hex "99 99" ∷ [])
     × Leaves (ImageToBcd printed (blank 10)) 10 (printed ∷ hex "00 01 00 00 00 02 00 00 00 05" ∷ [])
+unfolding the-book
+back = (leaves refl, leaves refl, leaves refl, leaves refl, leaves refl)
 
 -- 'with 14, after 1 and before 2, a book of odd length or with a digit above 9', in either half of either byte; then 4
-abbrev OverRefused : Type 0
-OverRefused =
+pub over-refused :
     Asking
     (ImageFromBcd (hex "00 10") 1 [] gives refused 1
     ∷ ImageFromBcd (hex "00 10") 9 [] gives refused 1
@@ -186,13 +175,31 @@ OverRefused =
     ∷ ImageFromBcd (hex "0A 00") 2 [] gives refused 14
     ∷ ImageFromBcd (hex "90 00") 2 [] gives refused 4
     ∷ ImageFromBcd (hex "A0 00") 2 [] gives refused 14
+    ∷ ImageFromBcd (hex "00 10 00 10 00 1A") 2 [] gives refused 14
     ∷ ImageFromBcd (hex "00 10") 8 [] gives refused 4
     ∷ ImageFromBcd (hex "00 10") 2 (blank 21) gives refused 4
     ∷ [])
+unfolding the-book
+over-refused = asking refl
+
+-- 2 for more than 65,536 hours, in any buffer: 65,537 have 131,074 bytes. A byte more, and 14 comes first; and 1 before both
+module _ (b out : List ℕ) where
+  pub any-book : Leaves (ImageFromBcd b 9 out) (refused 1) (b ∷ out ∷ [])
+  unfolding the-book
+  any-book = leaves refl
+
+  pub long-book : length b ≡ 131074 → decimal b ≡ true → Leaves (ImageFromBcd b 2 out) (refused 2) (b ∷ out ∷ [])
+  unfolding the-book
+  long-book l d =
+      let e : length (listOfBook b) ≡ 65537 = length-listed b ∙ ap (λ (n : ℕ). n / 2) l in
+      leaves (rw (d, over-2 2 (listOfBook b) refl e))
+
+  pub long-odd-book : length b ≡ 131075 → Leaves (ImageFromBcd b 2 out) (refused 14) (b ∷ out ∷ [])
+  unfolding the-book
+  long-odd-book l = leaves (rw l)
 
 -- 'and with 15, after 5 and 6 and before 4, which comes last here, an image with a count above 9999'
-abbrev BackRefused : Type 0
-BackRefused =
+pub back-refused :
     Asking
     (ImageToBcd tooMany [] gives refused 15
     ∷ ImageToBcd tooMany (blank 2) gives refused 15
@@ -202,31 +209,5 @@ BackRefused =
     ∷ ImageToBcd (set tooMany 26 1) [] gives refused 6
     ∷ ImageToBcd damaged [] gives refused 6
     ∷ [])
-
-pub books : Over × Back × OverRefused × BackRefused
-unfolding hex endings ended fromCall toCall past putBook decimal decimalByte listOfBook bookOf fourDigits writeCall lengthCall putAfter put unwritten check
-    accepted headed every same pick eOf nOf sOf lOf number pagesOf widthOf startOf codeAt rootOf beforeOf sumOf treeAt pageOf listOf bits counts leftOf size
-    image header table packed code start pageCode root page pages window tabulate concat little pack bytesFor valueFrom tree fill field sum digits reserve
-    dense sparse wordOf ofImage minus
-books = (
-  (leaves refl, leaves refl, leaves refl, leaves refl, leaves refl, leaves refl),
-  (leaves refl, leaves refl, leaves refl, leaves refl, leaves refl),
-  asking refl,
-  asking refl,
-)
-
--- 2 for more than 65,536 hours, in any buffer: 65,537 have 131,074 bytes. A byte more, and 14 comes first; and 1 before both
-module _ (b out : List ℕ) where
-  pub any-book : Leaves (ImageFromBcd b 9 out) (refused 1) (b ∷ out ∷ [])
-  unfolding ended fromCall unwritten pick wordOf ofImage minus
-  any-book = leaves refl
-
-  pub long-book : length b ≡ 131074 → decimal b ≡ true → Leaves (ImageFromBcd b 2 out) (refused 2) (b ∷ out ∷ [])
-  unfolding ended fromCall writeCall putAfter unwritten pick wordOf ofImage minus
-  long-book l d =
-      let e : length (listOfBook b) ≡ 65537 = length-listed b ∙ ap (λ (n : ℕ). n / 2) l in
-      leaves (rw (d, over-2 2 (listOfBook b) refl e))
-
-  pub long-odd-book : length b ≡ 131075 → Leaves (ImageFromBcd b 2 out) (refused 14) (b ∷ out ∷ [])
-  unfolding ended fromCall unwritten decimal pick wordOf ofImage minus
-  long-odd-book l = leaves (rw l)
+unfolding the-book
+back-refused = asking refl

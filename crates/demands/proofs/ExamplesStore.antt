@@ -1,37 +1,24 @@
 -- A live store's bytes by examples, in the numbers of documents 01 and 02: fresh at its limits, document 01's session byte by byte, numbers above
--- 255, a code that runs along two cells, which cells pages take and give back, what is not sound, and freeze. Assumes nothing.
+-- 255, code that runs along two and eight cells, which cells pages take and give back, what is not sound, and freeze. `Leaves` says what C gets
+-- and what is left of all that a call was lent; under `Asking` nothing of that changes (`ExampleForms`). Assumes nothing.
 use mathlib.Core.Bool.{false, true}
-use mathlib.Core.List.{List, [], _∷_, _++_}
+use mathlib.Core.List.{List, [], _∷_, _++_, map}
 use mathlib.Core.Path.{_≡_, refl}
 use Prim.Native.Nat.{ℕ, _+_}
 use Prim.Native.String.{String}
 use lib.ListN.{replicate, set, take}
-use Rattle.lists.specs.Lists.{concat, every, fill, first, least, occurrences, one, pick, reached, same, sum, tabulate, window}
-use Rattle.bits.specs.Bits.{bits, field, valueFrom}
+use Rattle.lists.specs.Lists.{fill, tabulate}
 use Rattle.bits.specs.Numbers.{little, number}
-use Rattle.bits.specs.Pack.{pack}
-use Rattle.reserve.specs.Reserve.{ceil, digits, reserve}
-use Rattle.tree.specs.Read.{counts, leftOf}
-use Rattle.tree.specs.Tree.{tree}
-use Rattle.days.specs.Days.{changesFit, dayEnd, dayHours, dayNumbers, dayStart, hoursGiven, isChange, rises}
-use Rattle.store.specs.Call.{after, call, freshCall, settle}
-use Rattle.store.specs.Fitting.{fits}
-use Rattle.store.specs.Layout.{Model, bytesOf, entry, fresh, header, laidAt, lay, layAll, layPages}
-use Rattle.store.specs.OneCell.{giveCell, takeCell, times}
-use Rattle.store.specs.PageCode.{cells, pageBytes, pageCounts}
-use Rattle.store.specs.Plain.{Append, Count, Day, Free, Insert, Plain, Reach, Reading, Set, Strike, change, inserted, need, next, page, plainAnswers, step, struck}
-use Rattle.store.specs.Reading.{chainFrom, chainIn, codeIn, pageIn, read, readFor, spareIn, sumIn}
-use Rattle.store.specs.Settle.{pagewise, settled, settledByCells, shrunk, sizeTo}
-use Rattle.store.specs.Sound.{fine, onChains, sound, tests, within}
-use Rattle.image.specs.Calls.{lengthCall, put, putAfter, unwritten, writeCall}
-use Rattle.image.specs.Image.{bytesFor, code, header as imageHeader, image, packed, page as imagePage, pageCode, pages, root, start, table}
-use Rattle.freeze.specs.Freeze.{freezeCall}
-use Rattle.words.specs.End.{ofImage, ofStore}
-use Rattle.words.specs.Words.{minus, pair, wordOf}
+use Rattle.store.specs.Layout.{Model, bytesOf, entry, header}
+use Rattle.store.specs.OneCell.{giveCell, takeCell}
+use Rattle.store.specs.Plain.{Append, Count, Day, Free, Insert, Reach, Reading, Set, Strike}
+use Rattle.store.specs.Reading.{read}
+use Rattle.store.specs.Settle.{settledByCells}
+use Rattle.store.specs.Sound.{fine}
 use Rattle.hourlog_c.specs.Public.{Fresh, Freeze, Live}
-use Rattle.demands.specs.Demand3.{wordsOf}
-use Rattle.demands.proofs.ExampleForms.{Asking, Leaves, Session, Settles, Starting, _gives_, asking, ended, endings, freshWord, freshWords, hex, leaves}
-use Rattle.demands.proofs.ExampleForms.{of, refused, returned, session, settles, started, taken}
+use Rattle.demands.proofs.ExampleForms.{Asking, Leaves, Session, Settles, Starting, _gives_, asking, hex, leaves, of, refused, returned, session}
+use Rattle.demands.proofs.ExampleForms.{settles, started, taken}
+use Rattle.demands.proofs.Computing.{the-code, the-plain-list, the-store}
 
 -- ---- fresh: 'pages P from 1 to 1,024; cells C from 1 to 1,800', 'Length is 16 + 6P + 32C bytes exactly', else 9: of P, C and the buffer's bytes
 pub starts :
@@ -47,23 +34,28 @@ pub starts :
     ∷ of 1 2 87 gives refused 9
     ∷ of 1 1 0 gives refused 9
     ∷ [])
-unfolding freshWords freshWord wordOf ofStore minus pick every
+unfolding the-store
 starts = started refl
 
 -- the smallest and the largest store are sound: what is asked of them is answered, and not refused 10
 pub limits : Session 1 1 (Reading 0 gives 0 ∷ []) × Session 1024 1800 (Reading 0 gives 0 ∷ Count 0 gives refused 7 ∷ [])
-unfolding plainAnswers wordsOf wordOf ofStore minus next step sum pick every
+unfolding the-plain-list
 limits = (session refl refl, session refl refl)
 
--- ---- bytes: a store of one page and two cells, part by part, where a cell's last bytes are zero if they are not shown
+-- ---- bytes: a store of one page and two cells, part by part. A cell's last bytes are zero where they are not shown
 abbrev board : (header entry cell1 cell2 : String) → List ℕ
 board h e c d = hex h ++ (hex e ++ (fill 32 (hex c) ++ fill 32 (hex d)))
 
--- document 01's session: `n 1 2`, `a 122`, `s 0 123`, `a 5`; and `s 0 0`, which gives a cell back
+-- 'A fresh store has N = 0, every page entry zero, and free chain 1, 2, .., C'
 abbrev new : List ℕ
 new = board "01 00 01 00 02 00 01 00 02 00 00 00 00 00 00 00" "00 00 00 00 00 00" "02 00" "00 00"
 
--- 122 coins in hour 0: the left sum is 122, 1111010, six times
+abbrev newPages : List ℕ
+newPages =
+    hex "01 00 02 00 03 00 01 00 03 00 00 00 00 00 00 00"
+    ++ (replicate 12 0 ++ (fill 32 (hex "02 00") ++ (fill 32 (hex "03 00") ++ fill 32 (hex "00 00"))))
+
+-- document 01's session goes on with `a 122`, `s 0 123` and `a 5`. 122 coins in hour 0: the left sum is 122, 1111010, six times
 abbrev oneCell : List ℕ
 oneCell = board "01 00 01 00 02 00 02 00 01 00 00 00 01 00 00 00" "7A 00 00 00 01 00" "00 00 F5 EB D7 AF 5E 80" "00 00"
 
@@ -74,15 +66,9 @@ twoCells = board "01 00 01 00 02 00 00 00 00 00 00 00 01 00 00 00" "7B 00 00 00 
 abbrev twoHours : List ℕ
 twoHours = board "01 00 01 00 02 00 00 00 00 00 00 00 02 00 00 00" "80 00 00 00 01 00" "02 00 80 80 80 80 80 7B" "00 00"
 
--- 0 and 5 coins: of 5 the left sum is 5, 101, five times, and then 0
+-- and `s 0 0`, which gives cell 2 back. 0 and 5 coins: of 5 the left sum is 5, 101, five times, and then 0
 abbrev cellBack : List ℕ
 cellBack = board "01 00 01 00 02 00 02 00 01 00 00 00 02 00 00 00" "05 00 00 00 01 00" "00 00 B6 DA" "00 00"
-
--- of two pages and three cells: 'every page entry zero, and free chain 1, 2, .., C'
-abbrev newPages : List ℕ
-newPages =
-    hex "01 00 02 00 03 00 01 00 03 00 00 00 00 00 00 00"
-    ++ (replicate 12 0 ++ (fill 32 (hex "02 00") ++ (fill 32 (hex "03 00") ++ fill 32 (hex "00 00"))))
 
 pub session-bytes :
     Leaves (Fresh (replicate 124 0xFF) 2 3) 0 (newPages ∷ [])
@@ -91,12 +77,10 @@ pub session-bytes :
     × Leaves (Live (Set 0 123) oneCell) (taken 1) (twoCells ∷ [])
     × Leaves (Live (Append 5) twoCells) 0 (twoHours ∷ [])
     × Leaves (Live (Set 0 0) twoHours) (returned 1) (cellBack ∷ [])
-unfolding hex ended freshCall fits fresh call sound fine tests within onChains occurrences one same read readFor chainFrom chainIn codeIn pageIn spareIn
-    sumIn pageCounts counts leftOf bits number valueFrom after settle settled shrunk pagewise sizeTo step change need page cells ceil reserve digits
-    bytesOf header entry layAll layPages lay laidAt pageBytes tree field pack little first fill concat tabulate sum pick every wordOf ofStore pair
+unfolding the-store
 session-bytes = (leaves refl, leaves refl, leaves refl, leaves refl, leaves refl, leaves refl)
 
--- ---- 'Stored numbers of several bytes put the low byte first': 0x04030201 and 0x0605; P, C, the first free cell, how many are free, and N above 255
+-- ---- 'Stored numbers of several bytes put the low byte first': 0x04030201 and 0x0605; P, C, the first free cell, how many are free, N
 pub low-byte-first :
     (little 4 0x04030201 ≡ hex "01 02 03 04")
     × (number (hex "01 02 03 04") ≡ 67305985)
@@ -111,7 +95,7 @@ pub low-byte-first :
     (record { plain = record { pages = 1; cells = 0x0605; counts = 0x04030201 ∷ [] }; chains = (0x0605 ∷ []) ∷ []; spare = [] })
     0
     ≡ hex "01 02 03 04 05 06")
-unfolding hex little number header entry page first concat tabulate sum pick
+unfolding the-store
 low-byte-first = (refl, refl, refl, refl)
 
 -- ---- 'Its code runs along its chain': hour j of 50 has j coins, 447 bits in cells 3 and 1; cell 2 is free
@@ -162,92 +146,99 @@ eightCellsBytes =
     ++ (hex "08 00 33 FF FF F0 BF FF FF 07 FF FF E4 3F FF FF 4B FF FF F4 7F FF FE C0 FF FF FE 67 FF FF F1 7F"
     ++ hex "00 00 FF FF 0F FF FF E8 7F FF FF 97 FF FF F8 FF FF FF 80 00 00 00 00 00 00 00 00 00 00 00 00 00"))))))))
 
+-- written and read
 pub along-its-chain :
     ((bytesOf rising ≡ risingBytes) × (read risingBytes ≡ rising))
     × ((bytesOf twoPages ≡ twoPagesBytes) × (read twoPagesBytes ≡ twoPages))
     × ((bytesOf eightCells ≡ eightCellsBytes) × (read eightCellsBytes ≡ eightCells))
-    × Asking
+unfolding the-store
+along-its-chain = ((refl, refl), (refl, refl), (refl, refl))
+
+pub asked :
+    Asking
     (Live (Count 49) risingBytes gives 49
     ∷ Live (Reading 50) risingBytes gives 1225
     ∷ Live (Reach 1177) risingBytes gives 50
     ∷ Live (Day 1 []) risingBytes gives 852
     ∷ Live (Day 1 (0 ∷ 25 ∷ [])) risingBytes gives 876
+    ∷ Live Free risingBytes gives 1
     ∷ Live (Reading 64) twoPagesBytes gives 6
     ∷ Live (Reach 7) twoPagesBytes gives 65
     ∷ Live Free twoPagesBytes gives 1
     ∷ Live (Count 63) eightCellsBytes gives 67108863
     ∷ Live Free eightCellsBytes gives 0
-    ∷ Live Free risingBytes gives 1
     ∷ [])
-unfolding hex endings ended call sound fine tests within onChains occurrences one same read readFor chainFrom chainIn codeIn pageIn spareIn sumIn pageCounts
-    counts leftOf bits number valueFrom after settle step need page cells ceil reserve digits reached least dayEnd dayStart dayHours changesFit dayNumbers
-    hoursGiven rises isChange bytesOf header entry layAll layPages lay laidAt pageBytes tree field pack little first fill concat tabulate sum pick every
-    wordOf ofStore
-along-its-chain = ((refl, refl), (refl, refl), (refl, refl), asking refl)
+unfolding the-store
+asked = asking refl
 
 -- ---- 'A page that grows takes cells from the front of the free chain, in that order, onto the end of its own. A page that shrinks gives its last
--- cell to the front of the free chain, then the one before it'
+-- cell to the front of the free chain, then the one before it': page 0 from 1 to 353,686 coins, which need four cells, and back
 abbrev small : Model
 small = record { plain = record { pages = 2; cells = 6; counts = 1 ∷ [] }; chains = (4 ∷ []) ∷ [] ∷ []; spare = 2 ∷ 6 ∷ 1 ∷ 5 ∷ 3 ∷ [] }
 
 abbrev large : Model
-large = record { plain = record { pages = 2; cells = 6; counts = 1 ∷ 353685 ∷ [] }; chains = (4 ∷ 2 ∷ 6 ∷ 1 ∷ []) ∷ [] ∷ []; spare = 5 ∷ 3 ∷ [] }
+large = record {
+  plain = record { pages = 2; cells = 6; counts = 1 ∷ 353685 ∷ [] };
+  chains = (4 ∷ 2 ∷ 6 ∷ 1 ∷ []) ∷ [] ∷ [];
+  spare = 5 ∷ 3 ∷ [];
+}
 
 abbrev smallAgain : Model
 smallAgain = record { plain = record { pages = 2; cells = 6; counts = 1 ∷ 0 ∷ [] }; chains = (4 ∷ []) ∷ [] ∷ []; spare = 2 ∷ 6 ∷ 1 ∷ 5 ∷ 3 ∷ [] }
 
 -- ---- document 02, note 5: 'First every page that shrinks gives back cells, lowest page first; then every page that grows takes cells in the same
--- order'. An hour is inserted before hour 0: 1,000 coins go from page 0 to page 1, and 20,000 from page 2 to page 3. Page 0 gives cell 2 back, page 2
--- cells 4, 1 and 7, so that the free chain is 7, 1, 4, 2, 3, 6; then page 1 takes two of these, and page 3 three
+-- order'. An hour is inserted before hour 0: 1,000 coins go from page 0 to page 1, and 20,000 from page 2 to page 3. Page 0 gives cell 2 back,
+-- page 2 cells 4, 1 and 7, so that the free chain is 7, 1, 4, 2, 3, 6; then page 1 takes two of these, and page 3 three
 abbrev asleep : List ℕ
 asleep = 1 ∷ replicate 62 0 ++ 1000 ∷ replicate 127 0 ++ 20000 ∷ []
 
 abbrev beforeInsert : Model
-beforeInsert =
-    record { plain = record { pages = 4; cells = 7; counts = asleep }; chains = (5 ∷ 2 ∷ []) ∷ [] ∷ (7 ∷ 1 ∷ 4 ∷ []) ∷ [] ∷ []; spare = 3 ∷ 6 ∷ [] }
+beforeInsert = record {
+  plain = record { pages = 4; cells = 7; counts = asleep };
+  chains = (5 ∷ 2 ∷ []) ∷ [] ∷ (7 ∷ 1 ∷ 4 ∷ []) ∷ [] ∷ [];
+  spare = 3 ∷ 6 ∷ [];
+}
 
 abbrev behindInsert : Model
-behindInsert =
-    record {
-      plain = record { pages = 4; cells = 7; counts = 0 ∷ asleep };
-      chains = (5 ∷ []) ∷ (7 ∷ 1 ∷ []) ∷ [] ∷ (4 ∷ 2 ∷ 3 ∷ []) ∷ [];
-      spare = 6 ∷ [];
-    }
+behindInsert = record {
+  plain = record { pages = 4; cells = 7; counts = 0 ∷ asleep };
+  chains = (5 ∷ []) ∷ (7 ∷ 1 ∷ []) ∷ [] ∷ (4 ∷ 2 ∷ 3 ∷ []) ∷ [];
+  spare = 6 ∷ [];
+}
 
 -- and struck again: page 1 gives back 1 and 7, page 3 gives back 3, 2 and 4; page 0 takes 4, and page 2 takes 2, 3 and 7
 abbrev behindStrike : Model
-behindStrike =
-    record { plain = record { pages = 4; cells = 7; counts = asleep }; chains = (5 ∷ 4 ∷ []) ∷ [] ∷ (2 ∷ 3 ∷ 7 ∷ []) ∷ [] ∷ []; spare = 1 ∷ 6 ∷ [] }
+behindStrike = record {
+  plain = record { pages = 4; cells = 7; counts = asleep };
+  chains = (5 ∷ 4 ∷ []) ∷ [] ∷ (2 ∷ 3 ∷ 7 ∷ []) ∷ [] ∷ [];
+  spare = 1 ∷ 6 ∷ [];
+}
 
+-- the calls on the bytes of these stores
 pub chains-in-order :
     Settles (Append 353685) small (taken 3) large
     × Settles (Set 1 0) large (returned 3) smallAgain
     × Settles (Insert 0 0) beforeInsert (taken 1) behindInsert
     × Settles (Strike 0) behindInsert (returned 1) behindStrike
-unfolding fine tests within onChains occurrences one same after settle settled shrunk pagewise sizeTo step change inserted struck need page cells ceil reserve
-    digits concat tabulate sum pick every wordOf ofStore pair
+unfolding the-store
 chains-in-order = (settles refl refl refl, settles refl refl refl, settles refl refl refl, settles refl refl refl)
 
--- the same cell by cell: a page takes one from the front of the free chain, and gives its last one back to it
-abbrev chainsOf : Model → List (List ℕ)
-chainsOf m = m .spare ∷ m .chains
-
+-- the same one cell at a time
 pub cell-by-cell :
-    (chainsOf (takeCell 0 small) ≡ (6 ∷ 1 ∷ 5 ∷ 3 ∷ []) ∷ (4 ∷ 2 ∷ []) ∷ [] ∷ [])
-    × (chainsOf (giveCell 0 large) ≡ (1 ∷ 5 ∷ 3 ∷ []) ∷ (4 ∷ 2 ∷ 6 ∷ []) ∷ [] ∷ [])
+    ((takeCell 0 small .spare ≡ 6 ∷ 1 ∷ 5 ∷ 3 ∷ []) × (takeCell 0 small .chains ≡ (4 ∷ 2 ∷ []) ∷ [] ∷ []))
+    × ((giveCell 0 large .spare ≡ 1 ∷ 5 ∷ 3 ∷ []) × (giveCell 0 large .chains ≡ (4 ∷ 2 ∷ 6 ∷ []) ∷ [] ∷ []))
     × (settledByCells small (large .plain) ≡ large)
     × (settledByCells large (smallAgain .plain) ≡ smallAgain)
     × (settledByCells beforeInsert (behindInsert .plain) ≡ behindInsert)
     × (settledByCells behindInsert (behindStrike .plain) ≡ behindStrike)
-unfolding takeCell giveCell times settledByCells pagewise page cells ceil reserve digits first tabulate sum pick
-cell-by-cell = (refl, refl, refl, refl, refl, refl)
+unfolding the-store
+cell-by-cell = ((refl, refl), (refl, refl), refl, refl, refl, refl)
 
 -- ---- 'store, every other live call and freeze: 10, not sound': the store of 122 coins with one byte changed
 abbrev but : ℕ → ℕ → List ℕ
 but k v = set oneCell k v
 
-abbrev Unsound : Type 0
-Unsound =
+pub unsound :
     Asking
     (Live Free oneCell gives 1
     -- the header: edition, byte 1, P, C, the first free cell, how many are free, bytes 10 and 11
@@ -264,7 +255,7 @@ Unsound =
     ∷ Live Free (but 12 0) gives refused 10
     ∷ Live Free (but 12 64) gives 1
     ∷ Live Free (but 12 65) gives refused 10
-    -- the page's sum, one less than the code says, and one more, which needs a second cell; its first cell: none, a free one, one that there is not
+    -- the page's sum: one less than its code says, and one more, which needs a second cell. Its first cell: none, a free one, one that there is not
     ∷ Live Free (but 16 0x79) gives refused 10
     ∷ Live Free (but 16 0x7B) gives refused 10
     ∷ Live Free (but 20 0) gives refused 10
@@ -282,10 +273,11 @@ Unsound =
     ∷ Live Free (take 85 oneCell) gives refused 10
     ∷ Live Free (oneCell ++ 0 ∷ []) gives refused 10
     ∷ [])
+unfolding the-store
+unsound = asking refl
 
--- 10 comes before every other refusal: on no bytes at all, with what would be refused 7, 8, 16, 1 and 4
-abbrev TenFirst : Type 0
-TenFirst =
+-- 10 comes before every other refusal: no bytes at all, and what would be refused 7, 8, 16, 1 and 4
+pub ten-first :
     Asking
     (Live (Append 1) [] gives refused 10
     ∷ Live (Set 0 1) [] gives refused 10
@@ -297,13 +289,33 @@ TenFirst =
     ∷ Live (Day 0 (0 ∷ 24 ∷ [])) [] gives refused 10
     ∷ Live Free [] gives refused 10
     ∷ Freeze [] 9 [] gives refused 10
+    ∷ Freeze [] 2 [] gives refused 10
     ∷ [])
+unfolding the-store
+ten-first = asking refl
 
-pub unsound : Unsound × TenFirst
-unfolding hex endings ended call sound fine tests within onChains occurrences one same read readFor chainFrom chainIn codeIn pageIn spareIn sumIn pageCounts
-    counts leftOf bits number valueFrom after settle step need page cells ceil reserve digits bytesOf header entry layAll layPages lay laidAt pageBytes
-    tree field pack little first fill concat tabulate sum pick every freezeCall unwritten wordOf ofStore ofImage minus
-unsound = (asking refl, asking refl)
+-- the test behind it, of a list and chains. One page, 122 coins in the first of so many hours
+abbrev chained : (hours : ℕ) (chains : List (List ℕ)) (spare : List ℕ) → Model
+chained n cs f = record { plain = record { pages = 1; cells = 3; counts = 122 ∷ replicate n 0 }; chains = cs; spare = f }
+
+-- 64 hours and 65; a page with no cell, with two, and no page; cells 0, 4, twice and left out
+pub tested :
+    map fine
+    (chained 63 ((2 ∷ []) ∷ []) (3 ∷ 1 ∷ [])
+    ∷ chained 64 ((2 ∷ []) ∷ []) (3 ∷ 1 ∷ [])
+    ∷ chained 63 ([] ∷ []) (2 ∷ 3 ∷ 1 ∷ [])
+    ∷ chained 63 ((2 ∷ 3 ∷ []) ∷ []) (1 ∷ [])
+    ∷ chained 63 [] (2 ∷ 3 ∷ 1 ∷ [])
+    ∷ chained 63 ((2 ∷ []) ∷ [] ∷ []) (3 ∷ 1 ∷ [])
+    ∷ chained 63 ((2 ∷ []) ∷ []) (0 ∷ 1 ∷ [])
+    ∷ chained 63 ((2 ∷ []) ∷ []) (3 ∷ 4 ∷ [])
+    ∷ chained 63 ((2 ∷ []) ∷ []) (3 ∷ 2 ∷ [])
+    ∷ chained 63 ((2 ∷ []) ∷ []) (3 ∷ 1 ∷ 1 ∷ [])
+    ∷ chained 63 ((2 ∷ []) ∷ []) (3 ∷ [])
+    ∷ [])
+    ≡ true ∷ false ∷ false ∷ false ∷ false ∷ false ∷ false ∷ false ∷ false ∷ false ∷ false ∷ []
+unfolding the-store
+tested = refl
 
 -- 'the total fits': 4,294,967,295 coins on two pages, and one more
 abbrev rich : ℕ → Model
@@ -314,10 +326,10 @@ rich v = record {
 }
 
 pub total-fits : (fine (rich 1) ≡ true) × (fine (rich 2) ≡ false)
-unfolding fine tests within onChains occurrences one same page cells ceil reserve digits concat tabulate sum pick every
+unfolding the-store
 total-fits = (refl, refl)
 
--- ---- freeze: the image of 123 and 5 coins, e = 2, has 24 bytes; 'Bytes beyond the image are left unchanged'. 10, then 1, then 4
+-- ---- freeze: the image of 123 and 5 coins, e = 2, has 24 bytes; 'Bytes beyond the image are left unchanged'
 abbrev frozen : List ℕ
 frozen = hex "01 02 00 00 02 00 00 00 80 00 00 00 1E 00 00 00 00 00 00 00 80 80 7B 00"
 
@@ -329,7 +341,12 @@ pub freezes :
     Leaves (Freeze twoHours 2 (replicate 24 0xFF)) 24 (twoHours ∷ frozen ∷ [])
     × Leaves (Freeze twoHours 2 (replicate 26 0xFF)) 24 (twoHours ∷ (frozen ++ 0xFF ∷ 0xFF ∷ []) ∷ [])
     × Leaves (Freeze twoPagesBytes 6 (replicate 34 0xFF)) 34 (twoPagesBytes ∷ frozenPages ∷ [])
-    × Asking
+unfolding the-store
+freezes = (leaves refl, leaves refl, leaves refl)
+
+-- 10, then 1, then 4
+pub freeze-refusals :
+    Asking
     (Freeze twoHours 2 (replicate 23 0xFF) gives refused 4
     ∷ Freeze twoHours 1 [] gives refused 1
     ∷ Freeze twoHours 9 [] gives refused 1
@@ -337,8 +354,5 @@ pub freezes :
     ∷ Freeze (but 0 2) 9 [] gives refused 10
     ∷ Freeze (but 0 2) 2 [] gives refused 10
     ∷ [])
-unfolding hex endings ended freezeCall sound fine tests within onChains occurrences one same read readFor chainFrom chainIn codeIn pageIn spareIn sumIn
-    pageCounts counts leftOf bits number valueFrom page cells ceil reserve digits bytesOf header entry layAll layPages lay laidAt pageBytes tree field pack
-    little first fill concat tabulate sum pick every writeCall lengthCall putAfter put unwritten image imageHeader table packed code start pageCode root
-    imagePage pages window bytesFor wordOf ofImage minus
-freezes = (leaves refl, leaves refl, leaves refl, asking refl)
+unfolding the-store
+freeze-refusals = asking refl

@@ -27,6 +27,8 @@ pub mod Note5
 pub mod Note7
 pub mod ExampleForms
 pub mod ExampleSearches
+pub mod Computing
+pub mod ExamplesCode
 pub mod ExamplesLive
 pub mod ExamplesStore
 pub mod ExamplesImage
