@@ -56,8 +56,8 @@ manyCoins =
     ++ (hex "20 18 10 0C 03 02 01 80 60 40 20 00 00 04 03 02 01 40 30 20 18 06 04 02 00 00 00"
     ++ hex "60 48 30 1C 03 02 01 80 60 40 20 00 00 08 06 04 02 40 30 20 18 06 04 02 00 00 00")
 
--- pages of 256: 2 coins in hour 100, 1 in hour 200, 3 in hour 256. Page 0 is 011 and left 2 of 3, then 0, 0, 2, 2, 0, 2, 2 of 2 and 0, 1, 1, 0, 1, 1, 1
--- of 1; page 1 is 110 and left 3 of 3 eight times
+-- pages of 256: 2 coins in hour 100, 1 in hour 200, 3 in hour 256. Page 0 is 011 and left 2 of 3, then 0, 0, 2, 2, 0, 2, 2 of 2 and 0, 1, 1, 0, 1,
+-- 1, 1 of 1; page 1 is 110 and left 3 of 3 eight times
 abbrev wideList : List ℕ
 wideList = replicate 100 0 ++ 2 ∷ replicate 99 0 ++ 1 ∷ replicate 55 0 ++ 3 ∷ []
 

@@ -16,9 +16,9 @@ use Rattle.store.specs.Reading.{read}
 use Rattle.store.specs.Settle.{settledByCells}
 use Rattle.store.specs.Sound.{fine}
 use Rattle.hourlog_c.specs.Public.{Fresh, Freeze, Live}
-use Rattle.demands.proofs.ExampleForms.{Asking, Leaves, Session, Settles, Starting, _gives_, asking, hex, leaves, of, refused, returned, session}
-use Rattle.demands.proofs.ExampleForms.{settles, started, taken}
-use Rattle.demands.proofs.Computing.{the-code, the-plain-list, the-store}
+use Rattle.demands.proofs.ExampleForms.{Asking, Leaves, Session, Settles, Starting, _gives_, asking, hex, leaves, of, refused, returned}
+use Rattle.demands.proofs.ExampleForms.{session, settles, started, taken}
+use Rattle.demands.proofs.Computing.{the-plain-list, the-store}
 
 -- ---- fresh: 'pages P from 1 to 1,024; cells C from 1 to 1,800', 'Length is 16 + 6P + 32C bytes exactly', else 9: of P, C and the buffer's bytes
 pub starts :
