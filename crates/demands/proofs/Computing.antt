@@ -41,8 +41,8 @@ the-words = tt
 
 -- the live calls on the plain list
 unfoldable pub the-plain-list : Unit {0}
-unfolding the-words reserve ceil cells page need change inserted struck step next plainAnswers wordsOf plainWords changesFit dayEnd dayHours dayNumbers
-    dayStart hoursGiven isChange rises cellsFor gain pageGain
+unfolding the-words reserve ceil cells page need change inserted struck step next plainAnswers wordsOf plainWords changesFit dayEnd dayHours
+    dayNumbers dayStart hoursGiven isChange rises cellsFor gain pageGain
 the-plain-list = tt
 
 -- numbers as bytes, and trees as bits
@@ -52,9 +52,9 @@ the-code = tt
 
 -- an image: written, tested and asked
 unfoldable pub the-image : Unit {0}
-unfolding the-code lengthCall writeCall putAfter put unwritten image imageHeader table packed code start pageCode root imagePage pages bytesFor size headed
-    accepted check eOf nOf sOf lOf pagesOf widthOf startOf codeAt rootOf beforeOf sumOf treeAt pageOf listOf count reading readingAt look lookIn theCount
-    theReading pageFine beforePassing ended endings reachWord reachWords
+unfolding the-code lengthCall writeCall putAfter put unwritten image imageHeader table packed code start pageCode root imagePage pages bytesFor
+    size headed accepted check eOf nOf sOf lOf pagesOf widthOf startOf codeAt rootOf beforeOf sumOf treeAt pageOf listOf count reading readingAt
+    look lookIn theCount theReading pageFine beforePassing ended endings reachWord reachWords
 the-image = tt
 
 -- runs of hours, one by one
@@ -69,7 +69,7 @@ the-book = tt
 
 -- a live store: its bytes, what they say, whether they are sound, how chains change; and freeze
 unfoldable pub the-store : Unit {0}
-unfolding the-plain-list the-image freshWord freshWords freshCall fits fresh call after settle settled shrunk pagewise sizeTo settledByCells takeCell giveCell
-    times bytesOf header entry layAll layPages lay laidAt pageBytes pageCounts read readFor chainFrom chainIn codeIn pageIn spareIn sumIn sound fine tests
-    within onChains freezeCall
+unfolding the-plain-list the-image freshWord freshWords freshCall fits fresh call after settle settled shrunk pagewise sizeTo settledByCells
+    takeCell giveCell times bytesOf header entry layAll layPages lay laidAt pageBytes pageCounts read readFor chainFrom chainIn codeIn pageIn
+    spareIn sumIn sound fine tests within onChains freezeCall
 the-store = tt

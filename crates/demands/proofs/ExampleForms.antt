@@ -31,8 +31,8 @@ use Rattle.book_out.specs.ToBook.{toCall}
 use Rattle.words.specs.End.{End, ofCheck, ofImage, ofStore}
 use Rattle.words.specs.Words.{wordOf}
 use Rattle.hourlog_c.specs.Export.{Answers}
-use Rattle.hourlog_c.specs.Public.{Fresh, Freeze, ImageBusiest, ImageCheck, ImageCount, ImageFromBcd, ImageLength, ImageMatch, ImageReach, ImageReading}
-use Rattle.hourlog_c.specs.Public.{ImageToBcd, ImageWrite, Live, PublicCall, beside, lent}
+use Rattle.hourlog_c.specs.Public.{Fresh, Freeze, ImageBusiest, ImageCheck, ImageCount, ImageFromBcd, ImageLength, ImageMatch, ImageReach}
+use Rattle.hourlog_c.specs.Public.{ImageReading, ImageToBcd, ImageWrite, Live, PublicCall, beside, lent}
 use Rattle.demands.specs.Demand3.{Run, wordsOf}
 use Rattle.demands.proofs.Demand3.{demand-3}
 
@@ -55,7 +55,7 @@ unfolding pick
 binary empty = []
 binary (a then s) = pick (eqb (code a) 32) (binary s) ((code a - 48) ∷ binary s)
 
--- ---- the words of C. A refusal: 'minus its number', in 64 bits
+-- ---- the words of C. A refusal is minus its number, in 64 bits
 abbrev pub refused : ℕ → ℕ
 refused k = 2 ^ 64 - k
 
@@ -129,18 +129,22 @@ pub record Buffer : Type 0 where
 abbrev pub of : (pages cells bytes : ℕ) → Buffer
 of P C n = record { pages = P; cells = C; bytes = n }
 
+abbrev Start : Buffer → ℕ → Type 0
+Start u v = (b : List ℕ) → length b ≡ u .bytes → (w : ℕ) (t : List (List ℕ)) → Answers (Fresh b (u .pages) (u .cells)) w t → w ≡ v
+
 abbrev Starts : List (Line Buffer) → Type 0
 Starts [] = Unit {0}
-Starts (l ∷ ls) =
-    ((b : List ℕ) → length b ≡ l .asked .bytes → (w : ℕ) (t : List (List ℕ)) → Answers (Fresh b (l .asked .pages) (l .asked .cells)) w t → w ≡ l .word)
-    × Starts ls
+Starts (l ∷ ls) = Start (l .asked) (l .word) × Starts ls
 
 pub record Starting (ls : List (Line Buffer)) : Type 0 where
   pub lines : Starts ls
 
 -- it looks at the buffer's length alone
+abbrev tests : ℕ → ℕ → ℕ → List Bool
+tests P C n = limitTests P C ++ eqb n (size P C) ∷ []
+
 unfoldable pub freshWord : Buffer → ℕ
-freshWord b = wordOf (ofStore (pick (every (limitTests (b .pages) (b .cells) ++ eqb (b .bytes) (size (b .pages) (b .cells)) ∷ [])) (answered 0) (turned 9)))
+freshWord b = wordOf (ofStore (pick (every (tests (b .pages) (b .cells) (b .bytes))) (answered 0) (turned 9)))
 
 picked : (x : Bool) (r t : Result) → pick x r t .answer ≡ pick x (r .answer) (t .answer)
 unfolding pick
@@ -150,8 +154,8 @@ picked false r t = refl
 by-length : (b : List ℕ) (P C n : ℕ) → length b ≡ n → wordOf (ofStore (freshCall b P C .answer)) ≡ freshWord (of P C n)
 unfolding freshWord freshCall fits
 by-length b P C n l =
-    ap (λ (z : Answer). wordOf (ofStore z)) (picked (every (limitTests P C ++ eqb (length b) (size P C) ∷ [])) _ _)
-    ∙ ap (λ (k : ℕ). wordOf (ofStore (pick (every (limitTests P C ++ eqb k (size P C) ∷ [])) (answered 0) (turned 9)))) l
+    ap (λ (z : Answer). wordOf (ofStore z)) (picked (every (tests P C (length b))) _ _)
+    ∙ ap (λ (k : ℕ). wordOf (ofStore (pick (every (tests P C k)) (answered 0) (turned 9)))) l
 
 unfoldable pub freshWords : List Buffer → List ℕ
 freshWords [] = []
@@ -169,10 +173,12 @@ pub started : {ls : List (Line Buffer)} → freshWords (calls ls) ≡ words ls �
 started {ls} e = record { lines = starts ls e }
 
 -- ---- single calls, each on any sound store that holds the list L
+abbrev Hold : Plain → Call → ℕ → Type 0
+Hold L c v = (s : List ℕ) → sound s ≡ true → read s .plain ≡ L → (w : ℕ) (t : List (List ℕ)) → Answers (Live c s) w t → w ≡ v
+
 abbrev Holds : Plain → List (Line Call) → Type 0
 Holds L [] = Unit {0}
-Holds L (l ∷ ls) =
-    ((s : List ℕ) → sound s ≡ true → read s .plain ≡ L → (w : ℕ) (t : List (List ℕ)) → Answers (Live (l .asked) s) w t → w ≡ l .word) × Holds L ls
+Holds L (l ∷ ls) = Hold L (l .asked) (l .word) × Holds L ls
 
 pub record Holding (L : Plain) (ls : List (Line Call)) : Type 0 where
   pub lines : Holds L ls

@@ -1,5 +1,5 @@
--- Words, numbers and trees by examples, in the numbers of documents 01 and 02: the words that C gets, stored numbers byte by byte, the reserve, and
--- the tree code bit by bit. Assumes nothing.
+-- Words, numbers and trees by examples, in the numbers of documents 01 and 02: what each call is lent, the words that C gets, stored numbers byte by
+-- byte, the reserve, and the tree code bit by bit. Assumes nothing.
 use mathlib.Core.List.{List, [], _∷_, _++_, map}
 use mathlib.Core.Path.{_≡_, refl}
 use Prim.Native.Nat.{ℕ}
@@ -8,11 +8,63 @@ use Rattle.bits.specs.Numbers.{little, number}
 use Rattle.reserve.specs.Reserve.{digits, reserve}
 use Rattle.tree.specs.Ranges.{Side, end, left, node, right}
 use Rattle.tree.specs.Tree.{tree}
+use Rattle.store.specs.Plain.{Append, Count, Day, Free, Insert, Reach, Reading, Set, Strike}
 use Rattle.words.specs.End.{noRun, refusal, theCells, theHours, theNumber, theRun, theSums}
 use Rattle.words.specs.ReadBack.{busiestFirst, busiestSum, checkedHours, checkedTotal, matchedFirst, matchedHours, returned, taken}
 use Rattle.words.specs.Words.{wordOf}
+use Rattle.hourlog_c.specs.Public.{Fresh, Freeze, ImageBusiest, ImageCheck, ImageCount, ImageFromBcd, ImageLength, ImageMatch, ImageReach}
+use Rattle.hourlog_c.specs.Public.{ImageReading, ImageToBcd, ImageWrite, Live, lent}
 use Rattle.demands.proofs.ExampleForms.{binary, hex}
 use Rattle.demands.proofs.Computing.{the-code, the-words}
+
+-- ---- the 21 calls, and what each is lent, to read or to change: a store s, an image i, a list of counts xs, a book b, changed days d
+pub what-is-lent : (s i xs b d : List ℕ)
+    → map lent
+    (Fresh s 1 1
+    ∷ Live (Append 1) s
+    ∷ Live (Set 0 1) s
+    ∷ Live (Insert 0 1) s
+    ∷ Live (Strike 0) s
+    ∷ Live (Count 0) s
+    ∷ Live (Reading 0) s
+    ∷ Live (Reach 0) s
+    ∷ Live (Day 0 d) s
+    ∷ Live Free s
+    ∷ Freeze s 2 i
+    ∷ ImageLength xs 2
+    ∷ ImageWrite xs 2 i
+    ∷ ImageCheck i
+    ∷ ImageCount i 0
+    ∷ ImageReading i 0
+    ∷ ImageReach i 0
+    ∷ ImageBusiest i 1
+    ∷ ImageFromBcd b 2 i
+    ∷ ImageToBcd i b
+    ∷ ImageMatch i 1
+    ∷ [])
+    ≡ (s ∷ [])
+    ∷ (s ∷ [])
+    ∷ (s ∷ [])
+    ∷ (s ∷ [])
+    ∷ (s ∷ [])
+    ∷ (s ∷ [])
+    ∷ (s ∷ [])
+    ∷ (s ∷ [])
+    ∷ (s ∷ d ∷ [])
+    ∷ (s ∷ [])
+    ∷ (s ∷ i ∷ [])
+    ∷ (xs ∷ [])
+    ∷ (xs ∷ i ∷ [])
+    ∷ (i ∷ [])
+    ∷ (i ∷ [])
+    ∷ (i ∷ [])
+    ∷ (i ∷ [])
+    ∷ (i ∷ [])
+    ∷ (b ∷ i ∷ [])
+    ∷ (i ∷ b ∷ [])
+    ∷ (i ∷ [])
+    ∷ []
+what-is-lent s i xs b d = refl
 
 -- ---- the words of C: a number; taken + returned·2^16; S + N·2^40; a run's sum + its first hour·2^40; its first hour + its hours·2^32; 0 for
 -- none; 2^64 - k for a refusal

@@ -56,12 +56,13 @@ manyCoins =
     ++ (hex "20 18 10 0C 03 02 01 80 60 40 20 00 00 04 03 02 01 40 30 20 18 06 04 02 00 00 00"
     ++ hex "60 48 30 1C 03 02 01 80 60 40 20 00 00 08 06 04 02 40 30 20 18 06 04 02 00 00 00")
 
--- pages of 256: 2 coins in hour 100, 3 in hour 256. Page 0 is 010, then 2, 0, 0, 2, 2, 0, 2, 2 of 2; page 1 is 101, then 3 of 3 eight times
+-- pages of 256: 2 coins in hour 100, 1 in hour 200, 3 in hour 256. Page 0 is 011 and left 2 of 3, then 0, 0, 2, 2, 0, 2, 2 of 2 and 0, 1, 1, 0, 1,
+-- 1, 1 of 1; page 1 is 110 and left 3 of 3 eight times
 abbrev wideList : List ℕ
-wideList = replicate 100 0 ++ 2 ∷ replicate 155 0 ++ 3 ∷ []
+wideList = replicate 100 0 ++ 2 ∷ replicate 99 0 ++ 1 ∷ replicate 55 0 ++ 3 ∷ []
 
 abbrev wide : List ℕ
-wide = hex "01 08 00 00 01 01 00 00 05 00 00 00 2D 00 00 00 00 00 00 00 13 00 00 00 50 51 57 FF FC 00"
+wide = hex "01 08 00 00 01 01 00 00 06 00 00 00 34 00 00 00 00 00 00 00 1A 00 00 00 70 51 4D F7 FF F8 00"
 
 -- the largest total, in fields of 32 bits: 0xABCDEF01 of it in hour 0, the rest in hour 1
 abbrev richList : List ℕ
@@ -86,7 +87,7 @@ pub writes :
     × Leaves (ImageWrite printedList 2 (blank 29)) 27 (printedList ∷ (printed ++ blank 2) ∷ [])
     × Leaves (ImageWrite twoPagesList 3 (blank 30)) 30 (twoPagesList ∷ twoPages ∷ [])
     × Leaves (ImageWrite manyCoinsList 2 (blank 86)) 86 (manyCoinsList ∷ manyCoins ∷ [])
-    × Leaves (ImageWrite wideList 8 (blank 30)) 30 (wideList ∷ wide ∷ [])
+    × Leaves (ImageWrite wideList 8 (blank 31)) 31 (wideList ∷ wide ∷ [])
     × Leaves (ImageWrite richList 2 (blank 36)) 36 (richList ∷ rich ∷ [])
     × Leaves (ImageWrite (7 ∷ []) 2 (blank 22)) 22
     ((7 ∷ []) ∷ hex "01 02 00 00 01 00 00 00 07 00 00 00 0C 00 00 00 00 00 00 00 FF 80" ∷ [])
@@ -152,13 +153,14 @@ pub answered :
     ∷ ImageReading twoPages 11 gives 18
     ∷ ImageCheck manyCoins gives holding 13 269223940
     ∷ ImageReading manyCoins 12 gives 201917955
-    ∷ ImageCheck wide gives holding 257 5
+    ∷ ImageCheck wide gives holding 257 6
     ∷ ImageCount wide 100 gives 2
+    ∷ ImageCount wide 200 gives 1
     ∷ ImageCount wide 255 gives 0
     ∷ ImageCount wide 256 gives 3
     ∷ ImageReading wide 100 gives 0
-    ∷ ImageReading wide 256 gives 2
-    ∷ ImageReading wide 257 gives 5
+    ∷ ImageReading wide 200 gives 2
+    ∷ ImageReading wide 257 gives 6
     ∷ ImageCheck rich gives holding 2 4294967295
     ∷ ImageCount rich 0 gives 2882400001
     ∷ ImageReading rich 2 gives 4294967295

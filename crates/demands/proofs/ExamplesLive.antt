@@ -132,7 +132,8 @@ pub questions :
     ∷ Reach 9 gives refused 8
     ∷ [])
     × Holding (log 1 1 (1 ∷ 1 ∷ [])) (Reach 1 gives 1 ∷ Reach 2 gives 2 ∷ Reach 3 gives refused 8 ∷ [])
-    × Holding (log 5 9 (replicate 300 1)) (Count 299 gives 1 ∷ Reading 257 gives 257 ∷ Reach 257 gives 257 ∷ Reach 300 gives 300 ∷ [])
+    × Holding (log 5 9 (replicate 300 1))
+    (Count 299 gives 1 ∷ Reading 257 gives 257 ∷ Reach 257 gives 257 ∷ Reach 300 gives 300 ∷ Free gives 4 ∷ [])
     × Holding (log 1 1 [])
     (Count 0 gives refused 7 ∷ Reading 0 gives 0 ∷ Reading 1 gives refused 7 ∷ Reach 0 gives 0 ∷ Reach 1 gives refused 8 ∷ Free gives 1 ∷ [])
 unfolding the-plain-list

@@ -1,6 +1,6 @@
--- Busiest, match and books by examples, in the numbers of document 02, notes 1, 7 and 3: what C gets at each border, from both sides, and which of two
--- refusals that fit is answered. `Leaves` says what C gets and what is left of all that a call was lent; under `Asking` nothing of that changes
--- (`ExampleForms`). Assumes nothing.
+-- Busiest, match and books by examples, in the numbers of document 02, notes 1, 7 and 3: what C gets at each border, from both sides, and which
+-- of two refusals that fit is answered. `Leaves` says what C gets and what is left of all that a call was lent; under `Asking` nothing of that
+-- changes (`ExampleForms`). Assumes nothing.
 use mathlib.Core.Bool.{true}
 use mathlib.Core.List.{List, [], _∷_, _++_}
 use mathlib.Core.Path.{_≡_, refl, ap, _∙_}
@@ -12,7 +12,8 @@ use Rattle.book.specs.Book.{decimal, listOfBook}
 use Rattle.book.proofs.BookLaws.{length-listed}
 use Rattle.hourlog_c.specs.Public.{ImageBusiest, ImageFromBcd, ImageMatch, ImageToBcd}
 use Rattle.demands.proofs.ExampleForms.{Asking, Leaves, _gives_, asking, hex, hours, leaves, none, refused, stretch}
-use Rattle.demands.proofs.ExampleSearches.{Is, busiest, busiest-fails, match-fails, matched, no-coins-asked, no-hours, too-many-hours, unmatched}
+use Rattle.demands.proofs.ExampleSearches.{Is, busiest, busiest-fails, match-fails, matched, no-coins-asked, no-hours, too-many-hours}
+use Rattle.demands.proofs.ExampleSearches.{unmatched}
 use Rattle.demands.proofs.ExamplesImage.{over-2}
 use Rattle.demands.proofs.Computing.{the-book, the-image, the-runs}
 

@@ -7,7 +7,7 @@ use mathlib.Core.Path.{_≡_, refl}
 use Prim.Native.Nat.{ℕ, _+_}
 use Prim.Native.String.{String}
 use lib.ListN.{replicate, set, take}
-use Rattle.lists.specs.Lists.{fill, tabulate}
+use Rattle.lists.specs.Lists.{concat, fill, tabulate}
 use Rattle.bits.specs.Numbers.{little, number}
 use Rattle.store.specs.Layout.{Model, bytesOf, entry, header}
 use Rattle.store.specs.OneCell.{giveCell, takeCell}
@@ -16,9 +16,9 @@ use Rattle.store.specs.Reading.{read}
 use Rattle.store.specs.Settle.{settledByCells}
 use Rattle.store.specs.Sound.{fine}
 use Rattle.hourlog_c.specs.Public.{Fresh, Freeze, Live}
-use Rattle.demands.proofs.ExampleForms.{Asking, Leaves, Session, Settles, Starting, _gives_, asking, hex, leaves, of, refused, returned, session}
-use Rattle.demands.proofs.ExampleForms.{settles, started, taken}
-use Rattle.demands.proofs.Computing.{the-code, the-plain-list, the-store}
+use Rattle.demands.proofs.ExampleForms.{Asking, Leaves, Session, Settles, Starting, _gives_, asking, hex, leaves, of, refused, returned}
+use Rattle.demands.proofs.ExampleForms.{session, settles, started, taken}
+use Rattle.demands.proofs.Computing.{the-plain-list, the-store}
 
 -- ---- fresh: 'pages P from 1 to 1,024; cells C from 1 to 1,800', 'Length is 16 + 6P + 32C bytes exactly', else 9: of P, C and the buffer's bytes
 pub starts :
@@ -146,13 +146,26 @@ eightCellsBytes =
     ++ (hex "08 00 33 FF FF F0 BF FF FF 07 FF FF E4 3F FF FF 4B FF FF F4 7F FF FE C0 FF FF FE 67 FF FF F1 7F"
     ++ hex "00 00 FF FF 0F FF FF E8 7F FF FF 97 FF FF F8 FF FF FF 80 00 00 00 00 00 00 00 00 00 00 00 00 00"))))))))
 
+-- 300 hours, 0x012C, with a coin in the last: left 0, 1, 0, 1, 0, 0 of 1
+abbrev manyHours : Model
+manyHours = record {
+  plain = record { pages = 5; cells = 1; counts = replicate 299 0 ++ 1 ∷ [] };
+  chains = [] ∷ [] ∷ [] ∷ [] ∷ (1 ∷ []) ∷ [];
+  spare = [];
+}
+
+abbrev manyHoursBytes : List ℕ
+manyHoursBytes =
+    hex "01 00 05 00 01 00 00 00 00 00 00 00 2C 01 00 00" ++ (replicate 24 0 ++ (hex "01 00 00 00 01 00" ++ fill 32 (hex "00 00 50")))
+
 -- written and read
 pub along-its-chain :
     ((bytesOf rising ≡ risingBytes) × (read risingBytes ≡ rising))
     × ((bytesOf twoPages ≡ twoPagesBytes) × (read twoPagesBytes ≡ twoPages))
     × ((bytesOf eightCells ≡ eightCellsBytes) × (read eightCellsBytes ≡ eightCells))
+    × ((bytesOf manyHours ≡ manyHoursBytes) × (read manyHoursBytes ≡ manyHours))
 unfolding the-store
-along-its-chain = ((refl, refl), (refl, refl), (refl, refl))
+along-its-chain = ((refl, refl), (refl, refl), (refl, refl), (refl, refl))
 
 pub asked :
     Asking
@@ -167,6 +180,8 @@ pub asked :
     ∷ Live Free twoPagesBytes gives 1
     ∷ Live (Count 63) eightCellsBytes gives 67108863
     ∷ Live Free eightCellsBytes gives 0
+    ∷ Live (Count 299) manyHoursBytes gives 1
+    ∷ Live (Count 300) manyHoursBytes gives refused 7
     ∷ [])
 unfolding the-store
 asked = asking refl
@@ -317,17 +332,26 @@ pub tested :
 unfolding the-store
 tested = refl
 
--- 'the total fits': 4,294,967,295 coins on two pages, and one more
-abbrev rich : ℕ → Model
-rich v = record {
-  plain = record { pages = 2; cells = 16; counts = 4294967294 ∷ replicate 63 0 ++ v ∷ [] };
-  chains = (1 ∷ 2 ∷ 3 ∷ 4 ∷ 5 ∷ 6 ∷ 7 ∷ 8 ∷ []) ∷ (9 ∷ []) ∷ [];
-  spare = 10 ∷ 11 ∷ 12 ∷ 13 ∷ 14 ∷ 15 ∷ 16 ∷ [];
-}
+-- bytes that are those of their list and chains, and only so far as they go: 'the total fits', 4,294,967,294 coins in page 0 and so many in page 1;
+-- and a store without a page, and one without a cell
+abbrev rich : (coins code : String) → List ℕ
+rich v c =
+    hex "01 00 02 00 09 00 00 00 00 00 00 00 41 00 00 00"
+    ++ (hex "FE FF FF FF 01 00"
+    ++ (fill 4 (hex v)
+    ++ (hex "09 00"
+    ++ (fill 32 (hex "02 00 FF FF FF FE FF FF FF FE FF FF FF FE FF FF FF FE FF FF FF FE FF FF FF FE")
+    ++ (concat (map (λ n. n ∷ replicate 31 0) (3 ∷ 4 ∷ 5 ∷ 6 ∷ 7 ∷ 8 ∷ 0 ∷ [])) ++ fill 32 (hex c))))))
 
-pub total-fits : (fine (rich 1) ≡ true) × (fine (rich 2) ≡ false)
+pub outside-limits :
+    Asking
+    (Live Free (rich "01" "00 00 FC") gives 0
+    ∷ Live Free (rich "02" "00 00 AA A0") gives refused 10
+    ∷ Live Free (hex "01 00 00 00 01 00 01 00 01 00 00 00 00 00 00 00" ++ replicate 32 0) gives refused 10
+    ∷ Live Free (hex "01 00 01 00 00 00 00 00 00 00 00 00 00 00 00 00" ++ replicate 6 0) gives refused 10
+    ∷ [])
 unfolding the-store
-total-fits = (refl, refl)
+outside-limits = asking refl
 
 -- ---- freeze: the image of 123 and 5 coins, e = 2, has 24 bytes; 'Bytes beyond the image are left unchanged'
 abbrev frozen : List ℕ

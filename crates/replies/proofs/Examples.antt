@@ -47,8 +47,8 @@ dayText = bytes "ok\n" ++ (concat (replicate 24 (bytes "ok\n")) ++ bytes "24\nre
 
 plain-others : (plainOutput input ≡ text) × (plainOutput dayInput ≡ dayText)
 unfolding plainOutput plainReplies plainTurn concat every least pick reached sum tabulate cells ceil reserve change need next page step isDigit
-    valueFrom digitsOnly number onFirst splitOn none one two byLetter byParts command closed lines decimalIn printed changesFit dayEnd dayStart dayHours
-    dayNumbers hoursGiven rises
+    valueFrom digitsOnly number onFirst splitOn none one two byLetter byParts command closed lines decimalIn printed changesFit dayEnd dayStart
+    dayHours dayNumbers hoursGiven rises
 plain-others = (refl, refl)
 
 pub other-sessions : (output input ≡ text) × (output dayInput ≡ dayText)
