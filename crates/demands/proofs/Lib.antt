@@ -13,7 +13,6 @@ pub mod Demand2
 pub mod NodeLaws
 pub mod SentencesRanges
 pub mod Sentences2
-pub mod Samples
 pub mod Demand3
 pub mod StoreBytes
 pub mod Sentences3
