@@ -2,8 +2,9 @@
  * stack.c - how much stack each call takes, held to what the header says.
  *
  * The stack below is painted before a call; what is no longer paint afterwards
- * was used.  Stores and images are as large as they come and have coins in every
- * hour, so that no recursion ends early.  Nothing here depends on a processor but
+ * was used.  Store and image are as large as they come; the image has coins in every
+ * hour, the store in the 200 that it has logged (an emulated board takes long for
+ * more), so that no recursion ends early.  Nothing here depends on a processor but
  * that its stack grows downwards: boards run it too (boards/run).
  */
 #include "hourlog.h"
