@@ -9,7 +9,7 @@ pageSizeWrong = 1
 abbrev pub listTooLong : ℕ
 listTooLong = 2
 
--- 'above 4,294,967,295'
+-- 'above 4,294,967,295'; 'refusal 3 for images starts above 2^40 - 1'
 abbrev pub totalTooHigh : ℕ
 totalTooHigh = 3
 

@@ -5,7 +5,7 @@ pub const PAGE_SIZE: u32 = 1;
 // over 65,536 counts
 pub const LIST: u32 = 2;
 
-// above 4,294,967,295
+// above 4,294,967,295; of a list for an image above 2^40 - 1
 pub const TOTAL: u32 = 3;
 
 // output buffer shorter than the image

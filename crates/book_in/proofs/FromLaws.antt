@@ -11,7 +11,7 @@ use Rattle.answers.specs.Image.{given, refused, told}
 use Rattle.answers.specs.declared.image.Answer.the-variants.{Refused}
 use Rattle.lists.specs.Lists.{pick, sum}
 use Rattle.image.specs.Calls.{lengthCall, Result, resultOf, unwritten, writeCall}
-use Rattle.image.specs.Image.{image}
+use Rattle.image.specs.Image.{image, maxTotal}
 use Rattle.image.proofs.CallLaws.{write-refused}
 use Rattle.book.specs.Book.{decimal, listOfBook}
 use Rattle.book.proofs.BookLaws.{four-list, sum-four}
@@ -44,8 +44,8 @@ only-long e b k l h = rw (le-leb 2 e k, le-leb e 8 l) (go (leb (length xs) 65536
     xs = listOfBook b
 
     go : (t : Bool) → leb (length xs) 65536 ≡ t
-        → pick t (pick (leb (sum xs) 4294967295) (given (length (image e xs))) (refused 3)) (refused 2) ≡ pick t (given (length (image e xs))) (refused 2)
-    go true q = rw (le-leb (sum xs) 4294967295 (omega (arith, sum-four xs (four-list b h), leb-true (length xs) 65536 q)))
+        → pick t (pick (leb (sum xs) maxTotal) (given (length (image e xs))) (refused 3)) (refused 2) ≡ pick t (given (length (image e xs))) (refused 2)
+    go true q = rw (le-leb (sum xs) maxTotal (omega (arith, sum-four xs (four-list b h), leb-true (length xs) 65536 q)))
     go false q = refl
 
 -- 'A refusal is its number alone; no byte changes.'

@@ -7,19 +7,18 @@ use native.Mathlib.Omega.{arith}
 use lib.ListN.{length, getD, take, drop, length-take, length-drop}
 use lib.Pow.{pow-mono}
 use lib.Seq.{getD-drop, getD-take, length-take-le, take-add, take-all, take-append-le}
+use Rattle.lists.specs.Counts.{within}
+use Rattle.lists.proofs.CountLaws.{within-at, within-take}
 use Rattle.lists.specs.Lists.{splice, tabulate, window}
 use Rattle.lists.proofs.Parts.{length-splice, splice-nil, splice-then, take-smaller}
 use Rattle.lists.proofs.Tables.{tabulate-ext, tabulate-getD, take-tabulate}
-use Rattle.tree_lowest.specs.Code.Narrow.{within}
-use Rattle.tree_lowest.proofs.NarrowLaws.{within-take}
 use Rattle.image.specs.Check.{accepted}
 use Rattle.image.specs.Code.Head.{HeadOf}
 use Rattle.image.specs.Image.{Limits, page}
 use Rattle.image.specs.Read.{eOf, listOf, nOf, pagesOf}
 use Rattle.image.specs.declared.head.Head.{Head}
 use Rattle.image.proofs.Accepted.{accepted-only, length-list}
-use Rattle.image.proofs.PageLaws.{length-page, pages-cover, pages-few, pages-tight}
-use Rattle.image_test.proofs.TestLaws.{within-page}
+use Rattle.image.proofs.PageLaws.{length-page, page-few, pages-cover, pages-few, pages-tight}
 use Rattle.book.specs.Book.{bookOf, fourDigits}
 use Rattle.book.proofs.BookLaws.{book-append, length-book}
 
@@ -45,7 +44,7 @@ read-take c d w k q l = ap (take k) q ∙ take-append-le k w (drop (0 + length w
 -- some counts of a page of a list have no digit more
 pub four-page : (e p k : ℕ) (xs : List ℕ) → fourDigits xs ≡ true → fourDigits (take k (page e xs p)) ≡ true
 unfolding fourDigits within
-four-page e p k xs h = within-take 9999 k (page e xs p) (within-page 9999 e p xs h)
+four-page e p k xs h = within-take 9999 k (page e xs p) (page-few 9999 e p xs (within-at 9999 xs h))
 
 -- ---- the bytes
 -- one page more: some of its counts, up to the list's end

@@ -6,11 +6,11 @@ use Prim.Native.Nat.{ℕ, _*_, _≤_, _<_}
 use native.Mathlib.Omega.{arith}
 use lib.ListN.{length}
 use borrow.Author.Tests.{le-leb, lt-leb}
+use Rattle.lists.specs.Counts.{within}
 use Rattle.answers.specs.Image.{Verdict, fails, given, holds, refused, told}
 use Rattle.answers.specs.declared.image.Answer.the-variants.{Number, Refused}
 use Rattle.lists.specs.Lists.{pick, splice}
 use Rattle.lists.proofs.Tests.{right}
-use Rattle.tree_lowest.specs.Code.Narrow.{within}
 use Rattle.image.specs.Calls.{put, resultOf, unwritten}
 use Rattle.image.specs.Check.{accepted, check}
 use Rattle.image.specs.Read.{listOf}

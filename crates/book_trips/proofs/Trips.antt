@@ -2,9 +2,11 @@
 use mathlib.Core.Path.{_≡_, sym, ap, _∙_, subst}
 use mathlib.Core.Bool.{true}
 use mathlib.Core.List.{List}
-use Prim.Native.Nat.{ℕ}
+use Prim.Native.Nat.{ℕ, _≤_}
 use native.Mathlib.Omega.{arith}
-use lib.ListN.{length}
+use lib.ListN.{length, getD}
+use Rattle.lists.specs.Counts.{within}
+use Rattle.lists.proofs.CountLaws.{within-at}
 use Rattle.image.specs.Check.{accepted}
 use Rattle.image.specs.Image.{Limits, image}
 use Rattle.image.specs.Read.{eOf, listOf}
@@ -32,8 +34,12 @@ module _ {e : ℕ} {b s : List ℕ} (o : Over e b s) where
   its-four : fourDigits (listOf s) ≡ true
   its-four = ap fourDigits list-same ∙ four-list b (o .is-decimal)
 
+  few : (i : ℕ) → getD (listOfBook b) i 0 ≤ 4294967295
+  unfolding fourDigits within
+  few i = omega (arith, within-at 9999 (listOfBook b) (four-list b (o .is-decimal)) i)
+
   is-good : accepted s ≡ true
-  is-good = ap accepted (o .image-is) ∙ accepted-image e (listOfBook b) (o .limits)
+  is-good = ap accepted (o .image-is) ∙ accepted-image e (listOfBook b) (o .limits) few
 
 -- ---- the book of an image
 module _ {s b : List ℕ} (k : Back s b) where

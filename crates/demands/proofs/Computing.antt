@@ -1,5 +1,6 @@
 -- What the checker computes with. An example's proof is `refl`, with the definitions that it computes through unfolded: they are named here once,
 -- by what an example is about. Assumes nothing.
+use Rattle.lists.specs.Counts.{within as withinLimit}
 use Rattle.lists.specs.Lists.{concat, every, fill, first, least, occurrences, one, pick, reached, same, sum, tabulate, window}
 use Rattle.bits.specs.Bits.{bits, field, valueFrom}
 use Rattle.bits.specs.Numbers.{little, number}
@@ -20,10 +21,11 @@ use Rattle.store.specs.Settle.{pagewise, settled, settledByCells, shrunk, sizeT
 use Rattle.store.specs.Sound.{fine, onChains, sound, tests, within}
 use Rattle.coin_cost.specs.Cost.{cellsFor, gain, pageGain}
 use Rattle.image.specs.Calls.{lengthCall, put, putAfter, unwritten, writeCall}
-use Rattle.image.specs.Check.{accepted, check, headed}
-use Rattle.image.specs.Image.{bytesFor, code, header as imageHeader, image, packed, page as imagePage, pageCode, pages, root, size, start, table}
-use Rattle.image.specs.Query.{beforePassing, count, look, lookIn, pageFine, reading, readingAt, theCount, theReading}
-use Rattle.image.specs.Read.{beforeOf, codeAt, eOf, lOf, listOf, nOf, pageOf, pagesOf, rootOf, sOf, startOf, sumOf, treeAt, widthOf}
+use Rattle.image.specs.Check.{accepted, check, headed, wideRight}
+use Rattle.image.specs.Image.{bytesFor, code, header as imageHeader, headerIn, image, packed, page as imagePage, pageCode, pages, root, size, start}
+use Rattle.image.specs.Image.{table, wide}
+use Rattle.image.specs.Query.{beforePassing, count, ended as walkEnded, look, lookIn, pageFine, reading, readingAt, theCount, theReading}
+use Rattle.image.specs.Read.{beforeOf, codeAt, eOf, lOf, listOf, nOf, pageOf, pagesOf, rootOf, sOf, startOf, sumOf, treeAt, wideOf, widthOf}
 use Rattle.freeze.specs.Freeze.{freezeCall}
 use Rattle.book.specs.Book.{bookOf, decimal, decimalByte, fourDigits, listOfBook}
 use Rattle.book_in.specs.FromBook.{fromCall}
@@ -52,9 +54,9 @@ the-code = tt
 
 -- an image: written, tested and asked
 unfoldable pub the-image : Unit {0}
-unfolding the-code lengthCall writeCall putAfter put unwritten image imageHeader table packed code start pageCode root imagePage pages bytesFor
-    size headed accepted check eOf nOf sOf lOf pagesOf widthOf startOf codeAt rootOf beforeOf sumOf treeAt pageOf listOf count reading readingAt
-    look lookIn theCount theReading pageFine beforePassing ended endings reachWord reachWords
+unfolding the-code lengthCall writeCall putAfter put unwritten image imageHeader headerIn wide table packed code start pageCode root imagePage pages
+    bytesFor size headed wideRight accepted withinLimit check wideOf eOf nOf sOf lOf pagesOf widthOf startOf codeAt rootOf beforeOf sumOf treeAt
+    pageOf listOf count reading readingAt walkEnded look lookIn theCount theReading pageFine beforePassing ended endings reachWord reachWords
 the-image = tt
 
 -- runs of hours, one by one

@@ -75,8 +75,10 @@ pub in-digits :
     ∷ theCells 0 8
     ∷ theSums 5 8
     ∷ theSums 65536 4294967295
+    ∷ theSums 65536 1099511627775
     ∷ theRun 4 5
     ∷ theRun 65535 4294967295
+    ∷ theRun 65535 1099511627775
     ∷ theHours 1 2
     ∷ theHours 65535 65536
     ∷ noRun
@@ -88,8 +90,10 @@ pub in-digits :
     ∷ 524288
     ∷ 5497558138888
     ∷ 72057598332895231
+    ∷ 72058693549555711
     ∷ 4398046511109
     ∷ 72056498821267455
+    ∷ 72057594037927935
     ∷ 8589934593
     ∷ 281474976776191
     ∷ 0
@@ -103,9 +107,11 @@ in-digits = refl
 pub read-in-c :
     ((taken 196610 ≡ 2) × (returned 196610 ≡ 3) × (taken 524288 ≡ 0) × (returned 524288 ≡ 8))
     × ((checkedHours 72057598332895231 ≡ 65536) × (checkedTotal 72057598332895231 ≡ 4294967295))
+    × ((checkedHours 72058693549555711 ≡ 65536) × (checkedTotal 72058693549555711 ≡ 1099511627775))
     × ((busiestFirst 72056498821267455 ≡ 65535) × (busiestSum 72056498821267455 ≡ 4294967295))
+    × ((busiestFirst 72057594037927935 ≡ 65535) × (busiestSum 72057594037927935 ≡ 1099511627775))
     × ((matchedFirst 281474976776191 ≡ 65535) × (matchedHours 281474976776191 ≡ 65536) × (matchedHours 0 ≡ 0))
-read-in-c = ((refl, refl, refl, refl), (refl, refl), (refl, refl), (refl, refl, refl))
+read-in-c = ((refl, refl, refl, refl), (refl, refl), (refl, refl), (refl, refl), (refl, refl), (refl, refl, refl))
 
 -- ---- 'Stored numbers of several bytes put the low byte first'
 pub low-byte-first :
@@ -114,15 +120,18 @@ unfolding the-code
 low-byte-first = (refl, refl, refl)
 
 -- ---- 'Let t be the binary digits of s, 0 for s = 0'; 'R(2,1)=1, R(2,2)=2, R(4,3)=5, R(4,6)=8, R(8,5)=12, R(64,1)=6, R(64,31)=117,
--- R(64,32)=120, R(64,122)=240 (one cell), R(64,123)=241 (two), R(64,4294967295)=1820 (eight)', and '0 if s = 0'
+-- R(64,32)=120, R(64,122)=240 (one cell), R(64,123)=241 (two), R(64,4294967295)=1820 (eight)', and '0 if s = 0'; a page of 256 counts of
+-- 4,294,967,295 is the richest
 pub reserves :
-    (map digits (0 ∷ 1 ∷ 2 ∷ 3 ∷ 4 ∷ 7 ∷ 8 ∷ 255 ∷ 256 ∷ 4294967295 ∷ []) ≡ 0 ∷ 1 ∷ 2 ∷ 2 ∷ 3 ∷ 3 ∷ 4 ∷ 8 ∷ 9 ∷ 32 ∷ [])
+    (map digits (0 ∷ 1 ∷ 2 ∷ 3 ∷ 4 ∷ 7 ∷ 8 ∷ 255 ∷ 256 ∷ []) ≡ 0 ∷ 1 ∷ 2 ∷ 2 ∷ 3 ∷ 3 ∷ 4 ∷ 8 ∷ 9 ∷ [])
+    × (map digits (4294967295 ∷ 4294967296 ∷ 1099511627775 ∷ []) ≡ 32 ∷ 33 ∷ 40 ∷ [])
     × (map (reserve 1) (0 ∷ 1 ∷ 2 ∷ []) ≡ 0 ∷ 1 ∷ 2 ∷ [])
     × (map (reserve 2) (0 ∷ 3 ∷ 6 ∷ []) ≡ 0 ∷ 5 ∷ 8 ∷ [])
     × (map (reserve 3) (0 ∷ 5 ∷ []) ≡ 0 ∷ 12 ∷ [])
     × (map (reserve 6) (0 ∷ 1 ∷ 31 ∷ 32 ∷ 122 ∷ 123 ∷ 4294967295 ∷ []) ≡ 0 ∷ 6 ∷ 117 ∷ 120 ∷ 240 ∷ 241 ∷ 1820 ∷ [])
+    × (reserve 8 1099511627520 ≡ 8916)
 unfolding the-code
-reserves = (refl, refl, refl, refl, refl)
+reserves = (refl, refl, refl, refl, refl, refl, refl)
 
 -- ---- 'the first t bits are the sum of the left half, high bit first. The left subtree starts at a + t; the right one starts where the left one's
 -- reserve ends. Bits left over are 0'

@@ -3,7 +3,7 @@
 -- nothing of that changes (`ExampleForms`). Assumes nothing.
 use mathlib.Core.Bool.{_&&_, false, true}
 use mathlib.Core.List.{List, [], _∷_, _++_}
-use mathlib.Core.Path.{_≡_, refl, ap, ap₂, _∙_}
+use mathlib.Core.Path.{_≡_, refl, ap, _∙_}
 use Prim.Native.Nat.{ℕ, _+_, _*_, _≤_}
 use native.Mathlib.Omega.{arith}
 use lib.Dec.{leb}
@@ -19,7 +19,8 @@ use Rattle.tree.proofs.Shape.{length-tree}
 use Rattle.answers.specs.Image.{Reply, given, refused as turned}
 use Rattle.image.specs.Calls.{Result, lengthCall, putAfter}
 use Rattle.image.specs.Check.{accepted, headed}
-use Rattle.image.specs.Image.{Limits, code, image, page, pageCode, pages, root, size}
+use Rattle.image.specs.Image.{Limits, code, image, page, pageCode, pages, root, size, wide}
+use Rattle.image.proofs.Editions.{size-same}
 use Rattle.image.specs.Read.{sOf}
 use Rattle.words.specs.End.{ofImage, refusal, theNumber}
 use Rattle.words.specs.Words.{wordOf}
@@ -58,11 +59,11 @@ manyCoins =
 
 -- pages of 256: 2 coins in hour 100, 1 in hour 200, 3 in hour 256. Page 0 is 011 and left 2 of 3, then 0, 0, 2, 2, 0, 2, 2 of 2 and 0, 1, 1, 0, 1,
 -- 1, 1 of 1; page 1 is 110 and left 3 of 3 eight times
-abbrev wideList : List ℕ
-wideList = replicate 100 0 ++ 2 ∷ replicate 99 0 ++ 1 ∷ replicate 55 0 ++ 3 ∷ []
+abbrev longPagesList : List ℕ
+longPagesList = replicate 100 0 ++ 2 ∷ replicate 99 0 ++ 1 ∷ replicate 55 0 ++ 3 ∷ []
 
-abbrev wide : List ℕ
-wide = hex "01 08 00 00 01 01 00 00 06 00 00 00 34 00 00 00 00 00 00 00 1A 00 00 00 70 51 4D F7 FF F8 00"
+abbrev longPages : List ℕ
+longPages = hex "01 08 00 00 01 01 00 00 06 00 00 00 34 00 00 00 00 00 00 00 1A 00 00 00 70 51 4D F7 FF F8 00"
 
 -- the largest total, in fields of 32 bits: 0xABCDEF01 of it in hour 0, the rest in hour 1
 abbrev richList : List ℕ
@@ -87,7 +88,7 @@ pub writes :
     × Leaves (ImageWrite printedList 2 (blank 29)) 27 (printedList ∷ (printed ++ blank 2) ∷ [])
     × Leaves (ImageWrite twoPagesList 3 (blank 30)) 30 (twoPagesList ∷ twoPages ∷ [])
     × Leaves (ImageWrite manyCoinsList 2 (blank 86)) 86 (manyCoinsList ∷ manyCoins ∷ [])
-    × Leaves (ImageWrite wideList 8 (blank 31)) 31 (wideList ∷ wide ∷ [])
+    × Leaves (ImageWrite longPagesList 8 (blank 31)) 31 (longPagesList ∷ longPages ∷ [])
     × Leaves (ImageWrite richList 2 (blank 36)) 36 (richList ∷ rich ∷ [])
     × Leaves (ImageWrite (7 ∷ []) 2 (blank 22)) 22
     ((7 ∷ []) ∷ hex "01 02 00 00 01 00 00 00 07 00 00 00 0C 00 00 00 00 00 00 00 FF 80" ∷ [])
@@ -114,7 +115,7 @@ pub addresses : (pageStart 3 twoPagesList 1 ≡ 192 + 25) × (treeStart 3 twoPag
 unfolding the-image
 addresses = (refl, refl)
 
--- length and write: 1, 'e outside 2 to 8'; 3, the total 'above 4,294,967,295'; 4, a buffer 'shorter than the image'; in that order
+-- length and write: 1, 'e outside 2 to 8'; 4, a buffer 'shorter than the image'; in that order. 3 between them is in ExamplesEditions
 pub write-borders :
     Asking
     (ImageLength printedList 1 gives refused 1
@@ -124,13 +125,9 @@ pub write-borders :
     ∷ ImageLength printedList 9 gives refused 1
     ∷ ImageLength [] 2 gives 16
     ∷ ImageLength (4294967295 ∷ 0 ∷ []) 2 gives 36
-    ∷ ImageLength (4294967295 ∷ 1 ∷ []) 2 gives refused 3
-    ∷ ImageLength (4294967295 ∷ 1 ∷ []) 9 gives refused 1
     ∷ ImageWrite printedList 2 (blank 26) gives refused 4
     ∷ ImageWrite printedList 1 [] gives refused 1
     ∷ ImageWrite printedList 9 [] gives refused 1
-    ∷ ImageWrite (4294967295 ∷ 1 ∷ []) 2 [] gives refused 3
-    ∷ ImageWrite (4294967295 ∷ 1 ∷ []) 9 [] gives refused 1
     ∷ [])
 unfolding the-image
 write-borders = asking refl
@@ -153,14 +150,14 @@ pub answered :
     ∷ ImageReading twoPages 11 gives 18
     ∷ ImageCheck manyCoins gives holding 13 269223940
     ∷ ImageReading manyCoins 12 gives 201917955
-    ∷ ImageCheck wide gives holding 257 6
-    ∷ ImageCount wide 100 gives 2
-    ∷ ImageCount wide 200 gives 1
-    ∷ ImageCount wide 255 gives 0
-    ∷ ImageCount wide 256 gives 3
-    ∷ ImageReading wide 100 gives 0
-    ∷ ImageReading wide 200 gives 2
-    ∷ ImageReading wide 257 gives 6
+    ∷ ImageCheck longPages gives holding 257 6
+    ∷ ImageCount longPages 100 gives 2
+    ∷ ImageCount longPages 200 gives 1
+    ∷ ImageCount longPages 255 gives 0
+    ∷ ImageCount longPages 256 gives 3
+    ∷ ImageReading longPages 100 gives 0
+    ∷ ImageReading longPages 200 gives 2
+    ∷ ImageReading longPages 257 gives 6
     ∷ ImageCheck rich gives holding 2 4294967295
     ∷ ImageCount rich 0 gives 2882400001
     ∷ ImageReading rich 2 gives 4294967295
@@ -197,6 +194,7 @@ pub wrong-header :
     ∷ ImageCheck none gives holding 0 0
     ∷ ImageCheck (but 0 0) gives refused 5
     ∷ ImageCheck (but 0 2) gives refused 5
+    ∷ ImageCheck (but 0 3) gives refused 5
     ∷ ImageCheck (set none 1 1) gives refused 5
     ∷ ImageCheck (set none 1 8) gives holding 0 0
     ∷ ImageCheck (set none 1 9) gives refused 5
@@ -336,6 +334,6 @@ module _ (xs : List ℕ) (long : length xs ≡ 65536) (idle : sum xs ≡ 0) wher
   unfolding the-image
   longest =
       let m : Limits 8 xs = record { e-low = omega arith; e-high = omega arith; hours = omega (arith, long); total = omega (arith, idle) } in
-      let e : lengthCall 8 xs ≡ given (size 8 65536 0) =
-      demand-2 .lengths 8 xs m ∙ ap₂ (λ (n l : ℕ). given (size 8 n l)) long no-code in
+      let e : lengthCall 8 xs ≡ given (size (wide 0) 8 65536 0) =
+      demand-2 .lengths 8 xs m ∙ ap given (size-same {e = 8} (ap wide idle) refl long no-code) in
       leaves (ap (λ (r : Reply). expected (wordOf (ofImage r)) (xs ∷ [])) e)

@@ -21,7 +21,7 @@ use Rattle.store.proofs.PageCodeLaws.{cells-hold}
 use Rattle.store.proofs.ReadBack.{code-in}
 use Rattle.store.proofs.SoundFacts.{facts}
 use Rattle.pages.proofs.Coding.{tree-at}
-use Rattle.image.specs.Image.{Limits, code, codeStart, image, page, pages, start}
+use Rattle.image.specs.Image.{Limits, code, codeStart, image, page, pages, start, wide}
 use Rattle.image.specs.Read.{codeAt, startOf, treeAt, widthOf}
 use Rattle.demands.specs.Demand2.{Coded, InCells, InImage, Ranges, Related, around, before, behind, codeOf, nodeIn}
 use Rattle.demands.specs.Demand2.{pageStart, treeStart, within}
@@ -83,7 +83,7 @@ nodes-related e xs p q ds es = go (decLe (suc p) q) (decLe (suc q) p)
 
 -- all within the L bits of code
 pub node-in-code : (e : ℕ) (xs : List ℕ) (p : ℕ) (ds : List Side) → p < pages e (length xs)
-    → end (nodeIn e xs p ds) ≤ codeStart (pages e (length xs)) + length (code e xs)
+    → end (nodeIn e xs p ds) ≤ codeStart (wide (sum xs)) (pages e (length xs)) + length (code e xs)
 node-in-code e xs p ds l = omega (arith, node-in-page e xs p ds .1, start-next e xs p, start-within e xs p l)
 
 -- and in the image each range holds the code of its node's counts

@@ -24,6 +24,7 @@ pub mod Note3
 pub mod Note4
 pub mod Note5
 pub mod Note7
+pub mod Note8
 pub mod ExampleForms
 pub mod ExampleSearches
 pub mod Computing
@@ -31,4 +32,5 @@ pub mod ExamplesCode
 pub mod ExamplesLive
 pub mod ExamplesStore
 pub mod ExamplesImage
+pub mod ExamplesEditions
 pub mod ExamplesNotes

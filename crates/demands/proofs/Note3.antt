@@ -2,7 +2,7 @@
 -- or `round-trips`; a claim that says less fails here. Assumes nothing.
 use mathlib.Core.Bool.{true}
 use mathlib.Core.List.{List, [], _∷_}
-use mathlib.Core.Logic.{_⊎_, inl, inr, _↔_}
+use mathlib.Core.Logic.{_⊎_, _↔_}
 use mathlib.Core.Path.{_≡_, refl, sym, _∙_}
 use Prim.Native.Nat.{ℕ, _-_, _*_, _/_, _%_, _^_, _≤_, _<_}
 use native.Mathlib.Omega.{arith}
@@ -17,22 +17,15 @@ use Rattle.book_trips.proofs.Trips.{round-trips}
 use Rattle.book_trips.proofs.Given.{from-long, to-long}
 use Rattle.hourlog_c.specs.Public.{ImageFromBcd, ImageToBcd}
 use Rattle.hourlog_c.specs.Export.{Answers}
-use Rattle.demands.specs.Reasons.{NoPageSize, TooWide, reasons}
+use Rattle.demands.specs.Reasons.{TooWide, reasons}
 use Rattle.demands.specs.Demand1.{Given, row}
 use Rattle.demands.proofs.Demand1.{demand-1}
 use Rattle.demands.proofs.ReasonTests.{accepted-passes, past-6}
-use Rattle.demands.proofs.Sentences1.{image-number, minus-at, not-below, number}
+use Rattle.demands.proofs.Sentences1.{a-page-size, image-number, minus-at, number}
 use Rattle.demands.proofs.Slices.{same-second}
 use Rattle.demands.proofs.Winning.{stands, without}
 
 -- ---- 'It refuses with 14, after 1 and before 2, a book of odd length or with a digit above 9', and then alone
-a-page-size : (e : ℕ) → (NoPageSize e → ⊥) ↔ ((2 ≤ e) × (e ≤ 8))
-a-page-size e = (λ n. (not-below e 2 (λ l. n (inl l)), not-below 8 e (λ l. n (inr l))), outside)
-  where
-    outside : (2 ≤ e) × (e ≤ 8) → NoPageSize e → ⊥
-    outside w (inl l) = omega (arith, w .0)
-    outside w (inr l) = omega (arith, w .1)
-
 pub refused-14 : (b : List ℕ) (e : ℕ) (out : List ℕ) (w : ℕ) (t : List (List ℕ)) → Answers (ImageFromBcd b e out) w t
     → (w ≡ 2 ^ 64 - 14)
     ↔ ((2 ≤ e) × (e ≤ 8) × ((length b % 2 ≡ 1) ⊎ ((i : ℕ) × (i < length b) × ((9 < getD b i 0 / 16) ⊎ (9 < getD b i 0 % 16)))))

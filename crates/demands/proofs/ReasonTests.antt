@@ -6,12 +6,15 @@ use mathlib.Core.Logic.{_⊎_, inl, inr, ⊎-elim, _↔_}
 use Prim.Native.Nat.{ℕ, zero, suc, _+_, _-_, _/_, _%_, _^_, _≤_, _<_}
 use native.Mathlib.Decide.{ℕ-discrete}
 use native.Mathlib.Omega.{arith}
-use lib.ListN.{length, getD}
+use lib.ListN.{length, getD, drop, length-take}
+use lib.Seq.{getD-drop, getD-take}
 use lib.Dec.{eqb, leb, ltb}
 use borrow.Author.Tests.{eq-eqb, eqb-true, le-leb, le-ltb, leb-false, leb-true, lt-ltb, ltb-false, ltb-true, not-false, not-true}
-use Rattle.lists.specs.Lists.{every, pick}
+use Rattle.lists.specs.Counts.{maxCount}
+use Rattle.lists.specs.Lists.{every, part, pick}
 use Rattle.lists.proofs.Tests.{each, every-no, every-of, left, right}
 use Rattle.bits.specs.Bits.{bits}
+use Rattle.bits.specs.Numbers.{number, numberAt}
 use Rattle.reserve.specs.Reserve.{reserve}
 use Rattle.tree.specs.Read.{Found, damaged, found, later, leftAt, leftOf, rightAt, walk}
 use Rattle.days.specs.Days.{ChangesWrong, changesFit}
@@ -20,16 +23,17 @@ use Rattle.store.specs.Fitting.{Fitting, fits}
 use Rattle.store.specs.Sound.{sound}
 use Rattle.store.proofs.ItemLaws.{sound-items}
 use Rattle.store.proofs.LimitLaws.{fits-so, fitting}
-use Rattle.image.specs.Check.{accepted, headTests, headed}
-use Rattle.image.specs.Image.{bytesFor, pages, size}
-use Rattle.image.specs.Query.{beforePassing, look, lookIn, pageFine, pageTests, passing}
-use Rattle.image.specs.Read.{beforeOf, eOf, lOf, listOf, nOf, rootOf, sOf, startOf, sumOf, treeAt, widthOf}
+use Rattle.image.specs.Check.{accepted, headTests, headed, wideRight}
+use Rattle.image.specs.Image.{bytesFor, edition, headerLength, maxTotal, narrowTotal, pages, size}
+use Rattle.image.specs.Query.{beforePassing, ended, look, lookIn, pageFine, pageTests, passing}
+use Rattle.image.specs.Read.{beforeOf, eOf, lOf, listOf, nOf, rootOf, sOf, startOf, sumOf, treeAt, wideOf, widthOf}
 use Rattle.image.proofs.Accepted.{accepted-only, length-list}
 use Rattle.image.proofs.CheckLaws.{past-5}
 use Rattle.book.specs.Book.{decimal, decimalByte, fourDigits}
 use Rattle.book.proofs.BookLaws.{digits-of, four-at}
-use Rattle.demands.specs.Reasons.{Damage, Header, LeftAbove, NoHeader, NoImage, NoPageSize, NotDecimal, PageDamage, Sized, TooWide, Unsound}
-use Rattle.demands.specs.Reasons.{before-above, before-passing, below-before, left-above, root-above, root-passing, tree-passing}
+use Rattle.demands.specs.Reasons.{Damage, Edition, Header, NoHeader, NoImage, NoPageSize, NotDecimal, PageDamage, Sized, TooWide, Unsound}
+use Rattle.demands.specs.Reasons.{WalkDamage, before-above, before-passing, below-before, first, root-above, root-passing, second, tree-passing}
+use Rattle.demands.specs.Reasons.{walk-damage}
 use Rattle.demands.proofs.Theorems.{accepted-if}
 
 -- a test that holds exactly where F does, and one that holds exactly where F does not
@@ -94,28 +98,86 @@ page-size e = (out (leb 2 e) refl (leb e 8) refl, inside)
     inside p (inr l) = let m = leb-true e 8 (right (leb 2 e) (leb e 8) p) in omega arith
 
 -- ---- an image's header, and its bytes
+-- a number is 0 where all its bytes are
+zero-bytes : (bs : List ℕ) → number bs ≡ 0 → (k : ℕ) → getD bs k 0 ≡ 0
+unfolding number
+zero-bytes [] e k = refl
+zero-bytes (b ∷ bs) e zero = omega arith
+zero-bytes (b ∷ bs) e (suc k) = zero-bytes bs (omega arith) k
+
+zero-number : (bs : List ℕ) → ((k : ℕ) → k < length bs → getD bs k 0 ≡ 0) → number bs ≡ 0
+unfolding number
+zero-number [] h = refl
+zero-number (b ∷ bs) h = omega (arith, h 0 (omega arith), zero-number bs (λ k l. h (suc k) (omega arith)))
+
+part-at : (s : List ℕ) (a w k : ℕ) → k < w → getD (part s a w) k 0 ≡ getD s (a + k) 0
+part-at s a w k l = getD-take w (drop a s) k 0 l ∙ getD-drop a s k 0
+
+last-zero : (s : List ℕ) → (numberAt s 20 4 ≡ 0) ↔ ((k : ℕ) → 20 ≤ k → k ≤ 23 → getD s k 0 ≡ 0)
+last-zero s = (
+  λ e k low high.
+      ap (λ (i : ℕ). getD s i 0) {x = k} {y = 20 + (k - 20)} (omega arith)
+      ∙ sym (part-at s 20 4 (k - 20) (omega arith))
+      ∙ zero-bytes (part s 20 4) e (k - 20),
+  λ h. zero-number (part s 20 4) (λ k l.
+      let m : k < 4 = omega (arith, l, length-take 4 (drop 20 s)) in
+      part-at s 20 4 k m ∙ h (20 + k) (omega arith) (omega arith)),
+)
+
+-- the edition, by byte 0
+pub wide-byte : (s : List ℕ) {n : ℕ} → getD s 0 0 ≡ n → wideOf s ≡ eqb n 2
+unfolding wideOf
+wide-byte s e = ap (λ (k : ℕ). eqb k 2) e
+
+edition-of : (s : List ℕ) (b : Bool) → getD s 0 0 ≡ edition b → wideRight b s ≡ true → Edition s (headerLength b)
+unfolding wideRight
+edition-of s false e w = first e
+edition-of s true e w =
+    let r = each (ltb narrowTotal (sOf s) ∷ leb (sOf s) maxTotal ∷ eqb (numberAt s 20 4) 0 ∷ []) w in
+    second e (omega (arith, ltb-true narrowTotal (sOf s) (r .0))) (omega (arith, leb-true (sOf s) maxTotal (r .1 .0)))
+    (λ k g h. last-zero s .0 (eqb-true (numberAt s 20 4) 0 (r .1 .1 .0)) k g (omega (arith, h)))
+
 header-of : (s : List ℕ) → headed s ≡ true → Header s
 unfolding headed size pages bytesFor
 header-of s e =
     let w = each (headTests s) e in
+    let b : Bool = wideOf s in
     record {
-      long = leb-true 16 (length s) (w .0);
-      edition = eqb-true (getD s 0 0) 1 (w .1 .0);
+      bytes = headerLength b;
+      edition = edition-of s b (eqb-true (getD s 0 0) (edition b) (w .1 .0)) (w .1 .1 .1 .1 .1 .1 .1 .0);
+      long = leb-true (headerLength b) (length s) (w .0);
       e-low = leb-true 2 (eOf s) (w .1 .1 .0);
       e-high = leb-true (eOf s) 8 (w .1 .1 .1 .0);
       zero-2 = eqb-true (getD s 2 0) 0 (w .1 .1 .1 .1 .0);
       zero-3 = eqb-true (getD s 3 0) 0 (w .1 .1 .1 .1 .1 .0);
       hours = leb-true (nOf s) 65536 (w .1 .1 .1 .1 .1 .1 .0);
-      all-bytes = eqb-true (length s) (size (eOf s) (nOf s) (lOf s)) (w .1 .1 .1 .1 .1 .1 .1 .0);
+      all-bytes = eqb-true (length s) (size b (eOf s) (nOf s) (lOf s)) (w .1 .1 .1 .1 .1 .1 .1 .1 .0);
     }
 
-header-so : (s : List ℕ) → Header s → headed s ≡ true
+-- and its tests, of a header of n bytes
+edition-so : (s : List ℕ) (n : ℕ) → Edition s n
+    → (headerLength (wideOf s) ≡ n) × (getD s 0 0 ≡ edition (wideOf s)) × (wideRight (wideOf s) s ≡ true)
+unfolding wideRight
+edition-so s _ (first e) = let w : wideOf s ≡ false = wide-byte s e in rw w (refl, e, refl)
+edition-so s _ (second e low high z) =
+    let w : wideOf s ≡ true = wide-byte s e in
+    rw w (
+      refl,
+      e,
+      every-of (ltb narrowTotal (sOf s) ∷ leb (sOf s) maxTotal ∷ eqb (numberAt s 20 4) 0 ∷ []) (
+        lt-ltb narrowTotal (sOf s) (omega arith),
+        (le-leb (sOf s) maxTotal (omega arith), (eq-eqb (numberAt s 20 4) 0 (last-zero s .1 (λ k g (h : k ≤ 23). z k g (omega arith))), tt)),
+      ),
+    )
+
+pub header-so : (s : List ℕ) → Header s → headed s ≡ true
 unfolding headed size pages bytesFor
 header-so s h =
+    let w = edition-so s (h .bytes) (h .edition) in
     every-of (headTests s) (
-      le-leb 16 (length s) (h .long),
+      le-leb (headerLength (wideOf s)) (length s) (omega (arith, w .0, h .long)),
       (
-        eq-eqb (getD s 0 0) 1 (h .edition),
+        eq-eqb (getD s 0 0) (edition (wideOf s)) (w .1),
         (
           le-leb 2 (eOf s) (h .e-low),
           (
@@ -124,7 +186,10 @@ header-so s h =
               eq-eqb (getD s 2 0) 0 (h .zero-2),
               (
                 eq-eqb (getD s 3 0) 0 (h .zero-3),
-                (le-leb (nOf s) 65536 (h .hours), (eq-eqb (length s) (size (eOf s) (nOf s) (lOf s)) (h .all-bytes), tt)),
+                (
+                  le-leb (nOf s) 65536 (h .hours),
+                  (w .2, (eq-eqb (length s) (size (wideOf s) (eOf s) (nOf s) (lOf s)) (omega (arith, w .0, h .all-bytes)), tt)),
+                ),
               ),
             ),
           ),
@@ -161,12 +226,25 @@ one-of-six false false false false true f q = inr (inr (inr (inr (inl refl))))
 one-of-six false false false false false true q = inr (inr (inr (inr (inr refl))))
 one-of-six false false false false false false q = absurd (true≢false q)
 
-later-damaged : (x : ℕ) (f : Found) → later x f ≡ damaged → f ≡ damaged
-unfolding later
-later-damaged x damaged e = refl
-later-damaged x (found y c) e = cc
+pub not-found : {x c : ℕ} → found x c ≡ damaged → ⊥
+not-found e = let z : _≡_ {A = ℕ} 0 1 = cc in omega arith
 
--- a walk finds damage exactly where a left sum is above its node
+-- 'a walk that ends at a count above 4,294,967,295 is damage', whatever it found before
+pub found-ends : (x c : ℕ) → (ended (found x c) ≡ damaged) ↔ (4294967295 < c)
+unfolding ended pick
+found-ends x c = go (leb c maxCount) refl
+  where
+    go : (b : Bool) → leb c maxCount ≡ b → (pick b (found x c) damaged ≡ damaged) ↔ (4294967295 < c)
+    go true e = (λ d. absurd (not-found d), λ (l : 4294967295 < c). absurd (omega (arith, leb-true c maxCount e)))
+    go false e = (λ d. leb-false c maxCount e, λ l. refl)
+
+later-ended : (x : ℕ) (f : Found) → (ended (later x f) ≡ damaged) ↔ (ended f ≡ damaged)
+unfolding later ended
+later-ended x damaged = (λ e. refl, λ e. refl)
+later-ended x (found y c) =
+    (λ e. found-ends y c .1 (found-ends (x + y) c .0 e), λ e. found-ends (x + y) c .1 (found-ends y c .0 e))
+
+-- a walk finds damage exactly where a left sum is above its node, or the count that it ends at above its limit
 module _ (s : ℕ) (b : List ℕ) (a j h : ℕ) where
   abbrev l : ℕ
   l = leftOf s b a
@@ -177,32 +255,34 @@ module _ (s : ℕ) (b : List ℕ) (a j h : ℕ) where
   abbrev onRight : Found
   onRight = walk h (s - l) b (rightAt h s l a) (j - 2 ^ h)
 
-  node-found : (onLeft ≡ damaged → LeftAbove h l b (leftAt s a) j) → (onRight ≡ damaged → LeftAbove h (s - l) b (rightAt h s l a) (j - 2 ^ h))
-      → (x : Bool) → leb l s ≡ x → (y : Bool) → ltb j (2 ^ h) ≡ y → pick x (pick y onLeft (later l onRight)) damaged ≡ damaged
-      → LeftAbove (suc h) s b a j
+  node-found : (ended onLeft ≡ damaged → WalkDamage h l b (leftAt s a) j)
+      → (ended onRight ≡ damaged → WalkDamage h (s - l) b (rightAt h s l a) (j - 2 ^ h))
+      → (x : Bool) → leb l s ≡ x → (y : Bool) → ltb j (2 ^ h) ≡ y → ended (pick x (pick y onLeft (later l onRight)) damaged) ≡ damaged
+      → WalkDamage (suc h) s b a j
   unfolding pick
   node-found f g true p true q e = inr (inl (ltb-true j (2 ^ h) q, f e))
-  node-found f g true p false q e = inr (inr (ltb-false j (2 ^ h) q, g (later-damaged l onRight e)))
+  node-found f g true p false q e = inr (inr (ltb-false j (2 ^ h) q, g (later-ended l onRight .0 e)))
   node-found f g false p y q e = inl (leb-false l s p)
 
-  node-damaged : (LeftAbove h l b (leftAt s a) j → onLeft ≡ damaged) → (LeftAbove h (s - l) b (rightAt h s l a) (j - 2 ^ h) → onRight ≡ damaged)
-      → (x : Bool) → leb l s ≡ x → LeftAbove (suc h) s b a j → pick x (pick (ltb j (2 ^ h)) onLeft (later l onRight)) damaged ≡ damaged
-  unfolding pick later
+  node-damaged : (WalkDamage h l b (leftAt s a) j → ended onLeft ≡ damaged)
+      → (WalkDamage h (s - l) b (rightAt h s l a) (j - 2 ^ h) → ended onRight ≡ damaged)
+      → (x : Bool) → leb l s ≡ x → WalkDamage (suc h) s b a j → ended (pick x (pick (ltb j (2 ^ h)) onLeft (later l onRight)) damaged) ≡ damaged
+  unfolding pick ended
   node-damaged f g false p w = refl
   node-damaged f g true p (inl k) = let m = leb-true l s p in absurd (omega arith)
   node-damaged f g true p (inr (inl (q, w))) = rw (lt-ltb j (2 ^ h) q) (f w)
-  node-damaged f g true p (inr (inr (q, w))) = rw (le-ltb j (2 ^ h) q, g w)
+  node-damaged f g true p (inr (inr (q, w))) = rw (le-ltb j (2 ^ h) q) (later-ended l onRight .1 (g w))
 
-walk-found : (h s : ℕ) (b : List ℕ) (a j : ℕ) → walk h s b a j ≡ damaged → LeftAbove h s b a j
+walk-found : (h s : ℕ) (b : List ℕ) (a j : ℕ) → ended (walk h s b a j) ≡ damaged → WalkDamage h s b a j
 unfolding walk
-walk-found zero s b a j e = let z : _≡_ {A = ℕ} 0 1 = cc in omega arith
+walk-found zero s b a j e = found-ends 0 s .0 e
 walk-found (suc h) s b a j e =
     node-found s b a j h (walk-found h (leftOf s b a) b (leftAt s a) j)
     (walk-found h (s - leftOf s b a) b (rightAt h s (leftOf s b a) a) (j - 2 ^ h)) (leb (leftOf s b a) s) refl (ltb j (2 ^ h)) refl e
 
-walk-lost : (h s : ℕ) (b : List ℕ) (a j : ℕ) → LeftAbove h s b a j → walk h s b a j ≡ damaged
+walk-lost : (h s : ℕ) (b : List ℕ) (a j : ℕ) → WalkDamage h s b a j → ended (walk h s b a j) ≡ damaged
 unfolding walk
-walk-lost zero s b a j w = absurd w
+walk-lost zero s b a j w = found-ends 0 s .1 w
 walk-lost (suc h) s b a j w =
     node-damaged s b a j h (walk-lost h (leftOf s b a) b (leftAt s a) j)
     (walk-lost h (s - leftOf s b a) b (rightAt h s (leftOf s b a) a) (j - 2 ^ h)) (leb (leftOf s b a) s) refl w
@@ -233,23 +313,23 @@ module _ (s : List ℕ) (p j : ℕ) where
       go (inr (inr (inr (inr (inl q))))) = below-before (ltb-true _ _ q)
       go (inr (inr (inr (inr (inr q))))) = tree-passing (ltb-true _ _ q)
 
-  not-fine : pageFine s p ≡ false → lookIn s p j ≡ damaged
-  unfolding lookIn pick
+  not-fine : pageFine s p ≡ false → ended (lookIn s p j) ≡ damaged
+  unfolding lookIn pick ended
   not-fine e = rw e
 
-  at-test : (k : ℕ) → getD (pageTests s p) k true ≡ false → lookIn s p j ≡ damaged
+  at-test : (k : ℕ) → getD (pageTests s p) k true ≡ false → ended (lookIn s p j) ≡ damaged
   unfolding pageFine
   at-test k e = not-fine (every-no (pageTests s p) k e)
 
-  walk-damaged : walk (eOf s) (sumOf s p) (bits s) (treeAt s p) j ≡ damaged → lookIn s p j ≡ damaged
-  unfolding lookIn pick later
-  walk-damaged q = rw q (go (pageFine s p))
+  walk-damaged : ended (walk (eOf s) (sumOf s p) (bits s) (treeAt s p) j) ≡ damaged → ended (lookIn s p j) ≡ damaged
+  unfolding lookIn pick ended
+  walk-damaged q = go (pageFine s p)
     where
-      go : (b : Bool) → pick b damaged damaged ≡ damaged
-      go true = refl
+      go : (b : Bool) → ended (pick b (later (beforeOf s p) (walk (eOf s) (sumOf s p) (bits s) (treeAt s p) j)) damaged) ≡ damaged
+      go true = later-ended (beforeOf s p) (walk (eOf s) (sumOf s p) (bits s) (treeAt s p) j) .1 q
       go false = refl
 
-  page-damaged : PageDamage s p j → lookIn s p j ≡ damaged
+  page-damaged : PageDamage s p j → ended (lookIn s p j) ≡ damaged
   unfolding sumOf beforePassing
   page-damaged (root-passing l) = at-test 0 (ap not (lt-ltb _ _ l))
   page-damaged (before-passing q e l) = at-test 1 (ap not (ap (beforePassing s) e ∙ lt-ltb _ _ l))
@@ -257,18 +337,18 @@ module _ (s : List ℕ) (p j : ℕ) where
   page-damaged (before-above l) = at-test 3 (ap not (lt-ltb _ _ l))
   page-damaged (below-before l) = at-test 4 (ap not (lt-ltb _ _ l))
   page-damaged (tree-passing l) = at-test 5 (ap not (lt-ltb _ _ l))
-  page-damaged (left-above w) = walk-damaged (walk-lost (eOf s) (rootOf s p - beforeOf s p) (bits s) (treeAt s p) j w)
+  page-damaged (walk-damage w) = walk-damaged (walk-lost (eOf s) (rootOf s p - beforeOf s p) (bits s) (treeAt s p) j w)
 
-  damage-found : lookIn s p j ≡ damaged → PageDamage s p j
+  damage-found : ended (lookIn s p j) ≡ damaged → PageDamage s p j
   unfolding lookIn pick sumOf
   damage-found e = go (pageFine s p) refl e
     where
       go : (b : Bool) → pageFine s p ≡ b
-          → pick b (later (beforeOf s p) (walk (eOf s) (sumOf s p) (bits s) (treeAt s p) j)) damaged ≡ damaged → PageDamage s p j
-      go true q w = left-above (walk-found (eOf s) (sumOf s p) (bits s) (treeAt s p) j (later-damaged (beforeOf s p) _ w))
+          → ended (pick b (later (beforeOf s p) (walk (eOf s) (sumOf s p) (bits s) (treeAt s p) j)) damaged) ≡ damaged → PageDamage s p j
+      go true q w = walk-damage (walk-found (eOf s) (sumOf s p) (bits s) (treeAt s p) j (later-ended (beforeOf s p) _ .0 w))
       go false q w = page-found q
 
-pub damage-exactly : (s : List ℕ) (i : ℕ) → (look s i ≡ damaged) ↔ Damage s i
+pub damage-exactly : (s : List ℕ) (i : ℕ) → (ended (look s i) ≡ damaged) ↔ Damage s i
 unfolding look
 damage-exactly s i = (damage-found s (i / 2 ^ eOf s) (i % 2 ^ eOf s), page-damaged s (i / 2 ^ eOf s) (i % 2 ^ eOf s))
 

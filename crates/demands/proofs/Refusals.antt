@@ -3,7 +3,7 @@ use mathlib.Core.Path.{_≡_, refl, sym, _∙_, subst}
 use mathlib.Core.Bool.{Bool, true, false, _&&_}
 use mathlib.Core.List.{List, [], _∷_, _++_}
 use mathlib.Core.Logic.{inl, inr, ⊎-elim}
-use Prim.Native.Nat.{ℕ, zero, suc, _-_, _*_, _/_, _≤_, _<_}
+use Prim.Native.Nat.{ℕ, zero, suc, _-_, _*_, _/_, _^_, _≤_, _<_}
 use native.Mathlib.Omega.{arith}
 use lib.ListN.{length, set}
 use lib.Dec.{leb}
@@ -24,7 +24,7 @@ use Rattle.image.specs.Calls.{Result as ImageResult, lengthCall, put, putAfter,
 use Rattle.image.specs.Check.{accepted, check, headed}
 use Rattle.answers.specs.Image.{fails, holds, Reply, given, refused, told}
 use Rattle.image.specs.Image.{image}
-use Rattle.image.specs.Query.{count, look, reading, readingAt, theCount, theReading}
+use Rattle.image.specs.Query.{count, ended, look, reading, readingAt, theCount, theReading}
 use Rattle.image.specs.Reach.{Reach, above-total, any-index, damage, header-wrong, smallest}
 use Rattle.image.specs.Read.{listOf, nOf, sOf}
 use Rattle.image.proofs.Accepted.{length-list}
@@ -44,9 +44,11 @@ use Rattle.book_out.proofs.ToLaws.{to-fails, to-past}
 use Rattle.hourlog_c.specs.Public.{Fresh, Freeze, ImageBusiest, ImageCheck, ImageCount, ImageFromBcd, ImageLength, ImageMatch, ImageReach}
 use Rattle.hourlog_c.specs.Public.{ImageReading, ImageToBcd, ImageWrite, Live}
 use Rattle.words.specs.End.{End, ofBag, ofCheck, ofImage, ofStore, ofStretch, refusal, theNumber}
-use Rattle.demands.specs.Reasons.{Damage, NoHeader, NoImage, NoPageSize, Over, Reason, Short, TooWide, Unsound, _when_, plainReasons, reasons}
+use Rattle.demands.specs.Reasons.{Damage, NoHeader, NoImage, NoPageSize, OverImage, Reason, Short, TooWide, Unsound, _when_, plainReasons}
+use Rattle.demands.specs.Reasons.{reasons}
 use Rattle.demands.specs.Demand1.{Kind, aNumber, cellsMoved, firstAndSum, hoursAndTotal, hoursOrNone, row}
-use Rattle.demands.proofs.ReasonTests.{Denies, at-most, below, book, changes, clauses, damage-exactly, header, narrow, not-above, page-size, sizes, written}
+use Rattle.demands.proofs.ReasonTests.{Denies, at-most, below, book, changes, clauses, damage-exactly, header, narrow, not-above}
+use Rattle.demands.proofs.ReasonTests.{not-found, page-size, sizes, written}
 use Rattle.demands.proofs.Deciding.{Decided, fits-first, none-left, passed, where-false, where-true}
 
 -- ---- the live calls
@@ -108,12 +110,12 @@ module _ (M : ℕ → End → Type 0) where
 
   length-tried : (f : Reply → End) → ((k : ℕ) → f (refused k) ≡ refusal k) → (e : ℕ) (xs : List ℕ) (rs : List Reason)
       → Decided M aNumber rs (f (given (length (image e xs))))
-      → Decided M aNumber (1 when NoPageSize e ∷ 2 when (65536 < length xs) ∷ 3 when Over xs ∷ rs) (f (lengthCall e xs))
+      → Decided M aNumber (1 when NoPageSize e ∷ 2 when (65536 < length xs) ∷ 3 when OverImage xs ∷ rs) (f (lengthCall e xs))
   unfolding lengthCall
   length-tried f h e xs rs d =
       where-false M aNumber f _ _ _ (page-size e) (h 1) (λ _.
       where-false M aNumber f _ _ _ (not-above (length xs) 65536) (h 2) (λ _.
-      where-false M aNumber f _ _ _ (not-above (sum xs) 4294967295) (h 3) (λ _. d)))
+      where-false M aNumber f _ _ _ (not-above (sum xs) (2 ^ 40 - 1)) (h 3) (λ _. d)))
 
   pub length-decided : (xs : List ℕ) (e : ℕ) → Decided M aNumber (reasons (ImageLength xs e)) (ofImage (lengthCall e xs))
   unfolding reasons ofImage
@@ -172,26 +174,23 @@ module _ (M : ℕ → End → Type 0) where
       where-false M hoursAndTotal ofCheck _ _ _ (written s) refl (λ _. none-left M hoursAndTotal _ refl))
 
   -- ---- the questions to an image
-  not-found : {x c : ℕ} → found x c ≡ damaged → ⊥
-  not-found e = let z : _≡_ {A = ℕ} 0 1 = cc in omega arith
-
-  count-found : (s : List ℕ) (i : ℕ) → Decided M aNumber (6 when Damage s i ∷ []) (ofImage (theCount (look s i)))
+  count-found : (s : List ℕ) (i : ℕ) → Decided M aNumber (6 when Damage s i ∷ []) (ofImage (theCount (ended (look s i))))
   unfolding theCount ofImage
-  count-found s i = go (look s i) refl
+  count-found s i = go (ended (look s i)) refl
     where
-      go : (f : Found) → look s i ≡ f → Decided M aNumber (6 when Damage s i ∷ []) (ofImage (theCount f))
+      go : (f : Found) → ended (look s i) ≡ f → Decided M aNumber (6 when Damage s i ∷ []) (ofImage (theCount f))
       go damaged q = fits-first M aNumber _ (damage-exactly s i .0 q) refl
       go (found x c) q = passed M aNumber _ _ _ (λ d. not-found (sym q ∙ damage-exactly s i .1 d)) (none-left M aNumber _ refl)
 
   reading-found : (s : List ℕ) (i : ℕ) → Decided M aNumber (6 when ((1 ≤ i) × Damage s (i - 1)) ∷ []) (ofImage (readingAt s i))
   unfolding readingAt theReading ofImage
   reading-found s zero = passed M aNumber _ _ _ (λ (w : (1 ≤ 0) × Damage s (0 - 1)). omega (arith, w .0)) (none-left M aNumber _ refl)
-  reading-found s (suc i) = go (look s i) refl
+  reading-found s (suc i) = go (ended (look s i)) refl
     where
       back : suc i - 1 ≡ i
       back = omega arith
 
-      go : (f : Found) → look s i ≡ f → Decided M aNumber (6 when ((1 ≤ suc i) × Damage s (suc i - 1)) ∷ []) (ofImage (theReading f))
+      go : (f : Found) → ended (look s i) ≡ f → Decided M aNumber (6 when ((1 ≤ suc i) × Damage s (suc i - 1)) ∷ []) (ofImage (theReading f))
       go damaged q = fits-first M aNumber _ (omega arith, subst (Damage s) (sym back) (damage-exactly s i .0 q)) refl
       go (found x c) q =
           passed M aNumber _ _ _

@@ -35,7 +35,7 @@ use Rattle.hourlog_c.specs.Public.{PublicCall, beside, lent}
 use Rattle.words.specs.End.{End, noRun, ofBag, ofCheck, ofImage, ofStore, ofStretch, refusal, theCells, theHours, theNumber, theRun, theSums}
 use Rattle.words.specs.ReadBack.{Reads, busiestFirst, busiestSum, checkedHours, checkedTotal, matchedFirst, matchedHours, returned, taken}
 use Rattle.hourlog_c.specs.Export.{Answers}
-use Rattle.demands.specs.Reasons.{NoHeader, NoneFits, Sized, Unsound, Wins, reasons}
+use Rattle.demands.specs.Reasons.{NoHeader, NoPageSize, NoneFits, Sized, Unsound, Wins, reasons}
 use Rattle.demands.specs.Demand1.{Allowed, Bytes, Gives, Given, Index, Kind, aNumber, cellsMoved, firstAndSum, hoursAndTotal, hoursOrNone, row}
 use Rattle.demands.proofs.Demand1.{demand-1, live-10}
 use Rattle.demands.proofs.Slices.{same-slice}
@@ -450,6 +450,14 @@ meets c s w t a n = go (sound s) refl
 -- what is not below is at least as large
 pub not-below : (m n : ℕ) → (m < n → ⊥) → n ≤ m
 not-below m n f = let l : n < suc m = lt-of-not-le f in omega arith
+
+-- not 'e outside 2 to 8'
+pub a-page-size : (e : ℕ) → (NoPageSize e → ⊥) ↔ ((2 ≤ e) × (e ≤ 8))
+a-page-size e = (λ n. (not-below e 2 (λ l. n (inl l)), not-below 8 e (λ l. n (inr l))), outside)
+  where
+    outside : (2 ≤ e) × (e ≤ 8) → NoPageSize e → ⊥
+    outside w (inl l) = omega (arith, w .0)
+    outside w (inr l) = omega (arith, w .1)
 
 -- ---- rows in C's words: 'fresh: 9, P, C or buffer length wrong', and where they are right a store is made
 module _ (s : List ℕ) (P C w : ℕ) (t : List (List ℕ)) (a : Answers (Fresh s P C) w t) where

@@ -4,7 +4,7 @@ use mathlib.Core.Path.{_≡_, refl, sym, ap, _∙_}
 use mathlib.Core.Bool.{true}
 use mathlib.Core.List.{List}
 use mathlib.Core.Logic.{_↔_}
-use Prim.Native.Nat.{ℕ, _+_, _*_, _/_, _≤_, _<_}
+use Prim.Native.Nat.{ℕ, _+_, _-_, _*_, _/_, _^_, _≤_, _<_}
 use native.Mathlib.Omega.{arith}
 use lib.ListN.{length, getD, take, drop}
 use lib.Seq.{take-all}
@@ -14,21 +14,27 @@ use Rattle.lists.proofs.Reach.{reached-enough, reached-least}
 use Rattle.image.specs.Calls.{lengthCall, writeCall}
 use Rattle.image.specs.Check.{accepted, check}
 use Rattle.answers.specs.Image.{holds, Reply, given, refused}
-use Rattle.image.specs.Image.{IsImage, Limits, bytesFor, code, image, pages, size}
+use Rattle.image.specs.Image.{IsImage, Limits, bytesFor, code, headerLength, image, pages, size, wide}
 use Rattle.image.specs.Query.{count, reading}
 use Rattle.image.specs.Reach.{Reach}
 use Rattle.image.specs.Read.{eOf, listOf, sOf}
+use Rattle.image.proofs.PageLaws.{count-le}
 use Rattle.store.specs.Reading.{listIn}
 use Rattle.store.specs.Sound.{sound}
+use Rattle.store.proofs.SoundFacts.{facts}
 use Rattle.freeze.specs.Freeze.{freezeCall}
 use Rattle.demands.specs.Demand2.{Written}
 use Rattle.demands.proofs.Demand2.{demand-2}
 use Rattle.demands.proofs.Written.{store-limits}
 
+-- 'A count is coins in one hour, 0 to 4,294,967,295'
+abbrev pub Counts : List ℕ → Type 0
+Counts xs = (i : ℕ) → getD xs i 0 ≤ 4294967295
+
 -- ---- 'An image is accepted exactly when it is what the writer makes of some list, and that list reads back'
-is-accepted : (s : List ℕ) (e : ℕ) (xs : List ℕ) → Limits e xs → s ≡ image e xs → (accepted s ≡ true) × (listOf s ≡ xs)
-is-accepted s e xs m q =
-    let i : IsImage s e xs = record { limits = m; bytes = q } in
+pub is-accepted : (s : List ℕ) (e : ℕ) (xs : List ℕ) → Limits e xs → Counts xs → s ≡ image e xs → (accepted s ≡ true) × (listOf s ≡ xs)
+is-accepted s e xs m few q =
+    let i : IsImage s e xs = record { limits = m; counts = few; bytes = q } in
     let w : (accepted s ≡ true) ↔ ((e : ℕ) × (xs : List ℕ) × IsImage s e xs) = demand-2 .accepted-when s in
     (w .1 (e, xs, i), sym (demand-2 .read-back s e xs i .1))
 
@@ -36,8 +42,8 @@ module _ (e : ℕ) (xs out : List ℕ) (m : Limits e xs) (l : length (image e xs
   abbrev W : List ℕ
   W = writeCall e xs out .bytes
 
-  pub written-accepted : (accepted (take (length (image e xs)) W) ≡ true) × (listOf (take (length (image e xs)) W) ≡ xs)
-  written-accepted = is-accepted (take (length (image e xs)) W) e xs m (demand-2 .writes e xs out m l .image-first)
+  pub written-accepted : Counts xs → (accepted (take (length (image e xs)) W) ≡ true) × (listOf (take (length (image e xs)) W) ≡ xs)
+  written-accepted few = is-accepted (take (length (image e xs)) W) e xs m few (demand-2 .writes e xs out m l .image-first)
 
   -- 'Bytes beyond the image are left unchanged'
   pub beyond-kept : (drop (length (image e xs)) W ≡ drop (length (image e xs)) out) × (length W ≡ length out)
@@ -58,42 +64,52 @@ module _ (s : List ℕ) (e : ℕ) (xs : List ℕ) (m : Limits e xs) (n : length 
       (D .reply-is ∙ ap given n, sym (take-all (length (image e xs)) B (omega (arith, D .as-long))) ∙ D .image-first)
 
 pub accepted-written : (s : List ℕ)
-    → (accepted s ≡ true) ↔ ((e : ℕ) × (xs : List ℕ) × (writeCall e xs s .reply ≡ given (length s)) × (writeCall e xs s .bytes ≡ s))
+    → (accepted s ≡ true) ↔ ((e : ℕ) × (xs : List ℕ) × Counts xs × (writeCall e xs s .reply ≡ given (length s)) × (writeCall e xs s .bytes ≡ s))
 accepted-written s = (to, from)
   where
-    to : accepted s ≡ true → (e : ℕ) × (xs : List ℕ) × (writeCall e xs s .reply ≡ given (length s)) × (writeCall e xs s .bytes ≡ s)
+    to : accepted s ≡ true → (e : ℕ) × (xs : List ℕ) × Counts xs × (writeCall e xs s .reply ≡ given (length s)) × (writeCall e xs s .bytes ≡ s)
     to h =
         let w : (e : ℕ) × (xs : List ℕ) × IsImage s e xs = demand-2 .accepted-when s .0 h in
         let q : s ≡ image (w .0) (w .1) = w .2 .bytes in
         let d = all-of-it s (w .0) (w .1) (w .2 .limits) (ap length (sym q)) in
-        (w .0, w .1, d .0, d .1 ∙ sym q)
+        (w .0, w .1, w .2 .counts, d .0, d .1 ∙ sym q)
 
-    from : (e : ℕ) × (xs : List ℕ) × (writeCall e xs s .reply ≡ given (length s)) × (writeCall e xs s .bytes ≡ s) → accepted s ≡ true
+    from : (e : ℕ) × (xs : List ℕ) × Counts xs × (writeCall e xs s .reply ≡ given (length s)) × (writeCall e xs s .bytes ≡ s) → accepted s ≡ true
     from w =
-        let r = demand-2 .only-these (w .0) (w .1) s (length s) (w .2) in
-        is-accepted s (w .0) (w .1) (r .limits) (sym (w .3) ∙ all-of-it s (w .0) (w .1) (r .limits) (sym (r .long)) .1) .0
+        let r = demand-2 .only-these (w .0) (w .1) s (length s) (w .3) in
+        is-accepted s (w .0) (w .1) (r .limits) (w .2) (sym (w .4) ∙ all-of-it s (w .0) (w .1) (r .limits) (sym (r .long)) .1) .0
 
 -- and no list is written that has no image, nor into a buffer 'shorter than the image'
 pub unrefused-write : (e : ℕ) (xs out : List ℕ) (n : ℕ) → writeCall e xs out .reply ≡ given n
     → Limits e xs × (length (image e xs) ≤ length out) × (n ≡ length (image e xs))
 unrefused-write e xs out n q = let w = demand-2 .only-these e xs out n q in (w .limits, w .room, w .long)
 
--- 'e from 2 to 8', 'N at most 65,536', 'total at most 4,294,967,295': such a list has a length, and no other. It is the 'byte length .. the
--- one N, e and L give': 16 bytes, 4 for each page, and the bytes of L bits
-pub length-given : (e : ℕ) (xs : List ℕ) → 2 ≤ e → e ≤ 8 → length xs ≤ 65536 → sum xs ≤ 4294967295
-    → lengthCall e xs ≡ given (16 + 4 * pages e (length xs) + (length (code e xs) + 7) / 8)
+-- 'e from 2 to 8', 'N at most 65,536', 'totals up to 2^40 - 1': such a list has a length, and no other. It is the 'byte length .. the one N, e
+-- and L give': the header's bytes, 4 for each page, and the bytes of L bits
+pub length-given : (e : ℕ) (xs : List ℕ) → 2 ≤ e → e ≤ 8 → length xs ≤ 65536 → sum xs ≤ 2 ^ 40 - 1
+    → lengthCall e xs ≡ given (headerLength (wide (sum xs)) + 4 * pages e (length xs) + (length (code e xs) + 7) / 8)
 unfolding size bytesFor
 length-given e xs low high n s = demand-2 .lengths e xs (record { e-low = low; e-high = high; hours = n; total = s })
 
-pub length-only : (e : ℕ) (xs : List ℕ) (n : ℕ) → lengthCall e xs ≡ given n → (2 ≤ e) × (e ≤ 8) × (length xs ≤ 65536) × (sum xs ≤ 4294967295)
+pub length-only : (e : ℕ) (xs : List ℕ) (n : ℕ) → lengthCall e xs ≡ given n → (2 ≤ e) × (e ≤ 8) × (length xs ≤ 65536) × (sum xs ≤ 2 ^ 40 - 1)
 length-only e xs n q = let m = demand-2 .no-others e xs n q in (m .e-low, m .e-high, m .hours, m .total)
 
 pub length-returns : (e : ℕ) (xs : List ℕ) (n : ℕ) → lengthCall e xs ≡ given n
-    → n ≡ 16 + 4 * pages e (length xs) + (length (code e xs) + 7) / 8
+    → n ≡ headerLength (wide (sum xs)) + 4 * pages e (length xs) + (length (code e xs) + 7) / 8
 length-returns e xs n q =
     let m = length-only e xs n q in
-    let z : given n ≡ given (16 + 4 * pages e (length xs) + (length (code e xs) + 7) / 8) = sym q ∙ length-given e xs (m .0) (m .1) (m .2) (m .3) in
+    let z : given n ≡ given (headerLength (wide (sum xs)) + 4 * pages e (length xs) + (length (code e xs) + 7) / 8) =
+    sym q ∙ length-given e xs (m .0) (m .1) (m .2) (m .3) in
     cc
+
+-- 'Header, 16 bytes'; 'Edition 2 has a 24-byte header', which 'The writer uses .. only when S is above 4,294,967,295'
+pub header-16 : (s : ℕ) → s ≤ 4294967295 → headerLength (wide s) ≡ 16
+unfolding wide
+header-16 s l = ap headerLength (le-ltb 4294967295 s l)
+
+pub header-24 : (s : ℕ) → 4294967295 < s → headerLength (wide s) ≡ 24
+unfolding wide
+header-24 s l = ap headerLength (lt-ltb 4294967295 s l)
 
 -- 'freeze, which writes the image of a store's list': what it writes is accepted, and that list reads back; 'Length, write and freeze return
 -- the image's length in bytes. Bytes beyond the image are left unchanged'
@@ -105,7 +121,9 @@ module _ (s : List ℕ) (e : ℕ) (out : List ℕ) (h : sound s ≡ true) (low :
   F = freezeCall e s out .bytes
 
   pub frozen-accepted : (accepted (take len F) ≡ true) × (listOf (take len F) ≡ listIn s)
-  frozen-accepted = is-accepted (take len F) e (listIn s) (store-limits s e h low high) (demand-2 .freezes s e out h low high l .image-first)
+  frozen-accepted =
+      is-accepted (take len F) e (listIn s) (store-limits s e h low high) (λ i. omega (arith, count-le (listIn s) i, facts s h .total-fits))
+      (demand-2 .freezes s e out h low high l .image-first)
 
   pub freeze-returns : (freezeCall e s out .reply ≡ given len) × (drop len F ≡ drop len out) × (length F ≡ length out)
   freeze-returns = let w = demand-2 .freezes s e out h low high l in (w .reply-is, w .rest-same, w .as-long)
@@ -117,8 +135,8 @@ unrefused-freeze s e out n q =
     (w .0, w .1 .limits .e-low, w .1 .limits .e-high, w .1 .room, w .1 .long)
 
 -- the e of an image is the header's
-pub written-e : (e : ℕ) (xs : List ℕ) → Limits e xs → e ≡ eOf (image e xs)
-written-e e xs m = demand-2 .read-back (image e xs) e xs (record { limits = m; bytes = refl }) .0
+pub written-e : (e : ℕ) (xs : List ℕ) → Limits e xs → Counts xs → e ≡ eOf (image e xs)
+written-e e xs m few = demand-2 .read-back (image e xs) e xs (record { limits = m; counts = few; bytes = refl }) .0
 
 -- ---- 'count, reading and reach equal plain sums'
 module _ (s : List ℕ) (h : accepted s ≡ true) where
@@ -155,14 +173,14 @@ module _ (s : List ℕ) (h : accepted s ≡ true) where
   reach-8 p r l w = rw (lt-ltb (sum L) p l) at (demand-2 .reach-sum s h p r w)
 
 -- 'check (returns N and S)': of what was written, and of no other bytes
-pub check-written : (e : ℕ) (xs : List ℕ) → Limits e xs → check (image e xs) ≡ holds (length xs) (sum xs)
-check-written e xs m =
-    let w = is-accepted (image e xs) e xs m refl in
+pub check-written : (e : ℕ) (xs : List ℕ) → Limits e xs → Counts xs → check (image e xs) ≡ holds (length xs) (sum xs)
+check-written e xs m few =
+    let w = is-accepted (image e xs) e xs m few refl in
     demand-2 .check-sums (image e xs) (w .0) ∙ ap (λ (z : List ℕ). holds (length z) (sum z)) (w .1)
 
 pub check-says : (s : List ℕ) (n t : ℕ) → check s ≡ holds n t → (accepted s ≡ true) × (n ≡ length (listOf s)) × (t ≡ sum (listOf s)) × (t ≡ sOf s)
 check-says s n t q =
     let w = demand-2 .check-only s n t q in
-    let a = is-accepted s (eOf s) (listOf s) (w .0 .limits) (w .0 .bytes) .0 in
+    let a = is-accepted s (eOf s) (listOf s) (w .0 .limits) (w .0 .counts) (w .0 .bytes) .0 in
     let z : holds n t ≡ holds (length (listOf s)) (sum (listOf s)) = sym q ∙ demand-2 .check-sums s a in
     (a, w .1, (let y : t ≡ sum (listOf s) = cc in y), w .2)

@@ -15,7 +15,7 @@ use Rattle.reserve.specs.Reserve.{digits, reserve}
 use Rattle.tree.specs.Ranges.{Inside, Node, Side, child, end, left, node, right}
 use Rattle.tree.specs.Read.{counts}
 use Rattle.tree.specs.Tree.{tree}
-use Rattle.image.specs.Image.{Limits, code, codeStart, image, page, pages}
+use Rattle.image.specs.Image.{Limits, code, codeStart, image, page, pages, wide}
 use Rattle.image.proofs.PageLaws.{length-page}
 use Rattle.store.specs.PageCode.{cells}
 use Rattle.store.specs.Plain.{page as plainPage}
@@ -107,7 +107,7 @@ module _ (e : ℕ) (xs : List ℕ) (m : Limits e xs) where
 
   -- 'L bits of code'
   pub in-the-code : (p : ℕ) (ds : List Side) → p < pages e (length xs) → (x : ℕ) → In x (nodeIn e xs p ds)
-      → (codeStart (pages e (length xs)) ≤ x) × (x < codeStart (pages e (length xs)) + length (code e xs))
+      → (codeStart (wide (sum xs)) (pages e (length xs)) ≤ x) × (x < codeStart (wide (sum xs)) (pages e (length xs)) + length (code e xs))
   in-the-code p ds l x i =
       let D = demand-2 .images e xs m in
       (omega (arith, D .in-page p ds .0, i .0), omega (arith, D .in-code p ds l, i .1))

@@ -3,27 +3,28 @@ use mathlib.Core.Path.{_≡_, refl, sym, ap, ap₂, _∙_, subst}
 use mathlib.Core.Bool.{Bool, true, false}
 use mathlib.Core.List.{List}
 use mathlib.Core.Logic.{_↔_}
-use Prim.Native.Nat.{ℕ}
+use Prim.Native.Nat.{ℕ, _≤_}
 use native.Mathlib.Omega.{arith}
 use lib.ListN.{length, getD, take}
 use lib.Dec.{leb, ltb}
 use borrow.Author.Tests.{le-ltb, leb-false, lt-ltb, ltb-false}
+use Rattle.lists.specs.Counts.{maxCount}
 use Rattle.lists.specs.Lists.{pick, reached, sum}
 use Rattle.image.specs.Check.{accepted, check, headed}
 use Rattle.answers.specs.Image.{fails, holds, Reply, given, refused}
 use Rattle.image.specs.Image.{IsImage, Limits, image}
-use Rattle.image.specs.Query.{count, look, reading, readingAt, theCount}
+use Rattle.image.specs.Query.{count, ended, look, reading, readingAt, theCount}
 use Rattle.image.specs.Reach.{Reach, above-total, any-index, damage, header-wrong, smallest}
 use Rattle.image.specs.Read.{eOf, listOf, nOf, sOf}
 use Rattle.image.proofs.ReadLaws.{e-is, headed-image, n-is, s-is}
 use Rattle.image.proofs.Accepted.{accepted-only, length-list}
 use Rattle.image.proofs.HeadLaws.{never}
-use Rattle.image.proofs.QueryLaws.{look-is, reading-at}
+use Rattle.image.proofs.QueryLaws.{ended-is, look-is, reading-at}
 use Rattle.image_back.proofs.ListBack.{accepted-image, list-is}
 
 -- ---- accepted exactly when there is a list whose image the bytes are
 pub accepted-if : (s : List ℕ) (e : ℕ) (xs : List ℕ) → IsImage s e xs → accepted s ≡ true
-accepted-if s e xs i = ap accepted (i .bytes) ∙ accepted-image e xs (i .limits)
+accepted-if s e xs i = ap accepted (i .bytes) ∙ accepted-image e xs (i .limits) (i .counts)
 
 pub accepted-exactly : (s : List ℕ) → (accepted s ≡ true) ↔ ((e : ℕ) × (xs : List ℕ) × IsImage s e xs)
 accepted-exactly s = ((λ h. (eOf s, listOf s, accepted-only s h)), (λ w. accepted-if s (w .0) (w .1) (w .2)))
@@ -52,7 +53,7 @@ check-holds s n t = go (headed s) (accepted s) refl
     go false b q e = absurd (not-holds 5 e)
 
 -- ---- on the image of a list
-module _ (e : ℕ) (xs : List ℕ) (m : Limits e xs) where
+module _ (e : ℕ) (xs : List ℕ) (m : Limits e xs) (few : (i : ℕ) → getD xs i 0 ≤ maxCount) where
   abbrev S : List ℕ
   S = image e xs
 
@@ -60,9 +61,11 @@ module _ (e : ℕ) (xs : List ℕ) (m : Limits e xs) where
   unfolding count pick theCount
   count-is i = rw (headed-image e xs m, n-is e xs m) (go (leb (length xs) i) refl)
     where
-      go : (b : Bool) → leb (length xs) i ≡ b → pick b (refused 7) (theCount (look S i)) ≡ pick b (refused 7) (given (getD xs i 0))
+      go : (b : Bool) → leb (length xs) i ≡ b → pick b (refused 7) (theCount (ended (look S i))) ≡ pick b (refused 7) (given (getD xs i 0))
       go true q = refl
-      go false q = ap theCount (look-is e xs m i (leb-false (length xs) i q))
+      go false q =
+          let l = leb-false (length xs) i q in
+          ap theCount (ended-is e xs m few i l ∙ look-is e xs m i l)
 
   pub reading-is : (i : ℕ) → reading S i ≡ pick (ltb (length xs) i) (refused 7) (given (sum (take i xs)))
   unfolding reading pick
@@ -70,11 +73,11 @@ module _ (e : ℕ) (xs : List ℕ) (m : Limits e xs) where
     where
       go : (b : Bool) → ltb (length xs) i ≡ b → pick b (refused 7) (readingAt S i) ≡ pick b (refused 7) (given (sum (take i xs)))
       go true q = refl
-      go false q = reading-at e xs m i (ltb-false (length xs) i q)
+      go false q = reading-at e xs m few i (ltb-false (length xs) i q)
 
   pub check-is : check S ≡ holds (length xs) (sum xs)
   unfolding check pick
-  check-is = rw (headed-image e xs m, accepted-image e xs m) (ap₂ holds (n-is e xs m) (s-is e xs m))
+  check-is = rw (headed-image e xs m, accepted-image e xs m few) (ap₂ holds (n-is e xs m) (s-is e xs m))
 
   pub reach-is : (q : ℕ) (r : Reply) → Reach S q r → r ≡ pick (ltb (sum xs) q) (refused 8) (given (reached q xs))
   unfolding pick
@@ -86,8 +89,8 @@ module _ (e : ℕ) (xs : List ℕ) (m : Limits e xs) where
       go (smallest a l) =
           ap (λ (z : List ℕ). given (reached q z)) (list-is e xs m)
           ∙ sym (ap (λ (b : Bool). pick b (refused 8) (given (reached q xs))) (le-ltb (sum xs) q (omega (arith, s-is e xs m))))
-      go (damage w l a) = absurd (never (sym a ∙ accepted-image e xs m))
-      go (any-index w l a i k) = absurd (never (sym a ∙ accepted-image e xs m))
+      go (damage w l a) = absurd (never (sym a ∙ accepted-image e xs m few))
+      go (any-index w l a i k) = absurd (never (sym a ∙ accepted-image e xs m few))
 
 -- ---- the same for bytes that check accepts: xs is the list that they say
 module _ (s : List ℕ) (a : accepted s ≡ true) where
@@ -98,13 +101,13 @@ module _ (s : List ℕ) (a : accepted s ≡ true) where
   X = listOf s
 
   pub count-accepted : (i : ℕ) → count s i ≡ pick (leb (length X) i) (refused 7) (given (getD X i 0))
-  count-accepted i = ap (λ (z : List ℕ). count z i) (I .bytes) ∙ count-is (eOf s) X (I .limits) i
+  count-accepted i = ap (λ (z : List ℕ). count z i) (I .bytes) ∙ count-is (eOf s) X (I .limits) (I .counts) i
 
   pub reading-accepted : (i : ℕ) → reading s i ≡ pick (ltb (length X) i) (refused 7) (given (sum (take i X)))
-  reading-accepted i = ap (λ (z : List ℕ). reading z i) (I .bytes) ∙ reading-is (eOf s) X (I .limits) i
+  reading-accepted i = ap (λ (z : List ℕ). reading z i) (I .bytes) ∙ reading-is (eOf s) X (I .limits) (I .counts) i
 
   pub reach-accepted : (q : ℕ) (r : Reply) → Reach s q r → r ≡ pick (ltb (sum X) q) (refused 8) (given (reached q X))
-  reach-accepted q r h = reach-is (eOf s) X (I .limits) q r (subst (λ (z : List ℕ). Reach z q r) (I .bytes) h)
+  reach-accepted q r h = reach-is (eOf s) X (I .limits) (I .counts) q r (subst (λ (z : List ℕ). Reach z q r) (I .bytes) h)
 
   pub check-accepted : check s ≡ holds (length X) (sum X)
-  check-accepted = ap check (I .bytes) ∙ check-is (eOf s) X (I .limits)
+  check-accepted = ap check (I .bytes) ∙ check-is (eOf s) X (I .limits) (I .counts)

@@ -9,9 +9,9 @@ use lib.ListN.{length, take, drop, length-append, length-drop}
 use lib.Seq.{take-at, drop-at}
 use lib.Dec.{leb}
 use borrow.Author.Tests.{leb-true}
-use Rattle.lists.specs.Lists.{pick}
+use Rattle.lists.specs.Lists.{pick, sum}
 use Rattle.image.specs.Calls.{Result, lengthCall, put, putAfter, unwritten, writeCall}
-use Rattle.image.specs.Image.{Limits, code, image, size}
+use Rattle.image.specs.Image.{Limits, code, image, size, wide}
 use Rattle.answers.specs.Image.{Reply, given, refused}
 use Rattle.store.specs.Reading.{listIn}
 use Rattle.store.specs.Sound.{sound}
@@ -23,7 +23,7 @@ use Rattle.image.proofs.ReadLaws.{length-image}
 use Rattle.image.proofs.CallLaws.{length-only, length-within, write-put}
 
 -- a list within the limits has a length, which N, e and L give; no other has one (`length-only`)
-pub length-is : (e : ℕ) (xs : List ℕ) → Limits e xs → lengthCall e xs ≡ given (size e (length xs) (length (code e xs)))
+pub length-is : (e : ℕ) (xs : List ℕ) → Limits e xs → lengthCall e xs ≡ given (size (wide (sum xs)) e (length xs) (length (code e xs)))
 length-is e xs m = length-within e xs m ∙ ap given (length-image e xs)
 
 -- into a buffer that is long enough
@@ -44,7 +44,7 @@ write-is e xs out m l = written (writeCall e xs out) (image e xs) out l (write-p
 pub store-limits : (s : List ℕ) (e : ℕ) → sound s ≡ true → 2 ≤ e → e ≤ 8 → Limits e (listIn s)
 store-limits s e h low high =
     let f = facts s h in
-    record { e-low = low; e-high = high; hours = omega (arith, f .hours-are, f .hours-fit, f .pages-high); total = f .total-fits }
+    record { e-low = low; e-high = high; hours = omega (arith, f .hours-are, f .hours-fit, f .pages-high); total = omega (arith, f .total-fits) }
 
 pub freeze-is : (s : List ℕ) (e : ℕ) (out : List ℕ) → sound s ≡ true → 2 ≤ e → e ≤ 8
     → length (image e (listIn s)) ≤ length out → Written (freezeCall e s out) (image e (listIn s)) out

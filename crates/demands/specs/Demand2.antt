@@ -17,7 +17,7 @@ use Rattle.tree.specs.Tree.{tree}
 use Rattle.image.specs.Calls.{Result, lengthCall, writeCall}
 use Rattle.image.specs.Check.{accepted, check}
 use Rattle.answers.specs.Image.{holds, Reply, given, refused}
-use Rattle.image.specs.Image.{IsImage, Limits, code, codeStart, image, page, pages, size, start}
+use Rattle.image.specs.Image.{IsImage, Limits, code, codeStart, image, page, pages, size, start, wide}
 use Rattle.image.specs.Query.{count, reading}
 use Rattle.image.specs.Reach.{Reach}
 use Rattle.image.specs.Read.{eOf, listOf, sOf}
@@ -31,7 +31,7 @@ use Rattle.freeze.specs.Freeze.{freezeCall}
 -- the bit where page p starts in the image, behind header and start bits, and where its tree does. Addresses are those of the bits of all
 -- the image's bytes
 abbrev pub pageStart : ℕ → List ℕ → ℕ → ℕ
-pageStart e xs p = codeStart (pages e (length xs)) + start e xs p
+pageStart e xs p = codeStart (wide (sum xs)) (pages e (length xs)) + start e xs p
 
 abbrev pub treeStart : ℕ → List ℕ → ℕ → ℕ
 treeStart e xs p = pageStart e xs p + digits (sum xs)
@@ -70,7 +70,8 @@ pub record InImage (e : ℕ) (xs : List ℕ) : Type 0 where
   pub in-page : (p : ℕ) (ds : List Side)
       → (treeStart e xs p ≤ nodeIn e xs p ds .first) × (end (nodeIn e xs p ds) ≤ pageStart e xs (suc p))
   pub pages-apart : (p q : ℕ) → p < q → pageStart e xs (suc p) ≤ pageStart e xs q
-  pub in-code : (p : ℕ) (ds : List Side) → p < pages e (length xs) → end (nodeIn e xs p ds) ≤ codeStart (pages e (length xs)) + length (code e xs)
+  pub in-code : (p : ℕ) (ds : List Side) → p < pages e (length xs)
+      → end (nodeIn e xs p ds) ≤ codeStart (wide (sum xs)) (pages e (length xs)) + length (code e xs)
   -- so any two nodes of the image
   pub any-two : (p q : ℕ) (ds es : List Side) → Related (nodeIn e xs p ds) (nodeIn e xs q es)
   -- and there the image has the code of the node's counts
@@ -118,7 +119,7 @@ pub record Demand2 : Type 0 where
   pub check-sums : (s : List ℕ) → accepted s ≡ true → check s ≡ holds (length (listOf s)) (sum (listOf s))
   pub check-only : (s : List ℕ) (n t : ℕ) → check s ≡ holds n t → IsImage s (eOf s) (listOf s) × (n ≡ length (listOf s)) × (t ≡ sOf s)
   -- the writer: the lists that have an image, its length, and its bytes
-  pub lengths : (e : ℕ) (xs : List ℕ) → Limits e xs → lengthCall e xs ≡ given (size e (length xs) (length (code e xs)))
+  pub lengths : (e : ℕ) (xs : List ℕ) → Limits e xs → lengthCall e xs ≡ given (size (wide (sum xs)) e (length xs) (length (code e xs)))
   pub no-others : (e : ℕ) (xs : List ℕ) (n : ℕ) → lengthCall e xs ≡ given n → Limits e xs
   pub writes : (e : ℕ) (xs out : List ℕ) → Limits e xs → length (image e xs) ≤ length out → Written (writeCall e xs out) (image e xs) out
   pub only-these : (e : ℕ) (xs out : List ℕ) (n : ℕ) → writeCall e xs out .reply ≡ given n → HasRoom e xs out n

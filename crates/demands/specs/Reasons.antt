@@ -68,16 +68,27 @@ Short L ys = L .cells < need ys (L .pages)
 abbrev pub NoPageSize : ℕ → Type 0
 NoPageSize e = (e < 2) ⊎ (8 < e)
 
--- not 'under 16 bytes; edition, e, zero bytes or N wrong; byte length not the one N, e and L give'
+-- document 02, note 8: the total above an image's limit, 'refusal 3 for images starts above 2^40 - 1'
+abbrev pub OverImage : List ℕ → Type 0
+OverImage xs = 2 ^ 40 - 1 < sum xs
+
+-- an edition, and the bytes of its header: '0 is 1 (edition)'; 'Edition 2 has a 24-byte header: byte 0 is 2', '20-23 zero', and 'S not from 2^32 to
+-- 2^40 - 1' is wrong
+pub data Edition (s : List ℕ) : (bytes : ℕ) → Type 0 where
+  first : getD s 0 0 ≡ 1 → Edition s 16
+  second : getD s 0 0 ≡ 2 → 2 ^ 32 ≤ sOf s → sOf s ≤ 2 ^ 40 - 1 → ((k : ℕ) → 20 ≤ k → k ≤ 23 → getD s k 0 ≡ 0) → Edition s 24
+
+-- not 'under 16 bytes', or 'Edition 2 under 24 bytes'; 'edition, e, zero bytes or N wrong; byte length not the one N, e and L give'
 pub record Header (s : List ℕ) : Type 0 where
-  pub long : 16 ≤ length s
-  pub edition : getD s 0 0 ≡ 1
+  pub bytes : ℕ
+  pub edition : Edition s bytes
+  pub long : bytes ≤ length s
   pub e-low : 2 ≤ eOf s
   pub e-high : eOf s ≤ 8
   pub zero-2 : getD s 2 0 ≡ 0
   pub zero-3 : getD s 3 0 ≡ 0
   pub hours : nOf s ≤ 65536
-  pub all-bytes : length s ≡ 16 + 4 * ((nOf s + (2 ^ eOf s - 1)) / 2 ^ eOf s) + (lOf s + 7) / 8
+  pub all-bytes : length s ≡ bytes + 4 * ((nOf s + (2 ^ eOf s - 1)) / 2 ^ eOf s) + (lOf s + 7) / 8
 
 abbrev pub NoHeader : List ℕ → Type 0
 NoHeader s = Header s → ⊥
@@ -86,15 +97,16 @@ NoHeader s = Header s → ⊥
 abbrev pub NoImage : List ℕ → Type 0
 NoImage s = (e : ℕ) (xs : List ℕ) → IsImage s e xs → ⊥
 
--- 'a left sum above its node on the walk': of a tree of 2^h counts with sum s from bit a of b on, on the way to count j
-abbrev pub LeftAbove : (h s : ℕ) (b : List ℕ) (a j : ℕ) → Type 0
-LeftAbove zero s b a j = ⊥
-LeftAbove (suc h) s b a j =
+-- 'a left sum above its node on the walk', or 'a walk that ends at a count above 4,294,967,295': of a tree of 2^h counts with sum s from bit a of b
+-- on, on the way to count j
+abbrev pub WalkDamage : (h s : ℕ) (b : List ℕ) (a j : ℕ) → Type 0
+WalkDamage zero s b a j = 4294967295 < s
+WalkDamage (suc h) s b a j =
     let l = leftOf s b a in
-    (s < l) ⊎ (((j < 2 ^ h) × LeftAbove h l b (leftAt s a) j) ⊎ ((2 ^ h ≤ j) × LeftAbove h (s - l) b (rightAt h s l a) (j - 2 ^ h)))
+    (s < l) ⊎ (((j < 2 ^ h) × WalkDamage h l b (leftAt s a) j) ⊎ ((2 ^ h ≤ j) × WalkDamage h (s - l) b (rightAt h s l a) (j - 2 ^ h)))
 
 -- 'Damage there: either root or that tree passing L, a root above S, the page's root below the one before, a left sum above its node on the walk
--- to the hour', on the way to count j of page p
+-- to the hour', on the way to count j of page p; and that the walk ends at too high a count
 pub data PageDamage (s : List ℕ) (p j : ℕ) : Type 0 where
   root-passing : lOf s < startOf s p + widthOf s → PageDamage s p j
   before-passing : (q : ℕ) → p ≡ suc q → lOf s < startOf s q + widthOf s → PageDamage s p j
@@ -102,7 +114,7 @@ pub data PageDamage (s : List ℕ) (p j : ℕ) : Type 0 where
   root-above : sOf s < rootOf s p → PageDamage s p j
   before-above : sOf s < beforeOf s p → PageDamage s p j
   below-before : rootOf s p < beforeOf s p → PageDamage s p j
-  left-above : LeftAbove (eOf s) (rootOf s p - beforeOf s p) (bits s) (treeAt s p) j → PageDamage s p j
+  walk-damage : WalkDamage (eOf s) (rootOf s p - beforeOf s p) (bits s) (treeAt s p) j → PageDamage s p j
 
 -- to hour i, pages having 2^e hours
 abbrev pub Damage : List ℕ → ℕ → Type 0
@@ -139,8 +151,9 @@ reasons (Fresh s P C) = 9 when (Sized s P C → ⊥) ∷ []
 -- 'store, every other live call and freeze'
 reasons (Live c s) = 10 when Unsound s ∷ plainReasons c (read s .plain)
 reasons (Freeze s e i) = 10 when Unsound s ∷ 1 when NoPageSize e ∷ 4 when (length i < length (image e (listIn s))) ∷ []
-reasons (ImageLength xs e) = 1 when NoPageSize e ∷ 2 when (65536 < length xs) ∷ 3 when Over xs ∷ []
-reasons (ImageWrite xs e i) = 1 when NoPageSize e ∷ 2 when (65536 < length xs) ∷ 3 when Over xs ∷ 4 when (length i < length (image e xs)) ∷ []
+reasons (ImageLength xs e) = 1 when NoPageSize e ∷ 2 when (65536 < length xs) ∷ 3 when OverImage xs ∷ []
+reasons (ImageWrite xs e i) =
+    1 when NoPageSize e ∷ 2 when (65536 < length xs) ∷ 3 when OverImage xs ∷ 4 when (length i < length (image e xs)) ∷ []
 reasons (ImageCheck i) = 5 when NoHeader i ∷ 6 when NoImage i ∷ []
 reasons (ImageCount i k) = 5 when NoHeader i ∷ 7 when (nOf i ≤ k) ∷ 6 when Damage i k ∷ []
 -- 'Reading at i > 0 walks to hour i-1'

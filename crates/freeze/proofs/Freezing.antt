@@ -33,7 +33,7 @@ only-page-size e s h =
     let f = facts s h in
     rw (
       le-leb (length (listIn s)) 65536 (omega (arith, f .hours-are, f .hours-fit, f .pages-high)),
-      le-leb (sum (listIn s)) 4294967295 (f .total-fits),
+      le-leb (sum (listIn s)) 1099511627775 (omega (arith, f .total-fits)),
     )
 
 -- 'A refusal is its number alone; no byte changes.'

@@ -46,7 +46,7 @@ answers c w t a e n s q = record { answer = a; ends = e; ten = n; word = q; read
 small-store : (a : Answer) → SmallAnswer a → Small (ofStore a)
 unfolding ofStore
 small-store (changed t r) w = w
-small-store (answered n) w = w
+small-store (answered n) w = omega arith
 small-store (turned k) w = (w .0, omega (arith, w .1))
 
 pub small-image : (r : Reply) → SmallReply r → Small (ofImage r)

@@ -1,12 +1,14 @@
 -- Bytes that are accepted are an image, of the list that they say. Assumes nothing.
 use mathlib.Core.Path.{_≡_}
-use mathlib.Core.Bool.{true, _&&_}
+use mathlib.Core.Bool.{Bool, true, _&&_}
 use mathlib.Core.List.{List}
 use Prim.Native.Nat.{ℕ, _^_}
 use native.Mathlib.Omega.{arith}
 use lib.ListN.{length, length-take}
 use lib.Dec.{leb}
 use borrow.Author.Tests.{leb-true}
+use Rattle.lists.specs.Counts.{maxCount, within}
+use Rattle.lists.proofs.CountLaws.{within-at}
 use Rattle.lists.specs.Lists.{concat, same, sum, tabulate}
 use Rattle.lists.proofs.Tables.{concat-each}
 use Rattle.lists.proofs.Tests.{each, left, right, same-is}
@@ -31,14 +33,19 @@ length-list s =
 pub accepted-only : (s : List ℕ) → accepted s ≡ true → IsImage s (eOf s) (listOf s)
 unfolding accepted headed
 accepted-only s h =
-    let w = each _ (left (headed s) (leb (sum (listOf s)) maxTotal && same s (image (eOf s) (listOf s))) h) in
-    let r = right (headed s) (leb (sum (listOf s)) maxTotal && same s (image (eOf s) (listOf s))) h in
+    let a : Bool = leb (sum (listOf s)) maxTotal in
+    let b : Bool = within maxCount (listOf s) in
+    let c : Bool = same s (image (eOf s) (listOf s)) in
+    let w = each _ (left (headed s) (a && (b && c)) h) in
+    let r = right (headed s) (a && (b && c)) h in
+    let q = right a (b && c) r in
     record {
       limits = record {
         e-low = leb-true 2 (eOf s) (w .1 .1 .0);
         e-high = leb-true (eOf s) 8 (w .1 .1 .1 .0);
         hours = omega (arith, length-list s, leb-true (nOf s) maxHours (w .1 .1 .1 .1 .1 .1 .0));
-        total = leb-true (sum (listOf s)) maxTotal (left (leb (sum (listOf s)) maxTotal) (same s (image (eOf s) (listOf s))) r);
+        total = leb-true (sum (listOf s)) maxTotal (left a (b && c) r);
       };
-      bytes = same-is s (image (eOf s) (listOf s)) (right (leb (sum (listOf s)) maxTotal) (same s (image (eOf s) (listOf s))) r);
+      counts = within-at maxCount (listOf s) (left b c q);
+      bytes = same-is s (image (eOf s) (listOf s)) (right b c q);
     }

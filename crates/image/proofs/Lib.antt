@@ -1,4 +1,5 @@
 -- Laws of the definitions.
+pub mod Editions
 pub mod Packed
 pub mod PageLaws
 pub mod ReadLaws
@@ -7,6 +8,7 @@ pub mod CheckLaws
 pub mod DamageLaws
 pub mod QueryLaws
 pub mod HeadLaws
+pub mod TailLaws
 pub mod RootLaws
 pub mod CallLaws
 pub mod Sizes

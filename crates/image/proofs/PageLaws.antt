@@ -1,12 +1,16 @@
 -- Pages of a list. Assumes nothing.
 use mathlib.Core.Path.{_≡_, sym, ap, ap₂, _∙_}
+use mathlib.Core.Bool.{true}
 use mathlib.Core.List.{List, [], _∷_}
 use Prim.Native.Nat.{ℕ, zero, suc, _+_, _-_, _*_, _/_, _%_, _^_, _≤_, _<_}
 use native.Mathlib.Nat.{mul-le-mul-left, mul-le-mul-right, mul-suc, div-mul-le-self, lt-div-mul-add, lt-of-mul-lt-mul-left, div-add-mod', mod-lt}
+use native.Mathlib.Decide.{decLe}
 use native.Mathlib.Omega.{arith}
-use lib.ListN.{length, getD, take, length-append}
+use lib.ListN.{length, getD, List·getD-eq-default, take, length-append}
 use lib.Pow.{pow-pos, pow-mono}
+use Rattle.lists.specs.Counts.{within}
 use Rattle.lists.specs.Lists.{concat, sum, tabulate, window}
+use Rattle.lists.proofs.CountLaws.{within-each}
 use Rattle.lists.proofs.Pages.{paged-length, reading-behind, reading-within}
 use Rattle.lists.proofs.Sums.{sum-take-le}
 use Rattle.lists.proofs.Tables.{concat-le, concat-most, concat-suc, getD-tabulate}
@@ -18,7 +22,7 @@ use Rattle.reserve.proofs.Fit.{bound}
 use Rattle.reserve.proofs.Line.{A, B}
 use Rattle.tree.specs.Tree.{tree}
 use Rattle.tree.proofs.Shape.{length-tree}
-use Rattle.image.specs.Image.{Limits, code, maxCount, maxHours, maxTotal, page, pageCode, pages, root, start}
+use Rattle.image.specs.Image.{Limits, code, maxHours, maxTotal, page, pageCode, pages, root, start}
 
 -- ---- how many pages
 cover-alg : (n m k : ℕ) → 1 ≤ m → n + (m - 1) < k * m + m → n ≤ m * k
@@ -72,8 +76,8 @@ unfolding root page window
 page-sum e xs p = sym (reading-behind (2 ^ e) xs p)
 
 -- ---- how many bits
-pub width-most : (s : ℕ) → s ≤ maxTotal → digits s ≤ 32
-width-most s l = digits-le s 32 (omega arith)
+pub width-most : (s : ℕ) → s ≤ maxTotal → digits s ≤ 40
+width-most s l = digits-le s 40 (omega arith)
 
 -- a tree of a sum of 40 bits
 pub reserve-most : (h s : ℕ) → h ≤ 8 → s < 1099511627776 → reserve h s ≤ 8960
@@ -102,22 +106,19 @@ root-le e xs p = sum-take-le (2 ^ e * suc p) xs
 pub page-le : (e : ℕ) (xs : List ℕ) (p : ℕ) → sum (page e xs p) ≤ sum xs
 page-le e xs p = omega (arith, page-sum e xs p, root-le e xs p)
 
--- a list that has an image has counts of document 01 alone
-count-le : (xs : List ℕ) (i : ℕ) → getD xs i 0 ≤ sum xs
+-- no count is above the sum
+pub count-le : (xs : List ℕ) (i : ℕ) → getD xs i 0 ≤ sum xs
 unfolding sum
 count-le [] i = omega arith
 count-le (x ∷ xs) zero = omega arith
 count-le (x ∷ xs) (suc i) = omega (arith, count-le xs i)
 
-pub count-most : {e : ℕ} {xs : List ℕ} → Limits e xs → (i : ℕ) → getD xs i 0 ≤ maxCount
-count-most {e} {xs} m i = omega (arith, count-le xs i, m .total)
-
 pub code-most : (e : ℕ) (xs : List ℕ) → Limits e xs → length (code e xs) ≤ 4294967295
 unfolding code
 code-most e xs m =
     let k : ℕ = pages e (length xs) in
-    let w : length (concat (tabulate k (pageCode e xs))) ≤ 8992 * k =
-    concat-most k 8992 (pageCode e xs) (λ j _. omega (
+    let w : length (concat (tabulate k (pageCode e xs))) ≤ 9000 * k =
+    concat-most k 9000 (pageCode e xs) (λ j _. omega (
       arith,
       length-pageCode e xs j,
       width-most (sum xs) (m .total),
@@ -136,3 +137,14 @@ pub start-within : (e : ℕ) (xs : List ℕ) (p : ℕ) → p < pages e (length x
     → start e xs p + (digits (sum xs) + reserve e (sum (page e xs p))) ≤ length (code e xs)
 unfolding start code
 start-within e xs p l = omega (arith, concat-le (pages e (length xs)) (pageCode e xs) p l, length-pageCode e xs p)
+
+-- a page has no count that the list lacks
+pub page-few : (most e p : ℕ) (xs : List ℕ) → ((i : ℕ) → getD xs i 0 ≤ most) → within most (page e xs p) ≡ true
+page-few most e p xs h = within-each most (page e xs p) at-each
+  where
+    at-each : (j : ℕ) → getD (page e xs p) j 0 ≤ most
+    at-each j = go (decLe (suc j) (2 ^ e))
+      where
+        go : Dec (suc j ≤ 2 ^ e) → getD (page e xs p) j 0 ≤ most
+        go (yes l) = rw (getD-page e xs p j l) (h (2 ^ e * p + j))
+        go (no l) = rw (List·getD-eq-default (page e xs p) 0 {n = j} (omega (arith, l, length-page e xs p))) (omega arith)

@@ -7,7 +7,8 @@ use native.Mathlib.Omega.{arith}
 use lib.ListN.{length, getD, take}
 use lib.Seq.{take-suc}
 use lib.Dec.{leb, ltb}
-use borrow.Author.Tests.{leb-true}
+use borrow.Author.Tests.{le-leb, leb-true}
+use Rattle.lists.specs.Counts.{maxCount}
 use Rattle.lists.specs.Lists.{pick, sum}
 use Rattle.lists.proofs.Sums.{sum-append}
 use Rattle.lists.proofs.Tests.{each, every-of}
@@ -16,7 +17,7 @@ use Rattle.reserve.specs.Reserve.{reserve}
 use Rattle.tree.specs.Read.{Found, damaged, found, later, leftAt, leftOf, rightAt, walk}
 use Rattle.tree.proofs.WalkLaws.{shift, walk-tree}
 use Rattle.image.specs.Image.{Limits, image, page, pages}
-use Rattle.image.specs.Query.{beforePassing, look, lookIn, pageFine, pageTests, readingAt, theReading}
+use Rattle.image.specs.Query.{beforePassing, ended, look, lookIn, pageFine, pageTests, readingAt, theReading}
 use Rattle.image.specs.Read.{beforeOf, eOf, lOf, rootOf, sOf, startOf, sumOf, treeAt, widthOf}
 use Rattle.answers.specs.Image.{given}
 use Rattle.image.proofs.ReadLaws.{before-is, e-is, l-is, root-is, s-is, start-is, sum-is, tree-is}
@@ -84,16 +85,34 @@ module _ (e : ℕ) (xs : List ℕ) (m : Limits e xs) where
       ∙ look-in (i / 2 ^ e) (i % 2 ^ e) (hour-page e (length xs) i l) (hour-low e i)
       ∙ ap (λ (z : ℕ). found (sum (take z xs)) (getD xs z 0)) (hour-split e i)
 
-  pub reading-at : (i : ℕ) → i ≤ length xs → readingAt S i ≡ given (sum (take i xs))
-  unfolding readingAt theReading sum
-  reading-at zero l = refl
-  reading-at (suc i) l =
-      ap theReading (look-is i l) ∙ ap given (sym (ap sum (take-suc xs i 0 l) ∙ sum-append (take i xs) (getD xs i 0 ∷ []) ∙ omega arith))
+  -- the sum to the end of an hour, whatever the hour's count
+  pub sum-to : (i : ℕ) → i < length xs → theReading (look S i) ≡ given (sum (take (suc i) xs))
+  unfolding theReading sum
+  sum-to i l = ap theReading (look-is i l) ∙ ap given (sym (ap sum (take-suc xs i 0 l) ∙ sum-append (take i xs) (getD xs i 0 ∷ []) ∙ omega arith))
+
+  module _ (few : (i : ℕ) → getD xs i 0 ≤ maxCount) where
+    pub ended-is : (i : ℕ) → i < length xs → ended (look S i) ≡ look S i
+    unfolding ended pick
+    ended-is i l = ap ended (look-is i l) ∙ rw (le-leb (getD xs i 0) maxCount (few i)) (sym (look-is i l))
+
+    pub reading-at : (i : ℕ) → i ≤ length xs → readingAt S i ≡ given (sum (take i xs))
+    unfolding readingAt sum
+    reading-at zero l = refl
+    reading-at (suc i) l = ap theReading (ended-is i l) ∙ sum-to i l
 
 -- ---- what is found is no more than the sum
 abbrev pub Most : ℕ → Found → Type 0
 Most s damaged = Unit {0}
 Most s (found x c) = x + c ≤ s
+
+pub most-ended : (s : ℕ) (f : Found) → Most s f → Most s (ended f)
+unfolding ended pick
+most-ended s damaged m = tt
+most-ended s (found x c) m = go (leb c maxCount)
+  where
+    go : (b : Bool) → Most s (pick b (found x c) damaged)
+    go true = m
+    go false = tt
 
 most-later : (l s : ℕ) (f : Found) → l ≤ s → Most (s - l) f → Most s (later l f)
 unfolding later

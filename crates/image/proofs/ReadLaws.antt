@@ -1,15 +1,15 @@
 -- What the bytes of a list's image say is the list. Assumes nothing.
 use mathlib.Core.Path.{_≡_, refl, sym, ap, ap₂, _∙_}
-use mathlib.Core.Bool.{true}
-use mathlib.Core.List.{List, [], _++_, append-nil}
+use mathlib.Core.Bool.{Bool, true, false}
+use mathlib.Core.List.{List, [], _∷_, _++_, append-nil}
 use Prim.Native.Nat.{ℕ, zero, suc, _+_, _*_, _^_, _≤_, _<_}
 use native.Mathlib.Nat.{add-zero, mul-zero}
 use native.Mathlib.Omega.{arith}
-use lib.ListN.{length, take, drop, length-append}
+use lib.ListN.{length, getD, take, drop, length-append}
 use lib.Seq.{take-at, drop-at, drop-drop, take-all}
-use lib.Dec.{leb}
-use borrow.Author.Tests.{le-leb, eq-eqb}
-use Rattle.lists.specs.Lists.{concat, part, sum, tabulate}
+use lib.Dec.{leb, ltb, eqb}
+use borrow.Author.Tests.{le-leb, lt-ltb, eq-eqb, ltb-true, ltb-false}
+use Rattle.lists.specs.Lists.{concat, every, part, sum, tabulate}
 use Rattle.lists.proofs.Parts.{part-in, part-skip, piece}
 use Rattle.lists.proofs.Tables.{concat-at, concat-each, part-concat}
 use Rattle.lists.proofs.Tests.{every-of}
@@ -22,10 +22,11 @@ use Rattle.reserve.specs.Reserve.{digits, reserve}
 use Rattle.reserve.proofs.Exact.{digits-is}
 use Rattle.tree.specs.Tree.{tree}
 use Rattle.tree.proofs.Shape.{bits-tree, length-tree}
-use Rattle.image.specs.Check.{headed}
-use Rattle.image.specs.Image.{Limits, code, codeStart, header, headerLength, image, maxHours, packed, page, pageCode, pages, root, size, start, table}
-use Rattle.image.specs.Image.{tableAt}
-use Rattle.image.specs.Read.{beforeOf, codeAt, eOf, lOf, nOf, pagesOf, rootOf, sOf, startOf, sumOf, treeAt, widthOf}
+use Rattle.image.specs.Check.{headed, wideRight}
+use Rattle.image.specs.Image.{Limits, bitsPlace, code, codeStart, edition, header, headerIn, headerLength, image, maxHours, maxTotal, narrowTotal, packed, page, pageCode, pages, root, size}
+use Rattle.image.specs.Image.{start, table, tableAt, totalWidth, wide, zeroBytes}
+use Rattle.image.specs.Read.{beforeOf, codeAt, eOf, lOf, nOf, pagesOf, rootOf, sOf, startOf, sumOf, treeAt, wideOf, widthOf}
+use Rattle.image.proofs.Editions.{edition-wide, header-least, header-low, size-more, size-same, total-fits, total-low}
 use Rattle.image.proofs.Packed.{bits-packed, drop-bits, length-packed, tail}
 use Rattle.image.proofs.PageLaws.{code-most, length-pageCode, page-sum, pages-cover, root-le, start-within}
 
@@ -40,9 +41,35 @@ bits-code e xs =
     bits-concat (pages e (length xs)) (pageCode e xs) (λ p. bits-join (field (digits (sum xs)) (root e xs p)) (tree e (page e xs p))
     (bits-field (digits (sum xs)) (root e xs p)) (bits-tree e (page e xs p)))
 
-length-header : (e n s l : ℕ) → length (header e n s l) ≡ headerLength
-unfolding header little
-length-header e n s l = refl
+-- ---- the header of an edition
+module _ (e n s l : ℕ) where
+  length-in : (b : Bool) → length (headerIn b e n s l) ≡ headerLength b
+  unfolding headerIn little
+  length-in false = refl
+  length-in true = refl
+
+  hours-in : (b : Bool) → part (headerIn b e n s l) 4 4 ≡ little 4 n
+  unfolding headerIn little
+  hours-in false = refl
+  hours-in true = refl
+
+  total-in : (b : Bool) → part (headerIn b e n s l) 8 (totalWidth b) ≡ little (totalWidth b) s
+  unfolding headerIn little
+  total-in false = refl
+  total-in true = refl
+
+  bits-in : (b : Bool) → part (headerIn b e n s l) (bitsPlace b) 4 ≡ little 4 l
+  unfolding headerIn little
+  bits-in false = refl
+  bits-in true = refl
+
+  zeros-in : part (headerIn true e n s l) 20 4 ≡ little 4 0
+  unfolding headerIn little
+  zeros-in = refl
+
+  pub length-header : length (header e n s l) ≡ headerLength (wide s)
+  unfolding header
+  length-header = length-in (wide s)
 
 length-table : (e : ℕ) (xs : List ℕ) → length (table e xs) ≡ 4 * pages e (length xs)
 unfolding table
@@ -61,50 +88,75 @@ module _ (e : ℕ) (xs : List ℕ) where
   abbrev P : ℕ
   P = pages e (length xs)
 
-  pub length-image : length (image e xs) ≡ size e (length xs) (length (code e xs))
+  abbrev W : Bool
+  W = wide (sum xs)
+
+  pub length-image : length (image e xs) ≡ size W e (length xs) (length (code e xs))
   unfolding image size
   length-image =
       length-append H (table e xs ++ packed (code e xs)) ∙ ap₂ _+_ (length-header e (length xs) (sum xs) (length (code e xs)))
       (length-append (table e xs) (packed (code e xs)) ∙ ap₂ _+_ (length-table e xs) (length-packed (code e xs)))
       ∙ omega arith
 
-  head : part S 0 headerLength ≡ H
+  head : part S 0 (headerLength W) ≡ H
   unfolding image
-  head = take-at H (table e xs ++ packed (code e xs)) headerLength (length-header e (length xs) (sum xs) (length (code e xs)))
+  head = take-at H (table e xs ++ packed (code e xs)) (headerLength W) (length-header e (length xs) (sum xs) (length (code e xs)))
 
-  head-word : (a v : ℕ) → a + 4 ≤ headerLength → part H a 4 ≡ little 4 v → v ≤ 4294967295 → numberAt S a 4 ≡ v
-  head-word a v l q m =
-      ap number (ap (λ (z : ℕ). part S z 4) {x = a} {y = 0 + a} (omega arith) ∙ part-in S H 0 headerLength a 4 head l ∙ q) ∙ number-little 4 v (omega arith)
+  head-word : (a w v : ℕ) → a + w ≤ headerLength W → part H a w ≡ little w v → v < 256 ^ w → numberAt S a w ≡ v
+  head-word a w v l q m =
+      ap number (ap (λ (z : ℕ). part S z w) {x = a} {y = 0 + a} (omega arith) ∙ part-in S H 0 (headerLength W) a w head l ∙ q) ∙ number-little w v m
+
+  pub wide-is : wideOf S ≡ W
+  unfolding wideOf image header headerIn
+  wide-is = edition-wide W
 
   pub e-is : eOf S ≡ e
-  unfolding eOf image header
+  unfolding eOf image header headerIn
   e-is = refl
 
-  table-at : (p : ℕ) → p < P → part S (tableAt p) 4 ≡ little 4 (start e xs p)
+  table-at : (p : ℕ) → p < P → part S (tableAt W p) 4 ≡ little 4 (start e xs p)
   unfolding image table
   table-at p l =
-      part-skip H (table e xs ++ packed (code e xs)) (4 * p) 4 headerLength (length-header e (length xs) (sum xs) (length (code e xs)))
+      part-skip H (table e xs ++ packed (code e xs)) (4 * p) 4 (headerLength W) (length-header e (length xs) (sum xs) (length (code e xs)))
       ∙ concat-at P 4 (λ p. little 4 (start e xs p)) (packed (code e xs)) p (λ j _. length-little 4 (start e xs j)) l
 
-  body : drop (tableAt P) S ≡ packed (code e xs)
+  body : drop (tableAt W P) S ≡ packed (code e xs)
   unfolding image
   body =
-      sym (drop-drop (4 * P) headerLength (image e xs)) ∙ ap (drop (4 * P))
-      (drop-at H (table e xs ++ packed (code e xs)) headerLength (length-header e (length xs) (sum xs) (length (code e xs))))
+      sym (drop-drop (4 * P) (headerLength W) (image e xs)) ∙ ap (drop (4 * P))
+      (drop-at H (table e xs ++ packed (code e xs)) (headerLength W) (length-header e (length xs) (sum xs) (length (code e xs))))
       ∙ drop-at (table e xs) (packed (code e xs)) (4 * P) (length-table e xs)
+
+  first-is : eqb (getD S 0 0) (edition (wideOf S)) ≡ true
+  unfolding image header headerIn
+  first-is = ap (λ (b : Bool). eqb (edition W) (edition b)) wide-is ∙ eq-eqb (edition W) (edition W) refl
+
+  second-is : eqb (getD S 2 0) 0 ≡ true
+  unfolding image header headerIn
+  second-is = refl
+
+  third-is : eqb (getD S 3 0) 0 ≡ true
+  unfolding image header headerIn
+  third-is = refl
 
   module _ (m : Limits e xs) where
     pub n-is : nOf S ≡ length xs
-    unfolding nOf header little
-    n-is = head-word 4 (length xs) (omega arith) refl (omega (arith, m .hours))
+    unfolding nOf header
+    n-is = head-word 4 4 (length xs) (omega (arith, header-least W)) (hours-in e (length xs) (sum xs) (length (code e xs)) W) (omega (arith, m .hours))
 
     pub s-is : sOf S ≡ sum xs
-    unfolding sOf header little
-    s-is = head-word 8 (sum xs) (omega arith) refl (m .total)
+    unfolding sOf header
+    s-is =
+        ap (λ (b : Bool). numberAt S 8 (totalWidth b)) wide-is
+        ∙ head-word 8 (totalWidth W) (sum xs) (total-low W) (total-in e (length xs) (sum xs) (length (code e xs)) W)
+        (total-fits (sum xs) (m .total) W refl)
 
     pub l-is : lOf S ≡ length (code e xs)
-    unfolding lOf header little
-    l-is = head-word 12 (length (code e xs)) (omega arith) refl (code-most e xs m)
+    unfolding lOf header
+    l-is =
+        ap (λ (b : Bool). numberAt S (bitsPlace b) 4) wide-is
+        ∙ head-word (bitsPlace W) 4 (length (code e xs)) (header-low W) (bits-in e (length xs) (sum xs) (length (code e xs)) W)
+        (omega (arith, code-most e xs m))
 
     pub pages-is : pagesOf S ≡ P
     unfolding pagesOf
@@ -114,17 +166,19 @@ module _ (e : ℕ) (xs : List ℕ) where
     unfolding widthOf
     width-is = ap digits s-is
 
-    pub code-is : codeAt S ≡ codeStart P
+    pub code-is : codeAt S ≡ codeStart W P
     unfolding codeAt
-    code-is = ap codeStart pages-is
+    code-is = ap₂ codeStart wide-is pages-is
 
     -- the bits from where the code starts
     pub bits-is : drop (codeAt S) (bits S) ≡ code e xs ++ tail (code e xs)
-    bits-is = ap (λ (z : ℕ). drop z (bits S)) code-is ∙ drop-bits (tableAt P) S ∙ ap bits body ∙ bits-packed (code e xs) (bits-code e xs)
+    bits-is = ap (λ (z : ℕ). drop z (bits S)) code-is ∙ drop-bits (tableAt W P) S ∙ ap bits body ∙ bits-packed (code e xs) (bits-code e xs)
 
     pub start-is : (p : ℕ) → p < P → startOf S p ≡ start e xs p
     unfolding startOf
-    start-is p l = ap number (table-at p l) ∙ number-little 4 (start e xs p) (omega (arith, start-within e xs p l, code-most e xs m))
+    start-is p l =
+        ap (λ (b : Bool). numberAt S (tableAt b p) 4) wide-is ∙ ap number (table-at p l)
+        ∙ number-little 4 (start e xs p) (omega (arith, start-within e xs p l, code-most e xs m))
 
     -- a page's bits
     page-bits : (p : ℕ) → p < P
@@ -173,24 +227,47 @@ module _ (e : ℕ) (xs : List ℕ) where
         (page-bits p l) (length-field w (root e xs p)) (length-tree e (page e xs p)) (omega arith)
 
     -- an image passes the header's tests
+    zero-is : (b : Bool) → W ≡ b → wideRight b S ≡ true
+    unfolding wideRight every header wide
+    zero-is false q = refl
+    zero-is true q =
+        every-of (ltb narrowTotal (sOf S) ∷ leb (sOf S) maxTotal ∷ eqb (numberAt S 20 4) 0 ∷ []) (
+          ap (ltb narrowTotal) s-is ∙ q,
+          (
+            ap (λ (z : ℕ). leb z maxTotal) s-is ∙ le-leb (sum xs) maxTotal (m .total),
+            (
+              eq-eqb (numberAt S 20 4) 0
+                  (head-word 20 4 0 (rw q (omega arith)) (rw q (zeros-in e (length xs) (sum xs) (length (code e xs)))) (omega arith)),
+              tt,
+            ),
+          ),
+        )
+
     pub headed-image : headed S ≡ true
-    unfolding headed image header little size eOf
+    unfolding headed
     headed-image =
         every-of _ (
-          le-leb headerLength (length S) (omega (arith, length-image)),
+          le-leb (headerLength (wideOf S)) (length S) (rw wide-is (omega (arith, length-image, size-more W e (length xs) (length (code e xs))))),
           (
-            refl,
+            first-is,
             (
               ap (leb 2) e-is ∙ le-leb 2 e (m .e-low),
               (
                 ap (λ (z : ℕ). leb z 8) e-is ∙ le-leb e 8 (m .e-high),
                 (
-                  refl,
+                  second-is,
                   (
-                    refl,
+                    third-is,
                     (
                       ap (λ (z : ℕ). leb z maxHours) n-is ∙ le-leb (length xs) maxHours (m .hours),
-                      (eq-eqb (length S) (size (eOf S) (nOf S) (lOf S)) (length-image ∙ sym (ap₂ (λ (n l : ℕ). size e n l) n-is l-is)), tt),
+                      (
+                        ap (λ (b : Bool). wideRight b S) wide-is ∙ zero-is W refl,
+                        (
+                          eq-eqb (length S) (size (wideOf S) (eOf S) (nOf S) (lOf S))
+                              (length-image ∙ sym (size-same wide-is e-is n-is l-is)),
+                          tt,
+                        ),
+                      ),
                     ),
                   ),
                 ),

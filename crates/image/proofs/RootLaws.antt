@@ -17,7 +17,7 @@ use Rattle.image.specs.Code.Head.{Opened}
 use Rattle.image.specs.Code.Page.{BeforeAt, PageAt, Rooted, RootAt}
 use Rattle.image.specs.Image.{tableAt}
 use Rattle.image.specs.Query.{beforePassing, pageFine, pageTests, passing}
-use Rattle.image.specs.Read.{beforeOf, codeAt, eOf, lOf, rootOf, sOf, startOf, sumOf, treeAt, widthOf}
+use Rattle.image.specs.Read.{beforeOf, codeAt, eOf, lOf, rootOf, sOf, startOf, sumOf, treeAt, wideOf, widthOf}
 use Rattle.image.proofs.DamageLaws.{beyond, within}
 use Rattle.image.proofs.HeadLaws.{bounds, never}
 use Rattle.image.proofs.PageLaws.{reserve-most}
@@ -26,7 +26,7 @@ use Rattle.image.specs.declared.page.Root.{Root}
 use Rattle.image.specs.declared.page.Page.{Page}
 
 -- ---- a root
-module _ (s : List ℕ) (h : Head) (o : Opened s h) (p a w : ℕ) (ea : a ≡ numberAt s (tableAt p) 4) (ew : w ≡ digits (h .total)) where
+module _ (s : List ℕ) (h : Head) (o : Opened s h) (p a w : ℕ) (ea : a ≡ numberAt s (tableAt (wideOf s) p) 4) (ew : w ≡ digits (h .total)) where
   width : w ≡ widthOf s
   width = ew ∙ bounds s h o .width
 
@@ -50,13 +50,13 @@ module _ (s : List ℕ) (h : Head) (o : Opened s h) (p a w : ℕ) (ea : a ≡ nu
   }
 
 -- ---- the number of a few bits is small
-pub root-small : (s : List ℕ) (p : ℕ) → widthOf s ≤ 32 → rootOf s p < 4294967296
+pub root-small : (s : List ℕ) (p : ℕ) → widthOf s ≤ 40 → rootOf s p < 1099511627776
 unfolding rootOf
 root-small s p l =
     let f : List ℕ = part (bits s) (codeAt s + startOf s p) (widthOf s) in
-    let n : length f ≤ 32 = omega (arith, length-take (widthOf s) (drop (codeAt s + startOf s p) (bits s))) in
+    let n : length f ≤ 40 = omega (arith, length-take (widthOf s) (drop (codeAt s + startOf s p) (bits s))) in
     let g : Bits f = bits-take (widthOf s) _ (bits-drop (codeAt s + startOf s p) (bits s) (bits-bytes s)) in
-    omega (arith, value-lt f 0 g, pow-mono {i = length f} {j = 32} n)
+    omega (arith, value-lt f 0 g, pow-mono {i = length f} {j = 40} n)
 
 -- ---- the root before
 pub before-first : (s : List ℕ) (p : ℕ) → p ≡ 0 → BeforeAt s p (record { ok = true; value = 0; end = 0 })
@@ -165,8 +165,8 @@ module _ {h : Head} {t x : Root} (g : Roots h t x) where
         lies = λ _. record {
           height = omega (arith, f .e-high, q .e-is);
           total = omega (arith, q .total-small);
-          long = omega (arith, f .long);
+          long = omega (arith, f .long, f .head-low);
           inside = omega (arith, r, q .code-is, f .code-at, f .long);
-          small = omega (arith, r, q .code-is, f .code-at, f .few, q .bits-small);
+          small = omega (arith, r, q .code-is, f .code-at, f .few, f .head-high, q .bits-small);
         };
       }

@@ -14,16 +14,17 @@ use Rattle.tree.specs.Read.{Found, damaged, found}
 use Rattle.image.specs.Calls.{lengthCall, put, putAfter, unwritten, writeCall}
 use Rattle.image.specs.Check.{accepted, check, headed}
 use Rattle.answers.specs.Image.{Verdict, fails, holds, Reply, given, refused}
-use Rattle.image.specs.Image.{Limits, bytesFor, image, maxHours, maxTotal, size}
-use Rattle.image.specs.Query.{count, look, reading, readingAt, theCount, theReading}
+use Rattle.image.specs.Image.{Limits, bytesFor, image, maxHours, maxTotal, size, wide}
+use Rattle.image.specs.Query.{count, ended, look, reading, readingAt, theCount, theReading}
 use Rattle.image.specs.Reach.{Reach, above-total, any-index, damage, header-wrong, smallest}
 use Rattle.image.specs.Read.{eOf, listOf, nOf, sOf}
+use Rattle.image.proofs.Editions.{header-most}
 use Rattle.image.proofs.Accepted.{accepted-only, length-list}
 use Rattle.image.proofs.ReadLaws.{length-image, s-is}
-use Rattle.image.proofs.HeadLaws.{headed-long, word-most}
+use Rattle.image.proofs.HeadLaws.{headed-total}
 use Rattle.image.proofs.CallLaws.{length-only}
 use Rattle.image.proofs.PageLaws.{code-most, pages-few}
-use Rattle.image.proofs.QueryLaws.{Most, look-most}
+use Rattle.image.proofs.QueryLaws.{Most, look-most, most-ended}
 
 -- a number is no more than the total's limit, refusals are 1 to 12
 abbrev pub Small : Reply → Type 0
@@ -45,9 +46,9 @@ refused-or true k r low high w = (low, high)
 refused-or false k r low high w = w
 
 -- ---- length and write
-image-most : (e : ℕ) (xs : List ℕ) → Limits e xs → length (image e xs) ≤ 4294967295
+image-most : (e : ℕ) (xs : List ℕ) → Limits e xs → length (image e xs) ≤ maxTotal
 unfolding size bytesFor
-image-most e xs m = omega (arith, length-image e xs, code-most e xs m, pages-few e (length xs) (m .e-low) (m .hours))
+image-most e xs m = omega (arith, length-image e xs, code-most e xs m, pages-few e (length xs) (m .e-low) (m .hours), header-most (wide (sum xs)))
 
 pub length-small : (e : ℕ) (xs : List ℕ) → Small (lengthCall e xs)
 unfolding lengthCall
@@ -62,7 +63,7 @@ length-small e xs =
       total = leb-true (sum xs) maxTotal c;
     }))))
 
-put-small : (out i : List ℕ) → length i ≤ 4294967295 → Small (put out i .reply)
+put-small : (out i : List ℕ) → length i ≤ maxTotal → Small (put out i .reply)
 unfolding put pick unwritten
 put-small out i l = go (leb (length i) (length out))
   where
@@ -99,8 +100,7 @@ hours-most s e = leb-true (nOf s) maxHours (each _ e .1 .1 .1 .1 .1 .1 .0)
 
 module _ (s : List ℕ) (bytes : (i : ℕ) → getD s i 0 < 256) where
   total-most : headed s ≡ true → sOf s ≤ maxTotal
-  unfolding sOf
-  total-most e = word-most s bytes 8 (omega (arith, headed-long s e))
+  total-most e = headed-total s bytes e
 
   found-small : headed s ≡ true → (f : Found) → Most (sOf s) f → Small (theCount f) × Small (theReading f)
   unfolding theCount theReading
@@ -111,7 +111,7 @@ module _ (s : List ℕ) (bytes : (i : ℕ) → getD s i 0 < 256) where
   unfolding count
   count-small i =
       or-refused (headed s) 5 _ (omega arith) (omega arith) (λ e.
-      refused-or _ 7 _ (omega arith) (omega arith) (found-small e (look s i) (look-most s i) .0))
+      refused-or _ 7 _ (omega arith) (omega arith) (found-small e (ended (look s i)) (most-ended (sOf s) (look s i) (look-most s i)) .0))
 
   pub reading-small : (i : ℕ) → Small (reading s i)
   unfolding reading readingAt
@@ -119,7 +119,7 @@ module _ (s : List ℕ) (bytes : (i : ℕ) → getD s i 0 < 256) where
     where
       go : headed s ≡ true → (i : ℕ) → Small (readingAt s i)
       go e zero = omega arith
-      go e (suc i) = found-small e (look s i) (look-most s i) .1
+      go e (suc i) = found-small e (ended (look s i)) (most-ended (sOf s) (look s i) (look-most s i)) .1
 
 pub reach-small : (s : List ℕ) (p : ℕ) (r : Reply) → Reach s p r → Small r
 unfolding accepted

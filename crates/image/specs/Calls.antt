@@ -10,7 +10,7 @@ use Rattle.image.specs.Image.{image, maxHours, maxTotal}
 use Rattle.answers.specs.Image.{Reply, given, refused, told}
 use Rattle.answers.specs.declared.image.Answer.{Answer}
 
--- length: 1, 'e outside 2 to 8'; 2, 'over 65,536 counts'; 3, the total 'above 4,294,967,295'; else 'the image's length in bytes'
+-- length: 1, 'e outside 2 to 8'; 2, 'over 65,536 counts'; 3, the total 'above 2^40 - 1'; else 'the image's length in bytes'
 unfoldable pub lengthCall : ℕ → List ℕ → Reply
 lengthCall e xs =
     pick (leb 2 e && leb e 8)

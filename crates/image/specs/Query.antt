@@ -3,6 +3,7 @@ use mathlib.Core.Bool.{Bool, false, not}
 use mathlib.Core.List.{List, [], _∷_, map}
 use Prim.Native.Nat.{ℕ, zero, suc, _+_, _/_, _%_, _^_}
 use lib.Dec.{leb, ltb}
+use Rattle.lists.specs.Counts.{maxCount}
 use Rattle.answers.specs.Refusals.{bodyDamaged, headerWrong, notLogged}
 use Rattle.lists.specs.Lists.{pick, every}
 use Rattle.bits.specs.Bits.{bits}
@@ -48,6 +49,11 @@ lookIn s p j = pick (pageFine s p) (later (beforeOf s p) (walk (eOf s) (sumOf s 
 unfoldable pub look : List ℕ → ℕ → Found
 look s i = lookIn s (i / 2 ^ eOf s) (i % 2 ^ eOf s)
 
+-- 'a walk that ends at a count above 4,294,967,295 is damage'
+unfoldable pub ended : Found → Found
+ended damaged = damaged
+ended (found x c) = pick (leb c maxCount) (found x c) damaged
+
 -- 'queries: damage' is refusal 6
 unfoldable pub theCount : Found → Reply
 theCount damaged = refused bodyDamaged
@@ -60,11 +66,11 @@ theReading (found x c) = given (x + c)
 -- 'Reading at i > 0 walks to hour i-1; reading at 0 is 0.'
 unfoldable pub readingAt : List ℕ → ℕ → Reply
 readingAt s zero = given 0
-readingAt s (suc i) = theReading (look s i)
+readingAt s (suc i) = theReading (ended (look s i))
 
 -- 'count i: 7 if i ≥ N'
 unfoldable pub count : List ℕ → ℕ → Reply
-count s i = pick (headed s) (pick (leb (nOf s) i) (refused notLogged) (theCount (look s i))) (refused headerWrong)
+count s i = pick (headed s) (pick (leb (nOf s) i) (refused notLogged) (theCount (ended (look s i)))) (refused headerWrong)
 
 -- 'Reading i: 7 if i > N'
 unfoldable pub reading : List ℕ → ℕ → Reply

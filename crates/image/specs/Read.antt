@@ -1,15 +1,20 @@
 -- What bytes say when they are read as an image, tested by nothing. Assumes nothing.
+use mathlib.Core.Bool.{Bool}
 use mathlib.Core.List.{List}
 use Prim.Native.Nat.{ℕ, zero, suc, _+_, _-_}
 use lib.ListN.{getD, take}
+use lib.Dec.{eqb}
 use Rattle.lists.specs.Lists.{tabulate, concat, part}
 use Rattle.bits.specs.Bits.{bits, value}
 use Rattle.bits.specs.Numbers.{numberAt}
 use Rattle.reserve.specs.Reserve.{digits}
 use Rattle.tree.specs.Read.{counts}
-use Rattle.image.specs.Image.{codeStart, pages, tableAt, totalWidth}
+use Rattle.image.specs.Image.{bitsPlace, codeStart, pages, tableAt, totalWidth}
 
--- ---- the header: '1 is e', '4-7 N, 8-11 total S, 12-15 L'
+-- ---- the header: '0 is 1 (edition)', or 2; '1 is e', '4-7 N, 8-11 total S, 12-15 L', or '8-15 S, 16-19 L'
+unfoldable pub wideOf : List ℕ → Bool
+wideOf s = eqb (getD s 0 0) 2
+
 unfoldable pub eOf : List ℕ → ℕ
 eOf s = getD s 1 0
 
@@ -17,10 +22,10 @@ unfoldable pub nOf : List ℕ → ℕ
 nOf s = numberAt s 4 4
 
 unfoldable pub sOf : List ℕ → ℕ
-sOf s = numberAt s 8 totalWidth
+sOf s = numberAt s 8 (totalWidth (wideOf s))
 
 unfoldable pub lOf : List ℕ → ℕ
-lOf s = numberAt s (8 + totalWidth) 4
+lOf s = numberAt s (bitsPlace (wideOf s)) 4
 
 unfoldable pub pagesOf : List ℕ → ℕ
 pagesOf s = pages (eOf s) (nOf s)
@@ -32,11 +37,11 @@ widthOf s = digits (sOf s)
 -- ---- page p
 -- its start bit, from the table
 unfoldable pub startOf : List ℕ → ℕ → ℕ
-startOf s p = numberAt s (tableAt p) 4
+startOf s p = numberAt s (tableAt (wideOf s) p) 4
 
 -- where the code starts among the bits of all the bytes
 unfoldable pub codeAt : List ℕ → ℕ
-codeAt s = codeStart (pagesOf s)
+codeAt s = codeStart (wideOf s) (pagesOf s)
 
 -- its root
 unfoldable pub rootOf : List ℕ → ℕ → ℕ

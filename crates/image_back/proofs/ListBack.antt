@@ -3,9 +3,11 @@ use mathlib.Core.Path.{_≡_, ap, ap₂, _∙_}
 use mathlib.Core.Bool.{true}
 use mathlib.Core.List.{List}
 use Prim.Native.Nat.{ℕ, _*_, _^_, _≤_, _<_}
-use lib.ListN.{length, take}
+use lib.ListN.{length, getD, take}
 use lib.Dec.{leb}
 use borrow.Author.Tests.{le-leb}
+use Rattle.lists.specs.Counts.{maxCount, within}
+use Rattle.lists.proofs.CountLaws.{within-each}
 use Rattle.lists.specs.Lists.{concat, same, sum, tabulate, window}
 use Rattle.lists.proofs.Pages.{pages-back}
 use Rattle.lists.proofs.Tables.{tabulate-ext}
@@ -14,7 +16,7 @@ use Rattle.bits.specs.Bits.{bits}
 use Rattle.tree.specs.Read.{counts}
 use Rattle.tree.proofs.Shape.{counts-tree}
 use Rattle.image.specs.Check.{accepted}
-use Rattle.image.specs.Image.{Limits, image, page, pages}
+use Rattle.image.specs.Image.{Limits, image, maxTotal, page, pages}
 use Rattle.image.specs.Read.{listOf, pageOf, treeAt}
 use Rattle.image.proofs.ReadLaws.{e-is, headed-image, n-is, pages-is, sum-is, tree-is}
 use Rattle.image.proofs.PageLaws.{length-page, pages-cover}
@@ -45,9 +47,10 @@ module _ (e : ℕ) (xs : List ℕ) (m : Limits e xs) where
       ∙ ap (λ (z : List (List ℕ)). take (length xs) (concat z)) (tabulate-ext P (pageOf S) (page e xs) page-is)
       ∙ list-back e P xs (pages-cover e (length xs))
 
-  pub accepted-image : accepted S ≡ true
+  pub accepted-image : ((i : ℕ) → getD xs i 0 ≤ maxCount) → accepted S ≡ true
   unfolding accepted
-  accepted-image =
+  accepted-image few =
       both (headed-image e xs m)
-      (both (ap (λ (z : List ℕ). leb (sum z) 4294967295) list-is ∙ le-leb (sum xs) 4294967295 (m .total))
-      (ap₂ (λ (h : ℕ) (z : List ℕ). same S (image h z)) (e-is e xs) list-is ∙ same-refl S))
+      (both (ap (λ (z : List ℕ). leb (sum z) maxTotal) list-is ∙ le-leb (sum xs) maxTotal (m .total))
+      (both (ap (within maxCount) list-is ∙ within-each maxCount xs few)
+      (ap₂ (λ (h : ℕ) (z : List ℕ). same S (image h z)) (e-is e xs) list-is ∙ same-refl S)))

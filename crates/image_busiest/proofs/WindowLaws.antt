@@ -77,10 +77,10 @@ module _ (s : List ℕ) (a : accepted s ≡ true) {h : Head} (o : HeadOf s h) wh
   hours = omega (arith, length-list s, o .hours-is)
 
   -- no run and no count has more than the total
-  run-small : (j k : ℕ) → runSum (listOf s) j k ≤ 4294967295
+  run-small : (j k : ℕ) → runSum (listOf s) j k ≤ 1099511627775
   run-small j k = omega (arith, run-reading (listOf s) j k, sum-take-le (j + k) (listOf s), accepted-only s a .limits .total)
 
-  count-small : (i : ℕ) → i < h .hours → getD (listOf s) i 0 ≤ 4294967295
+  count-small : (i : ℕ) → i < h .hours → getD (listOf s) i 0 ≤ 1099511627775
   count-small i l =
       omega (arith, reading-next (listOf s) i (omega (arith, hours)), sum-take-le (i + 1) (listOf s), accepted-only s a .limits .total)
 

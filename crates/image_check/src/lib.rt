@@ -9,18 +9,17 @@ use image_test::page_test;
 use tree_lowest::zero_bits;
 ghost use mathlib.Core.Bool.{_&&_};
 ghost use mathlib.Core.Path.{_≡_};
-ghost use Prim.Native.Nat.{_+_, _-_, _*_};
+ghost use Prim.Native.Nat.{_+_, _-_, _*_, _≤_};
+ghost use Rattle.lists.specs.Counts.{maxCount, within};
 ghost use Rattle.bits.specs.Bits.{bits};
 ghost use Rattle.reserve_table.specs.Code.Tabled.{Tabled};
 ghost use Rattle.tree.specs.Code.Exact.{clear};
-ghost use Rattle.tree_lowest.specs.Code.Narrow.{within};
 ghost use Rattle.image.specs.Image.{bytesFor};
 ghost use Rattle.image.specs.Read.{nOf, sOf, lOf, pagesOf, codeAt, listOf};
-ghost use Rattle.image.specs.Query.{readingAt};
 ghost use Rattle.image.specs.Check.{accepted, check as checkOf};
 ghost use Rattle.answers.specs.Image.{ruled};
 ghost use Rattle.image.specs.Code.Head.{Opened};
-ghost use Rattle.image_test.specs.Code.Test.{pagesFrom, says};
+ghost use Rattle.image_test.specs.Code.Test.{pagesFrom, says, sumAt};
 ghost use Rattle.image_check.specs.Code.Access.{Accesses};
 
 // Whether each page passes with no count above widest, all L bits are used, and the last root is S.
@@ -50,7 +49,7 @@ fn pages_pass(s: &[u8], table: &[u8; 512], h: Head, widest: u64) -> bool
 // Whether the reading at N is S, so that the hours from N on are 0.
 fn rest_zero(s: &[u8], h: Head) -> bool
     requires { ⌜ Opened (now s) h ⌝ }
-    ensures { λ r. ⌜ r ≡ says (readingAt (now (s .entry)) (nOf (now (s .entry)))) (sOf (now (s .entry))) ⌝ }
+    ensures { λ r. ⌜ r ≡ says (sumAt (now (s .entry)) (nOf (now (s .entry)))) (sOf (now (s .entry))) ⌝ }
 {
     if h.hours == 0 {
         return h.total == 0;
@@ -71,7 +70,7 @@ fn fill_zero(s: &[u8], h: Head) -> bool
 
 // Whether an image with header h is the writer's and has no count above widest. All counts are looked at in the one pass of the check.
 pub fn passes(s: &[u8], h: Head, widest: u64) -> bool
-    requires { ⌜ Opened (now s) h ⌝ }
+    requires { ⌜ Opened (now s) h × (widest ≤ maxCount) ⌝ }
     ensures { λ r. ⌜ r ≡ (accepted (now (s .entry)) && within widest (listOf (now (s .entry)))) ⌝ }
 {
     let table = reserve_table::table();

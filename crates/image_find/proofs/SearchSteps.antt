@@ -83,7 +83,7 @@ module _ {s : List ℕ} {h : Head} {q : ℕ} {at : Span} (o : Opened s h) (b : B
     }
 
     module _ (ok : t .ok ≡ true) where
-      value-small : t .value < 4294967296
+      value-small : t .value < 1099511627776
       value-small = omega (arith, rt .value-is ok, root-small s m (bounds s h o .narrow))
 
       pub narrow-left : q ≤ t .value → Narrowed s q at (record { ok = true; lo = at .lo; hi = m; below = at .below; above = t .value })
@@ -124,7 +124,7 @@ hit-none e a = record { damage = λ _. a; between = λ n. absurd (never (sym e �
 pub hit-one : {s : List ℕ} {q : ℕ} {r : Span} → r .ok ≡ true → Between s q r → r .hi ≤ r .lo → Hit s q r
 hit-one e b l = record { damage = λ n. absurd (never (sym n ∙ e)); between = λ _. b; one = λ _. l }
 
-pub whole : (s : List ℕ) (q n t : ℕ) → 1 ≤ q → q ≤ t → t < 4294967296 → n ≡ pagesOf s → (n ≡ 0 → ⊥)
+pub whole : (s : List ℕ) (q n t : ℕ) → 1 ≤ q → q ≤ t → t < 1099511627776 → n ≡ pagesOf s → (n ≡ 0 → ⊥)
     → Between s q (record { ok = true; lo = 0; hi = n - 1; below = 0; above = t })
 unfolding beforeOf
 whole s q n t l m u e f = record {

@@ -1,11 +1,12 @@
 -- Page p of an accepted image: where its parts lie, how large its numbers are, and its counts. Assumes nothing.
 use mathlib.Core.Path.{_≡_, refl, ap, ap₂, _∙_}
-use mathlib.Core.Bool.{true}
+use mathlib.Core.Bool.{Bool, true}
 use mathlib.Core.List.{List}
 use Prim.Native.Nat.{ℕ, zero, suc, _+_, _-_, _*_, _^_, _≤_, _<_}
 use native.Mathlib.Omega.{arith}
 use lib.ListN.{length, take}
 use lib.Pow.{pow-mono}
+use Rattle.lists.specs.Counts.{maxCount, within}
 use Rattle.lists.specs.Lists.{part, splice, sum}
 use Rattle.bits.specs.Bits.{bits}
 use Rattle.reserve.specs.Reserve.{digits, reserve}
@@ -17,26 +18,30 @@ use Rattle.tree.proofs.Exacts.{tree-exact}
 use Rattle.tree.proofs.Shape.{counts-tree}
 use Rattle.image.specs.Check.{accepted}
 use Rattle.image.specs.Code.Head.{HeadOf}
-use Rattle.image.specs.Image.{Limits, bytesFor, code, codeStart, image, page, pages, root, size, start, tableAt}
-use Rattle.image.specs.Read.{beforeOf, codeAt, eOf, listOf, pagesOf, rootOf, startOf, sumOf, treeAt, widthOf}
+use Rattle.image.specs.Image.{Limits, bytesFor, code, codeStart, headerLength, image, maxTotal, page, pages, root, size, start, tableAt, wide}
+use Rattle.image.specs.Read.{beforeOf, codeAt, eOf, listOf, pagesOf, rootOf, startOf, sumOf, treeAt, wideOf, widthOf}
 use Rattle.image.specs.declared.head.Head.{Head}
 use Rattle.image_page.specs.Code.Places.{Places}
 use Rattle.image.proofs.Accepted.{accepted-only}
-use Rattle.image.proofs.ReadLaws.{before-is, code-is, length-image, pages-is, root-is, start-is, sum-is, tree-is, width-is}
-use Rattle.image.proofs.PageLaws.{code-most, length-page, page-le, page-sum, pages-few, start-within, width-most}
+use Rattle.image.proofs.ReadLaws.{before-is, code-is, length-image, pages-is, root-is, start-is, sum-is, tree-is, wide-is, width-is}
+use Rattle.image.proofs.Editions.{header-least, header-most}
+use Rattle.image.proofs.PageLaws.{code-most, length-page, page-le, page-few, page-sum, pages-few, start-within, width-most}
 
 -- what the code needs to know of it
 pub record Page (s : List ℕ) (p : ℕ) : Type 0 where
   pub few : p < 16384
   pub e-high : eOf s ≤ 8
-  pub entry-in : tableAt p + 4 ≤ length s
-  pub narrow : widthOf s ≤ 32
+  pub entry-in : tableAt (wideOf s) p + 4 ≤ length s
+  pub head-low : 16 ≤ headerLength (wideOf s)
+  pub head-high : headerLength (wideOf s) ≤ 24
+  pub narrow : widthOf s ≤ 40
   pub rises : beforeOf s p ≤ rootOf s p
-  pub sum-small : sumOf s p ≤ 4294967295
-  pub code-low : codeAt s ≤ 524416
+  pub sum-small : sumOf s p ≤ maxTotal
+  pub code-low : codeAt s ≤ 524480
   pub end-low : startOf s p + widthOf s + reserve (eOf s) (sumOf s p) ≤ 4294967295
   pub end-in : codeAt s + startOf s p + widthOf s + reserve (eOf s) (sumOf s p) ≤ 8 * length s
   pub coded : exact (eOf s) (sumOf s p) (bits s) (treeAt s p) ≡ true
+  pub few-each : within maxCount (counts (eOf s) (sumOf s p) (bits s) (treeAt s p)) ≡ true
   pub counts-are : counts (eOf s) (sumOf s p) (bits s) (treeAt s p) ≡ page (eOf s) (listOf s) p
 
 module _ (s : List ℕ) (a : accepted s ≡ true) where
@@ -75,12 +80,19 @@ module _ (s : List ℕ) (a : accepted s ≡ true) where
     pub accepted-page : Page s p
     unfolding size bytesFor
     accepted-page =
+        let W : Bool = wide (sum xs) in
+        let wide-same : headerLength (wideOf s) ≡ headerLength W = ap headerLength (ap wideOf same ∙ wide-is e xs) in
+        let head-most = header-most W in
+        let head-least = header-least W in
+        let read : counts e (sumOf s p) (bits s) (treeAt s p) ≡ page e xs p =
+        ap (λ (z : ℕ). counts e z (bits s) (treeAt s p)) sums
+        ∙ counts-tree e (page e xs p) (bits s) (treeAt s p) (length-page e xs p) tree-there in
         let starts : startOf s p ≡ start e xs p = ap (λ (z : List ℕ). startOf z p) same ∙ start-is e xs limits p inside in
         let befores = ap (λ (z : List ℕ). beforeOf z p) same ∙ before-is e xs limits p inside in
         let width : widthOf s ≡ digits (sum xs) = ap widthOf same ∙ width-is e xs limits in
-        let at : codeAt s ≡ codeStart (pages e (length xs)) = ap codeAt same ∙ code-is e xs limits in
+        let at : codeAt s ≡ codeStart W (pages e (length xs)) = ap codeAt same ∙ code-is e xs limits in
         let own : reserve e (sumOf s p) ≡ reserve e (sum (page e xs p)) = ap (reserve e) sums in
-        let long : length s ≡ size e (length xs) (length (code e xs)) = ap length same ∙ length-image e xs in
+        let long : length s ≡ size W e (length xs) (length (code e xs)) = ap length same ∙ length-image e xs in
         let many = pages-few e (length xs) (limits .e-low) (limits .hours) in
         record {
           few = omega (arith, inside);
@@ -93,9 +105,10 @@ module _ (s : List ℕ) (a : accepted s ≡ true) where
           end-low = omega (arith, start-within e xs p inside, code-most e xs limits);
           end-in = omega (arith, start-within e xs p inside);
           coded = ap (λ (z : ℕ). exact e z (bits s) (treeAt s p)) sums ∙ tree-exact e (page e xs p) (bits s) (treeAt s p) tree-there;
-          counts-are =
-              ap (λ (z : ℕ). counts e z (bits s) (treeAt s p)) sums
-              ∙ counts-tree e (page e xs p) (bits s) (treeAt s p) (length-page e xs p) tree-there;
+          head-low = omega arith;
+          head-high = omega arith;
+          few-each = ap (within maxCount) read ∙ page-few maxCount e p xs (accepted-only s a .counts);
+          counts-are = read;
         }
 
 -- where the parts stand, as the code works it out of the header
@@ -137,7 +150,7 @@ module _ {s : List ℕ} {e p t a : ℕ} (n : Numbers s e p t a) where
       record {
         height = omega (arith, g .e-high, n .e-is);
         total = omega (arith, n .sum-is, g .sum-small);
-        long = omega (arith, g .entry-in);
+        long = omega (arith, g .entry-in, g .head-low);
         inside = omega (arith, g .end-in);
         small = omega (arith, g .end-low, g .code-low);
       }
@@ -145,8 +158,10 @@ module _ {s : List ℕ} {e p t a : ℕ} (n : Numbers s e p t a) where
   pub tree-coded : exact e t (bits s) a ≡ true
   tree-coded = ap₂ (λ (y z : ℕ). exact y z (bits s) a) (n .e-is) (n .sum-is) ∙ ap (exact (eOf s) (sumOf s p) (bits s)) (n .tree-is) ∙ n .page .coded
 
-  pub sum-fits : t < 4294967296
-  sum-fits = omega (arith, n .sum-is, n .page .sum-small)
+  pub counts-fit : within maxCount (counts e t (bits s) a) ≡ true
+  counts-fit =
+      ap₂ (λ (y z : ℕ). within maxCount (counts y z (bits s) a)) (n .e-is) (n .sum-is)
+      ∙ ap (λ (z : ℕ). within maxCount (counts (eOf s) (sumOf s p) (bits s) z)) (n .tree-is) ∙ n .page .few-each
 
   pub room : (k : ℕ) → 256 ≤ k → 0 + 2 ^ e ≤ k
   room k l = omega (arith, pow-mono {i = e} {j = 8} (omega (arith, n .page .e-high, n .e-is)))

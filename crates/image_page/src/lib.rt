@@ -13,12 +13,12 @@ ghost use Rattle.sum_table.specs.Code.Sums.{Sums};
 ghost use Rattle.image.specs.Check.{accepted};
 ghost use Rattle.image.specs.Code.Head.{HeadOf};
 ghost use Rattle.image.specs.Image.{headerLength, page, root};
-ghost use Rattle.image.specs.Read.{beforeOf, eOf, listOf, pagesOf, rootOf, startOf, sumOf, treeAt};
+ghost use Rattle.image.specs.Read.{beforeOf, eOf, listOf, pagesOf, rootOf, startOf, sumOf, treeAt, wideOf};
 ghost use Rattle.image_page.specs.Code.Places.{Places};
 
 // Where page p starts in the code, from the table.
 fn start_of(s: &[u8], entries: usize, p: usize) -> usize
-    requires { ⌜ (accepted (now s) ≡ true) × (entries ≡ headerLength) × (p < pagesOf (now s)) ⌝ }
+    requires { ⌜ (accepted (now s) ≡ true) × (entries ≡ headerLength (wideOf (now s))) × (p < pagesOf (now s)) ⌝ }
     ensures { λ r. ⌜ r ≡ startOf (now (s .entry)) p ⌝ }
 {
     get4(s, table_at(entries, p as u64)) as usize

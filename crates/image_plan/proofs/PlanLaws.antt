@@ -1,5 +1,6 @@
 -- A plan: the sums of an image's pages, added one after another, and the layout at the end. Assumes nothing.
 use mathlib.Core.Path.{_≡_, refl, sym, ap, ap₂, _∙_, subst}
+use mathlib.Core.Bool.{Bool}
 use mathlib.Core.List.{List}
 use Prim.Native.Nat.{ℕ, _+_, _*_, _^_, _≤_, _<_}
 use native.Mathlib.Nat.{mul-le-mul-left, mul-zero}
@@ -7,13 +8,15 @@ use native.Mathlib.Numerals.{add-one}
 use native.Mathlib.Omega.{arith}
 use lib.ListN.{length, take}
 use lib.Seq.{take-all}
+use lib.Dec.{ltb}
 use borrow.Author.Tests.{le-leb, lt-leb}
 use Rattle.lists.specs.Lists.{concat, pick, sum, tabulate}
 use Rattle.reserve.specs.Reserve.{digits, reserve}
 use Rattle.reserve.proofs.Exact.{digits-le}
 use Rattle.image.specs.Calls.{lengthCall}
-use Rattle.image.specs.Image.{code, image, maxHours, maxTotal, pages, root, size, start, tableAt}
+use Rattle.image.specs.Image.{code, headerLength, image, maxHours, maxTotal, narrowTotal, pages, root, size, start, wide}
 use Rattle.answers.specs.Image.{refused}
+use Rattle.image.proofs.Editions.{header-most}
 use Rattle.image.proofs.ReadLaws.{length-image}
 use Rattle.image.proofs.PageLaws.{code-most, page-sum, pages-cover, pages-few, reserve-most, start-next}
 use Rattle.image_plan.specs.Code.Planning.{Begun, Drafted, Laying, PageSum, Passed, Planned}
@@ -141,17 +144,18 @@ module _ {e : ℕ} {xs : List ℕ} {r : Plan} (d : Drafted e xs r) (all : r .pag
   pub too-much : maxTotal < r .total → lengthCall e xs ≡ refused 3
   too-much l = total-above e xs (r .total) (d .e-low) (d .e-high) (d .short) total-is l
 
-  pub finished : (t : ℕ) → t ≡ digits (r .total) → r .total ≤ maxTotal
-      → Planned e xs (Image (record { e = r .e; hours = r .hours; pages = r .pages; total = r .total; code = 8 * tableAt (r .pages); bits = r .pages * t + r .trees }))
-  unfolding code start
-  finished t q l = (
+  pub finished : (t h : ℕ) → t ≡ digits (r .total) → h ≡ headerLength (ltb narrowTotal (r .total)) → r .total ≤ maxTotal
+      → Planned e xs (Image (record { e = r .e; hours = r .hours; pages = r .pages; total = r .total; table = h; code = 8 * (h + 4 * r .pages); bits = r .pages * t + r .trees }))
+  unfolding code start wide
+  finished t h q eh l = (
     record { e-low = d .e-low; e-high = d .e-high; hours = d .short; total = omega (arith, total-is) },
     record {
       e-is = d .e-is;
       hours-are = d .hours-are;
       pages-are = d .pages-are;
       total-is = total-is;
-      code-is = ap (λ (z : ℕ). 8 * tableAt z) (d .pages-are);
+      table-is = eh ∙ ap (λ (z : ℕ). headerLength (ltb narrowTotal z)) total-is;
+      code-is = ap₂ (λ (y z : ℕ). 8 * (y + 4 * z)) (eh ∙ ap (λ (z : ℕ). headerLength (ltb narrowTotal z)) total-is) (d .pages-are);
       bits-are =
           ap₂ (λ (y z : ℕ). y * z + r .trees) {x = r .pages} {y = r .done} (omega (arith, d .done-le)) (q ∙ ap digits total-is)
           ∙ d .passed .bits-are ∙ ap (start e xs) done-is;
@@ -160,13 +164,15 @@ module _ {e : ℕ} {xs : List ℕ} {r : Plan} (d : Drafted e xs r) (all : r .pag
 
 -- ---- the image's bytes
 -- what working them out asks, and what it gives
-pub size-asks : {r : Layout} → Laying r → (r .e ≤ 8) × (r .hours ≤ maxHours) × (r .bits < 4294967296)
+pub size-asks : {r : Layout} → Laying r → (r .table ≤ 24) × (r .e ≤ 8) × (r .hours ≤ maxHours) × (r .bits < 4294967296)
 size-asks {r} a = (
+  omega (arith, a .layout .table-is, header-most (wide (sum (a .xs)))),
   a .limits .e-high,
   omega (arith, a .layout .hours-are, a .limits .hours),
   omega (arith, a .layout .bits-are, code-most (r .e) (a .xs) (a .limits)),
 )
 
-pub size-is : {r : Layout} (n : ℕ) → n ≡ size (r .e) (r .hours) (r .bits) → (a : Laying r) → n ≡ length (image (r .e) (a .xs))
+pub size-is : {r : Layout} (n : ℕ) → ((b : Bool) → r .table ≡ headerLength b → n ≡ size b (r .e) (r .hours) (r .bits))
+    → (a : Laying r) → n ≡ length (image (r .e) (a .xs))
 size-is {r} n q a =
-    q ∙ ap₂ (size (r .e)) (a .layout .hours-are) (a .layout .bits-are) ∙ sym (length-image (r .e) (a .xs))
+    q (wide (sum (a .xs))) (a .layout .table-is) ∙ ap₂ (size (wide (sum (a .xs))) (r .e)) (a .layout .hours-are) (a .layout .bits-are) ∙ sym (length-image (r .e) (a .xs))

@@ -2,6 +2,7 @@
 // written. `image_put` then takes the counts of one page after another.
 use answers::refusal;
 use image::head::Head;
+use image::head::header_size;
 use image::head::pages_of;
 use image::head::size_of;
 ghost use mathlib.Core.Path.{_≡_};
@@ -65,13 +66,14 @@ pub fn add_page(plan: Plan, sum: u64) -> Plan
     }
 }
 
-// An image of pages of 2^e counts: how many counts and pages it has, the total, where the code starts among the bits of all the bytes, and
-// its bits.
+// An image of pages of 2^e counts: how many counts and pages it has, the total, at which byte the table of start bits stands, where the code
+// starts among the bits of all the bytes, and its bits.
 pub struct Layout {
     pub e: u32,
     pub hours: u64,
     pub pages: usize,
     pub total: u64,
+    pub table: usize,
     pub code: usize,
     pub bits: usize,
 }
@@ -82,7 +84,7 @@ pub enum Planned {
     Refused(u32),
 }
 
-// The layout of a plan that has all its pages: refusal 3. A root's width is known only now.
+// The layout of a plan that has all its pages: refusal 3. A root's width and the edition are known only now.
 pub fn finish(plan: Plan) -> Planned
     requires { ⌜ Whole plan ⌝ }
     ensures { λ r. ⌜ ((a : Whole plan) → PlannedOf (a .e) (a .xs) r) ⌝ }
@@ -91,13 +93,15 @@ pub fn finish(plan: Plan) -> Planned
         return Planned::Refused(refusal::TOTAL);
     }
     let pages = plan.pages;
-    let code = 8 * (Head::SIZE + 4 * pages);
+    let table = header_size(Head::NARROW_TOTAL < plan.total);
+    let code = 8 * (table + 4 * pages);
     let bits = pages * (reserve::digits_of(plan.total) as usize) + plan.trees;
     Planned::Image(Layout {
         e: plan.e,
         hours: plan.hours,
         pages,
         total: plan.total,
+        table,
         code,
         bits,
     })
@@ -108,5 +112,5 @@ pub fn size(r: Layout) -> u64
     requires { ⌜ Laying r ⌝ }
     ensures { λ n. ⌜ ((a : Laying r) → n ≡ length (image (r .e) (a .xs))) ⌝ }
 {
-    size_of(r.e, r.hours, r.bits as u64)
+    size_of(r.table, r.e, r.hours, r.bits as u64)
 }

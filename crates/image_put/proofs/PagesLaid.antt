@@ -11,8 +11,9 @@ use Rattle.lists.proofs.Parts.{length-splice}
 use Rattle.bits.specs.Bits.{bits}
 use Rattle.bits.specs.Numbers.{little}
 use Rattle.bits.proofs.Laws.{length-bits}
-use Rattle.image.specs.Image.{bytesFor, code, codeStart, header, image, maxTotal, pageCode, pages, size, start, tableAt}
-use Rattle.image.proofs.ReadLaws.{length-image}
+use Rattle.image.specs.Image.{bytesFor, code, codeStart, header, headerLength, image, maxTotal, pageCode, pages, size, start, tableAt, wide}
+use Rattle.image.proofs.ReadLaws.{length-header, length-image}
+use Rattle.image.proofs.Editions.{header-least, header-most}
 use Rattle.image.proofs.PageLaws.{code-most, pages-few}
 use Rattle.image_put.specs.Code.Writing.{Laid, PlaceOf, Room, laid}
 use Rattle.image_plan.specs.declared.Layout.{Layout}
@@ -29,26 +30,30 @@ first-place e xs = record { start-is = refl; before-is = sym (ap (λ (z : ℕ). 
 
 -- the image's bits of code lie in a buffer of that length
 code-in : {xs : List ℕ} {r : Layout} {first : List ℕ} (b : List ℕ) → Room xs r first → length b ≡ length first
-    → codeStart (pages (r .e) (length xs)) + length (code (r .e) xs) ≤ length (bits b)
+    → codeStart (wide (sum xs)) (pages (r .e) (length xs)) + length (code (r .e) xs) ≤ length (bits b)
 unfolding size bytesFor
 code-in {xs} {r} {first} b g l = omega (arith, g .enough, length-image (r .e) xs, length-bits b)
 
 -- an image of the layout r ends within n bytes
 pub record Ends (r : Layout) (n : ℕ) : Type 0 where
   pub e-most : r .e ≤ 8
-  pub code-most : r .code ≤ 524416
+  pub code-most : r .code ≤ 524480
+  pub table-low : r .table ≤ 24
   pub bits-most : r .bits ≤ maxTotal
   pub enough : r .code + 8 * ((r .bits + 7) / 8) ≤ 8 * n
-  pub long : 16 ≤ n
+  pub long : headerLength (wide (r .total)) ≤ n
+  pub short : 16 ≤ n
 
 pub ends : {xs : List ℕ} {r : Layout} {out : List ℕ} → Room xs r out → Ends r (length out)
 unfolding size bytesFor
 ends {xs} {r} {out} g = record {
   e-most = g .limits .e-high;
-  code-most = omega (arith, g .layout .code-is, pages-few (r .e) (length xs) (g .limits .e-low) (g .limits .hours));
+  code-most = omega (arith, g .layout .code-is, pages-few (r .e) (length xs) (g .limits .e-low) (g .limits .hours), header-most (wide (sum xs)));
+  table-low = omega (arith, g .layout .table-is, header-most (wide (sum xs)));
   bits-most = omega (arith, g .layout .bits-are, code-most (r .e) xs (g .limits));
   enough = omega (arith, g .layout .code-is, g .layout .bits-are, length-image (r .e) xs, g .enough);
-  long = omega (arith, length-image (r .e) xs, g .enough);
+  long = omega (arith, length-image (r .e) xs, g .enough, ap (λ (z : ℕ). headerLength (wide z)) (g .layout .total-is));
+  short = omega (arith, length-image (r .e) xs, g .enough, header-least (wide (sum xs)));
 }
 
 -- the header
@@ -64,14 +69,14 @@ begun {xs} {r} first out g h l q = record {
 }
 
 length-headed : (first : List ℕ) (r : Layout) → Ends r (length first) → length (headed first r) ≡ length first
-unfolding header little
-length-headed first r g = length-splice first 0 (header (r .e) (r .hours) (r .total) (r .bits)) (g .long)
+length-headed first r g =
+    length-splice first 0 (header (r .e) (r .hours) (r .total) (r .bits)) (omega (arith, g .long, length-header (r .e) (r .hours) (r .total) (r .bits)))
 
 -- one page more
 pub one-more : {xs first out : List ℕ} {r : Layout} {at : Place} (out₁ : List ℕ) (next : Place) → Laid xs first out r at → at .page < r .pages
     → length out₁ ≡ length out → next .page ≡ at .page + 1 → PlaceOf (r .e) xs next
-    → bits out₁ ≡ splice (splice (bits out) (8 * tableAt (at .page)) (bits (little 4 (start (r .e) xs (at .page)))))
-    (codeStart (pages (r .e) (length xs)) + start (r .e) xs (at .page)) (pageCode (r .e) xs (at .page))
+    → bits out₁ ≡ splice (splice (bits out) (8 * tableAt (wide (sum xs)) (at .page)) (bits (little 4 (start (r .e) xs (at .page)))))
+    (codeStart (wide (sum xs)) (pages (r .e) (length xs)) + start (r .e) xs (at .page)) (pageCode (r .e) xs (at .page))
     → Laid xs first out₁ r next
 one-more {xs} {first} {out} {r} {at} out₁ next a l k n p q =
     let b : List ℕ = bits (headed first r) in

@@ -7,25 +7,58 @@ use bits_field::put_field;
 use image::head::Head;
 use image_plan::Layout;
 use tree::sums::sum_of;
+ghost use mathlib.Core.Bool.{true, false};
 ghost use mathlib.Core.Path.{_≡_};
 ghost use Prim.Native.Nat.{_+_, _≤_};
 ghost use lib.ListN.{length};
 ghost use Rattle.lists.specs.Lists.{splice};
-ghost use Rattle.image.specs.Image.{header, headerLength, image};
-ghost use Rattle.image_put.specs.Code.Writing.{Filled, Handed, Laid, Roomy};
+ghost use Rattle.image.specs.Image.{header, headerLength, image, wide};
+ghost use Rattle.image_put.specs.Code.Writing.{Filled, Handed, Laid, Roomy, headFront, headTail};
 
-// Writes the header.
-fn put_header(out: &mut [u8], r: Layout)
-    requires { ⌜ (headerLength ≤ length (now out)) × (r .e ≤ 8) ⌝ }
-    ensures { λ _. ⌜ now (out .exit) ≡ splice (now (out .entry)) 0 (header (r .e) (r .hours) (r .total) (r .bits)) ⌝ }
+// Writes the header's bytes 0 to 7, in which the editions differ by their number alone.
+fn put_front(out: &mut [u8], edition: u8, r: Layout)
+    requires { ⌜ (16 ≤ length (now out)) × (r .e ≤ 8) ⌝ }
+    ensures { λ _. ⌜ now (out .exit) ≡ splice (now (out .entry)) 0 (headFront edition (r .e) (r .hours)) ⌝ }
 {
-    out[0] = 1;
+    out[0] = edition;
     out[1] = r.e as u8;
     out[2] = 0;
     out[3] = 0;
     put4(out, 4, r.hours);
+}
+
+// Writes the tail of edition 1, S and L.
+fn put_narrow(out: &mut [u8], r: Layout)
+    requires { ⌜ 16 ≤ length (now out) ⌝ }
+    ensures { λ _. ⌜ now (out .exit) ≡ splice (now (out .entry)) 8 (headTail false (r .total) (r .bits)) ⌝ }
+{
     put4(out, 8, r.total);
     put4(out, 12, r.bits as u64);
+}
+
+// Writes the tail of edition 2: S in eight bytes, L, and zeros.
+fn put_wide(out: &mut [u8], r: Layout)
+    requires { ⌜ 24 ≤ length (now out) ⌝ }
+    ensures { λ _. ⌜ now (out .exit) ≡ splice (now (out .entry)) 8 (headTail true (r .total) (r .bits)) ⌝ }
+{
+    put4(out, 8, r.total);
+    put4(out, 12, r.total / 4294967296);
+    put4(out, 16, r.bits as u64);
+    put4(out, 20, 0);
+}
+
+// Writes the header: of edition 2 only where the total is above edition 1's.
+fn put_header(out: &mut [u8], r: Layout)
+    requires { ⌜ (headerLength (wide (r .total)) ≤ length (now out)) × (r .e ≤ 8) ⌝ }
+    ensures { λ _. ⌜ now (out .exit) ≡ splice (now (out .entry)) 0 (header (r .e) (r .hours) (r .total) (r .bits)) ⌝ }
+{
+    if r.total <= Head::NARROW_TOTAL {
+        put_front(out, 1, r);
+        put_narrow(out, r);
+        return;
+    }
+    put_front(out, 2, r);
+    put_wide(out, r);
 }
 
 // The place of the next page: its number, where it starts in the code, and the sum of the counts before it.
@@ -61,7 +94,7 @@ pub fn put_page(out: &mut [u8], r: Layout, at: Place, counts: &[u32], from: usiz
     let own = reserve::reserve_of(r.e, s);
     let root = at.before + s;
     let tree = at.start + (w as usize);
-    put4(out, Head::SIZE + 4 * at.page, at.start as u64);
+    put4(out, r.table + 4 * at.page, at.start as u64);
     put_field(out, r.code + at.start, w, root);
     tree_write::write(out, r.code + tree, r.e, counts, from, s, own);
     Place {

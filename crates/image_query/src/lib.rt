@@ -13,10 +13,10 @@ use tree_walk::walk;
 ghost use mathlib.Core.Path.{_≡_};
 ghost use Prim.Native.Nat.{_/_, _^_, _≤_, _<_};
 ghost use Rattle.tree_walk.specs.Code.Answers.{walkAnswer as walked};
-ghost use Rattle.image.specs.Query.{look as looked, count as counted, reading as read};
+ghost use Rattle.image.specs.Query.{ended, look as looked, count as counted, reading as read};
 ghost use Rattle.image.specs.Code.Head.{Opened};
 ghost use Rattle.image.specs.Code.Page.{PageAt};
-ghost use Rattle.image_query.specs.Code.Walk.{answered};
+ghost use Rattle.image_query.specs.Code.Walk.{Ends, answered, countAnswered};
 ghost use Rattle.answers.specs.Image.{told};
 
 // The page with hour i.
@@ -49,6 +49,40 @@ pub fn look(s: &[u8], h: Head, i: u64, keep: u64) -> u64
     look_in(s, h, page, i, keep)
 }
 
+// Whether the way to hour i in its page does not end at a count above the widest. Only a page with more coins than that can have one, and
+// only there the hour's count is looked at.
+fn ends_well(s: &[u8], h: Head, page: Page, i: u64) -> bool
+    requires { ⌜ Opened (now s) h × PageAt (now s) (i / 2 ^ (h .e)) page ⌝ }
+    ensures { λ r. ⌜ Ends (looked (now (s .entry)) i) r ⌝ }
+{
+    if page.sum <= Head::MAX_COUNT {
+        return true;
+    }
+    look_in(s, h, page, i, 0) <= Head::MAX_COUNT
+}
+
+// The way to hour i in its page, as a reading takes it: the counts before the hour, and its own; 2^63 for damage, which a count above the
+// widest is, too.
+fn look_through(s: &[u8], h: Head, page: Page, i: u64) -> u64
+    requires { ⌜ Opened (now s) h × PageAt (now s) (i / 2 ^ (h .e)) page ⌝ }
+    ensures { λ r. ⌜ r ≡ walked 0 1 (ended (looked (now (s .entry)) i)) ⌝ }
+{
+    if !ends_well(s, h, page, i) {
+        return DAMAGED;
+    }
+    look_in(s, h, page, i, 1)
+}
+
+// The answer of the way to a count: damage, too, is above the widest.
+fn count_of(count: u64) -> Answer
+    ensures { λ a. ⌜ told a ≡ countAnswered count ⌝ }
+{
+    if count <= Head::MAX_COUNT {
+        return Answer::Number(count);
+    }
+    Answer::Refused(refusal::BODY)
+}
+
 // The answer that the way found.
 fn answer_of(r: u64) -> Answer
     ensures { λ a. ⌜ told a ≡ answered r ⌝ }
@@ -71,7 +105,7 @@ pub fn count(s: &[u8], i: u64) -> Answer
     }
     let p = page_with(h, i);
     let page = page_between(h, root_of(s, h, p), root_before(s, h, p));
-    answer_of(look_in(s, h, page, i, 0))
+    count_of(look_in(s, h, page, i, 0))
 }
 
 // The reading at i: the sum of the counts of the hours before i.
@@ -90,5 +124,5 @@ pub fn reading(s: &[u8], i: u64) -> Answer
     let hour = i - 1;
     let p = page_with(h, hour);
     let page = page_between(h, root_of(s, h, p), root_before(s, h, p));
-    answer_of(look_in(s, h, page, hour, 1))
+    answer_of(look_through(s, h, page, hour))
 }

@@ -9,6 +9,8 @@ use native.Mathlib.Decide.{ℕ-discrete}
 use lib.ListN.{length, getD, take}
 use lib.Dec.{leb, eqb}
 use borrow.Author.Tests.{le-leb, lt-leb, eq-eqb, ne-eqb}
+use Rattle.lists.specs.Counts.{maxCount, within}
+use Rattle.lists.proofs.CountLaws.{within-each}
 use Rattle.lists.specs.Lists.{every, pick}
 use Rattle.lists.proofs.Tests.{every-last, every-no, every-of}
 use Rattle.bits.specs.Bits.{bits}
@@ -16,23 +18,22 @@ use Rattle.reserve.specs.Reserve.{digits, reserve}
 use Rattle.tree.specs.Code.Node.{Lies}
 use Rattle.tree_walk.specs.Code.Answers.{damageWord, walkAnswer as walked}
 use Rattle.tree.specs.Code.Exact.{clear}
-use Rattle.tree_lowest.specs.Code.Narrow.{narrow, within}
-use Rattle.tree_lowest.proofs.NarrowLaws.{within-each}
+use Rattle.tree_lowest.specs.Code.Narrow.{narrow}
 use Rattle.tree.specs.Read.{Found, damaged, found}
 use Rattle.image.specs.Check.{accepted, check}
 use Rattle.answers.specs.Image.{fails, Reply}
 use Rattle.image_test.specs.Code.Test.{Tests}
 use Rattle.image.specs.Code.Head.{Opened}
 use Rattle.image.specs.Code.Page.{RootAt}
-use Rattle.image.specs.Image.{bytesFor, maxCount}
-use Rattle.image.specs.Query.{look, passing, readingAt, theReading}
+use Rattle.image.specs.Image.{bytesFor}
+use Rattle.image.specs.Query.{look, passing, theReading}
 use Rattle.image.specs.Read.{codeAt, eOf, lOf, listOf, nOf, pagesOf, rootOf, sOf, startOf, widthOf}
-use Rattle.image_test.specs.Code.Test.{passesTest, pagesFrom, says}
+use Rattle.image_test.specs.Code.Test.{passesTest, pagesFrom, says, sumAt}
 use Rattle.image.proofs.Accepted.{accepted-only}
 use Rattle.image.proofs.DamageLaws.{beyond, is-beyond, within as not-beyond}
 use Rattle.image.proofs.HeadLaws.{Bounds, bounds, never}
 use Rattle.image_test.proofs.TestLaws.{test-is}
-use Rattle.image.proofs.PageLaws.{count-most, reserve-most}
+use Rattle.image.proofs.PageLaws.{reserve-most}
 use Rattle.image.proofs.RootLaws.{root-small}
 use Rattle.image_test.specs.declared.Tested.{Tested}
 use Rattle.image.specs.declared.head.Head.{Head}
@@ -91,7 +92,7 @@ module _ {s : List ℕ} {h : Head} {p : ℕ} {t : Root} (g : Own s h p t) where
   own : t .value ≡ rootOf s p
   own = g .root .value-is (g .ok)
 
-  pub own-small : t .value < 4294967296
+  pub own-small : t .value < 1099511627776
   own-small = omega (arith, own, root-small s p (f .narrow))
 
   pub own-within : t .end ≤ h .bits
@@ -148,9 +149,9 @@ module _ {s : List ℕ} {h : Head} {p : ℕ} {t : Root} {a x v : ℕ} (g : Stand
       record {
         height = f .e-high;
         total = omega (arith, own-small (g .own-root));
-        long = omega (arith, f .long);
+        long = omega (arith, f .long, f .head-low);
         inside = omega (arith, ev, o .head .code-is, f .code-at, f .long);
-        small = omega (arith, ev, o .head .code-is, f .code-at, f .few, o .head .bits-small);
+        small = omega (arith, ev, o .head .code-is, f .code-at, f .few, f .head-high, o .head .bits-small);
       }
 
   pub inexact : {most : ℕ} {r : Tested} → r .ok ≡ false → narrow most (h .e) (t .value - x) (bits s) (h .code + t .end) ≡ false → Tests most s p a x r
@@ -200,11 +201,11 @@ eqb-swap a b = go (ℕ-discrete a b)
     go (yes e) = eq-eqb a b e ∙ sym (eq-eqb b a (sym e))
     go (no e) = ne-eqb a b e ∙ sym (ne-eqb b a (λ q. e (sym q)))
 
-pub rest-none : (s : List ℕ) (h : Head) → Opened s h → h .hours ≡ 0 → eqb (h .total) 0 ≡ says (readingAt s (nOf s)) (sOf s)
-unfolding readingAt says
+pub rest-none : (s : List ℕ) (h : Head) → Opened s h → h .hours ≡ 0 → eqb (h .total) 0 ≡ says (sumAt s (nOf s)) (sOf s)
+unfolding sumAt says
 rest-none s h o e =
     ap (λ (z : ℕ). eqb z 0) (o .head .total-is) ∙ eqb-swap (sOf s) 0
-    ∙ ap (λ (z : ℕ). says (readingAt s z) (sOf s)) {x = 0} {y = nOf s} (sym e ∙ o .head .hours-is)
+    ∙ ap (λ (z : ℕ). says (sumAt s z) (sOf s)) {x = 0} {y = nOf s} (sym e ∙ o .head .hours-is)
 
 says-told : (f : Found) (t : ℕ) → t < 2 ^ 63 → eqb (walked 0 1 f) t ≡ says (theReading f) t
 unfolding walked theReading says
@@ -212,13 +213,13 @@ says-told damaged t l = ne-eqb damageWord t (λ e. omega (arith, e))
 says-told (found x c) t l = ap (λ (z : ℕ). eqb z t) {x = 0 + 1 * x + c} {y = x + c} (omega arith)
 
 pub rest-some : (s : List ℕ) (h : Head) → Opened s h → (r : ℕ) → (h .hours ≡ 0 → ⊥) → r ≡ walked 0 1 (look s (h .hours - 1))
-    → eqb r (h .total) ≡ says (readingAt s (nOf s)) (sOf s)
-unfolding readingAt
+    → eqb r (h .total) ≡ says (sumAt s (nOf s)) (sOf s)
+unfolding sumAt
 rest-some s h o r n e =
     ap₂ eqb e (o .head .total-is) ∙ says-told (look s (h .hours - 1)) (sOf s) (omega (arith, o .head .total-is, o .head .total-small))
     ∙ ap (λ (z : Reply). says z (sOf s)) (last (h .hours) (nOf s) n (o .head .hours-is))
   where
-    last : (k n : ℕ) → (k ≡ 0 → ⊥) → k ≡ n → theReading (look s (k - 1)) ≡ readingAt s n
+    last : (k n : ℕ) → (k ≡ 0 → ⊥) → k ≡ n → theReading (look s (k - 1)) ≡ sumAt s n
     last k zero n e = absurd (n e)
     last k (suc m) n e = ap (λ (z : ℕ). theReading (look s z)) {x = k - 1} {y = m} (omega (arith, e))
 
@@ -234,22 +235,22 @@ fill-is s h o =
     ap₂ (clear (bits s)) a (omega (arith, a, b))
 
 -- ---- the answer
-module _ (most : ℕ) {s : List ℕ} {h : Head} (o : Opened s h) (bytes : (i : ℕ) → getD s i 0 < 256) where
+module _ {most : ℕ} (few : most ≤ maxCount) {s : List ℕ} {h : Head} (o : Opened s h) (bytes : (i : ℕ) → getD s i 0 < 256) where
   abbrev three : List Bool
   three =
       pagesFrom most s (pagesOf s) 0 0 0
-      ∷ says (readingAt s (nOf s)) (sOf s)
+      ∷ says (sumAt s (nOf s)) (sOf s)
       ∷ clear (bits s) (codeAt s + lOf s) (8 * bytesFor (lOf s) - lOf s)
       ∷ []
 
   accepts : every three ≡ (accepted s && within most (listOf s))
   unfolding passesTest
-  accepts = sym (ap (λ (z : Bool). z && every three) (o .passed)) ∙ test-is most s bytes
+  accepts = sym (ap (λ (z : Bool). z && every three) (o .passed)) ∙ test-is most few s bytes
 
   pub test-fails : (i : ℕ) → getD three i true ≡ false → false ≡ (accepted s && within most (listOf s))
   test-fails i e = sym (sym accepts ∙ every-no three i e)
 
-  pub test-last : pagesFrom most s (pagesOf s) 0 0 0 ≡ true → says (readingAt s (nOf s)) (sOf s) ≡ true
+  pub test-last : pagesFrom most s (pagesOf s) 0 0 0 ≡ true → says (sumAt s (nOf s)) (sOf s) ≡ true
       → clear (bits s) (codeAt s + lOf s) (8 * bytesFor (lOf s) - lOf s) ≡ (accepted s && within most (listOf s))
   unfolding every
   test-last a b = sym (every-last (take 2 three) _ (every-of (take 2 three) (a, (b, tt)))) ∙ accepts
@@ -259,7 +260,7 @@ whole : (s : List ℕ) → (accepted s && within maxCount (listOf s)) ≡ accept
 whole s = go (accepted s) refl
   where
     go : (t : Bool) → accepted s ≡ t → (t && within maxCount (listOf s)) ≡ t
-    go true e = within-each maxCount (listOf s) (count-most (accepted-only s e .limits))
+    go true e = within-each maxCount (listOf s) (accepted-only s e .counts)
     go false e = refl
 
 pub check-6 : {s : List ℕ} {h : Head} → Opened s h → (accepted s && within maxCount (listOf s)) ≡ false → check s ≡ fails 6

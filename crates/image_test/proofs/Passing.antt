@@ -10,6 +10,7 @@ use lib.ListN.{length, getD, take, drop, length-drop}
 use lib.Seq.{take-add, take-append-add, take-suc, take-take}
 use lib.Dec.{eqb}
 use borrow.Author.Tests.{le-leb, leb-true, eq-eqb, eqb-true}
+use Rattle.lists.specs.Counts.{within}
 use Rattle.lists.specs.Lists.{concat, part, pick, sum, tabulate}
 use Rattle.lists.proofs.Sums.{sum-append}
 use Rattle.lists.proofs.Tables.{concat-at, concat-suc}
@@ -22,16 +23,16 @@ use Rattle.tree.specs.Read.{counts, found, later, walk}
 use Rattle.tree.specs.Tree.{tree}
 use Rattle.tree.specs.Code.Exact.{CodeOfCounts}
 use Rattle.tree.proofs.Exacts.{exact-coded}
-use Rattle.tree_lowest.specs.Code.Narrow.{narrow, within}
+use Rattle.tree_lowest.specs.Code.Narrow.{narrow}
 use Rattle.tree_lowest.proofs.NarrowLaws.{narrow-exact, narrow-within}
 use Rattle.tree.proofs.Shape.{length-counts}
 use Rattle.tree.proofs.WalkLaws.{shift, walk-tree}
 use Rattle.image.specs.Check.{headed}
 use Rattle.image.specs.Image.{bytesFor, size, tableAt}
-use Rattle.image.specs.Query.{beforePassing, look, lookIn, pageFine, readingAt, theReading}
-use Rattle.image.specs.Read.{beforeOf, codeAt, eOf, lOf, nOf, pageOf, pagesOf, rootOf, sOf, startOf, sumOf, treeAt, widthOf}
+use Rattle.image.specs.Query.{beforePassing, look, lookIn, pageFine, theReading}
+use Rattle.image.specs.Read.{beforeOf, codeAt, eOf, lOf, nOf, pageOf, pagesOf, rootOf, sOf, startOf, sumOf, treeAt, wideOf, widthOf}
 use Rattle.answers.specs.Image.{given}
-use Rattle.image_test.specs.Code.Test.{pagesFrom}
+use Rattle.image_test.specs.Code.Test.{pagesFrom, sumAt}
 use Rattle.image.proofs.DamageLaws.{is-within, within as not-beyond}
 use Rattle.image.proofs.PageLaws.{hour-low, hour-page, hour-split}
 
@@ -142,9 +143,9 @@ module _ {most : ℕ} (s : List ℕ) (hd : headed s ≡ true) (all : All most s 
   abbrev w : ℕ
   w = widthOf s
 
-  pub size-is : length s ≡ size e (nOf s) (lOf s)
+  pub size-is : length s ≡ size (wideOf s) e (nOf s) (lOf s)
   unfolding headed
-  size-is = eqb-true (length s) (size e (nOf s) (lOf s)) (each _ hd .1 .1 .1 .1 .1 .1 .1 .0)
+  size-is = eqb-true (length s) (size (wideOf s) e (nOf s) (lOf s)) (each _ hd .1 .1 .1 .1 .1 .1 .1 .1 .0)
 
   pub passes : (p : ℕ) → p < K → Passes most s p
   passes p l = all .page p (omega arith) (omega arith)
@@ -155,9 +156,9 @@ module _ {most : ℕ} (s : List ℕ) (hd : headed s ≡ true) (all : All most s 
   pub top : beforeOf s K ≡ sOf s
   top = ap (beforeOf s) {x = K} {y = 0 + K} (omega arith) ∙ all .top
 
-  pub body-long : length (drop (tableAt K) s) ≡ bytesFor (lOf s)
+  pub body-long : length (drop (tableAt (wideOf s) K) s) ≡ bytesFor (lOf s)
   unfolding size pagesOf
-  body-long = omega (arith, length-drop (tableAt K) s, size-is)
+  body-long = omega (arith, length-drop (tableAt (wideOf s) K) s, size-is)
 
   pub bits-long : length b ≡ c + 8 * bytesFor (lOf s)
   unfolding codeAt size pagesOf
@@ -237,8 +238,8 @@ module _ {most : ℕ} (s : List ℕ) (hd : headed s ≡ true) (all : All most s 
       ∙ shift (beforeOf s p) (sum (take j X)) (getD X j 0))
 
   -- the reading at any hour is the sum of the counts before it
-  pub reading-all : (i : ℕ) → i ≤ nOf s → readingAt s i ≡ given (sum (take i (concat (tabulate K (pageOf s)))))
-  unfolding readingAt look theReading sum pagesOf
+  pub reading-all : (i : ℕ) → i ≤ nOf s → sumAt s i ≡ given (sum (take i (concat (tabulate K (pageOf s)))))
+  unfolding sumAt look theReading sum pagesOf
   reading-all zero l = refl
   reading-all (suc i) l =
       let p : ℕ = i / 2 ^ e in

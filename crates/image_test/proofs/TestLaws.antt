@@ -1,14 +1,16 @@
 -- The code's test of an image is `accepted`, and `within` of its counts. Assumes nothing.
 use mathlib.Core.Path.{_≡_, refl, sym, ap, ap₂, _∙_}
-use mathlib.Core.Bool.{true, _&&_}
-use mathlib.Core.List.{List, [], _∷_, _++_}
+use mathlib.Core.Bool.{Bool, true, false, _&&_}
+use mathlib.Core.List.{List, [], _∷_, _++_, append-nil}
 use Prim.Native.Nat.{ℕ, zero, suc, _+_, _-_, _*_, _^_, _≤_, _<_}
 use native.Mathlib.Nat.{mul-zero}
-use native.Mathlib.Decide.{decLe}
 use native.Mathlib.Omega.{arith}
-use lib.ListN.{length, getD, List·getD-eq-default, take, drop, replicate, length-drop, length-replicate, take-append-drop}
+use lib.ListN.{length, getD, take, drop, replicate, length-drop, length-replicate, take-append-drop}
 use lib.Seq.{drop-at, drop-drop, take-add, take-all, getD-drop, take-length}
+use lib.Dec.{eqb, leb, ltb}
 use borrow.Author.Tests.{le-leb, leb-true, eq-eqb, eqb-true}
+use Rattle.lists.specs.Counts.{maxCount, within}
+use Rattle.lists.proofs.CountLaws.{within-at, within-concat, within-each, within-take}
 use Rattle.lists.specs.Lists.{concat, fill, part, same, sum, tabulate, window}
 use Rattle.lists.proofs.Pages.{concat-get}
 use Rattle.lists.proofs.Parts.{length-part, part-in, part-more}
@@ -24,23 +26,23 @@ use Rattle.reserve.specs.Reserve.{digits, reserve}
 use Rattle.tree.specs.Code.Exact.{clear}
 use Rattle.tree.specs.Tree.{tree}
 use Rattle.tree.proofs.Exacts.{field-part}
-use Rattle.tree_lowest.specs.Code.Narrow.{narrow, within}
-use Rattle.tree_lowest.proofs.NarrowLaws.{tree-narrow, within-at, within-concat, within-each, within-take}
-use Rattle.image.specs.Check.{accepted, headed}
-use Rattle.image.specs.Image.{Limits, bytesFor, code, header, headerLength, image, maxTotal, packed, page, pageCode, pages, root, size, start, table}
-use Rattle.image.specs.Image.{tableAt}
-use Rattle.image.specs.Query.{readingAt}
-use Rattle.image.specs.Read.{beforeOf, codeAt, eOf, lOf, listOf, nOf, pageOf, pagesOf, rootOf, sOf, startOf, sumOf, treeAt, widthOf}
+use Rattle.tree_lowest.specs.Code.Narrow.{narrow}
+use Rattle.tree_lowest.proofs.NarrowLaws.{tree-narrow}
+use Rattle.image.specs.Check.{accepted, headed, wideRight}
+use Rattle.image.specs.Image.{Limits, bitsPlace, bytesFor, code, edition, header, headerIn, headerLength, image, maxTotal, narrowTotal, packed, page, pageCode, pages, root, size, start, table}
+use Rattle.image.specs.Image.{tableAt, totalWidth, wide, zeroBytes}
+use Rattle.image.specs.Read.{beforeOf, codeAt, eOf, lOf, listOf, nOf, pageOf, pagesOf, rootOf, sOf, startOf, sumOf, treeAt, wideOf, widthOf}
 use Rattle.answers.specs.Image.{Reply, given}
-use Rattle.image_test.specs.Code.Test.{passesTest, pagesFrom, says}
+use Rattle.image_test.specs.Code.Test.{passesTest, pagesFrom, says, sumAt}
 use Rattle.image.proofs.ReadLaws.{before-is, bits-is, e-is, headed-image, l-is, last-root, n-is, pages-is, root-is, s-is, start-is, sum-is, tree-is, width-is}
 use Rattle.image.proofs.Packed.{drop-bits, tail}
-use Rattle.image.proofs.HeadLaws.{word-most}
-use Rattle.image.proofs.PageLaws.{getD-page, length-page, page-sum, start-next, start-within}
+use Rattle.image.proofs.HeadLaws.{headed-total, headed-wide}
+use Rattle.image.proofs.Editions.{header-least, header-low, total-low}
+use Rattle.image.proofs.PageLaws.{length-page, page-few, page-sum, start-next, start-within}
 use Rattle.image_test.proofs.Passing.{All, Passes, all-from, bits-long, body-long, code-fits, coded, first-sums, from-all, last, page-counts}
 use Rattle.image_test.proofs.Passing.{page-long, page-total, page-within, passes, placeOf, reading-all, size-is, top}
 use Rattle.image.proofs.Accepted.{accepted-only, length-list}
-use Rattle.image.proofs.QueryLaws.{reading-at}
+use Rattle.image.proofs.QueryLaws.{sum-to}
 
 -- ---- lists and bytes
 -- a list with the same sum as its front has nothing but zeros behind it
@@ -51,30 +53,34 @@ zero-tail (suc n) [] i q = refl
 zero-tail (suc n) (x ∷ xs) zero q = refl
 zero-tail (suc n) (x ∷ xs) (suc i) q = zero-tail n xs i (omega arith)
 
-head-parts : (s : List ℕ) → take 4 s ++ (part s 4 4 ++ (part s 8 4 ++ part s 12 4)) ≡ take headerLength s
-head-parts s =
-    sym (take-add 4 12 s ∙ ap (λ (z : List ℕ). take 4 s ++ z) (part-more s 4 4 8 ∙ ap (λ (z : List ℕ). part s 4 4 ++ z) (part-more s 8 4 4)))
+-- the header of an edition, by its parts
+head-parts : (s : List ℕ) (b : Bool)
+    → take 4 s ++ (part s 4 4 ++ (part s 8 (totalWidth b) ++ (part s (bitsPlace b) 4 ++ part s 20 (zeroBytes b)))) ≡ take (headerLength b) s
+head-parts s false =
+    ap (λ (z : List ℕ). take 4 s ++ (part s 4 4 ++ (part s 8 4 ++ z))) (append-nil (part s 12 4))
+    ∙ sym (take-add 4 12 s ∙ ap (λ (z : List ℕ). take 4 s ++ z) (part-more s 4 4 8 ∙ ap (λ (z : List ℕ). part s 4 4 ++ z) (part-more s 8 4 4)))
+head-parts s true =
+    sym (take-add 4 20 s ∙ ap (λ (z : List ℕ). take 4 s ++ z) (part-more s 4 4 16
+    ∙ ap (λ (z : List ℕ). part s 4 4 ++ z) (part-more s 8 8 8 ∙ ap (λ (z : List ℕ). part s 8 8 ++ z) (part-more s 16 4 4))))
 
-front-is : (s : List ℕ) (x : ℕ) → headerLength ≤ length s → getD s 0 0 ≡ 1 → getD s 1 0 ≡ x → getD s 2 0 ≡ 0 → getD s 3 0 ≡ 0
-    → 1 ∷ x ∷ 0 ∷ 0 ∷ [] ≡ take 4 s
-front-is (x₀ ∷ x₁ ∷ x₂ ∷ x₃ ∷ s) x l a b c d = sym (λ i. a i ∷ b i ∷ c i ∷ d i ∷ [])
-front-is [] x l a b c d = absurd (omega arith)
-front-is (x₀ ∷ []) x l a b c d = absurd (omega arith)
-front-is (x₀ ∷ x₁ ∷ []) x l a b c d = absurd (omega arith)
-front-is (x₀ ∷ x₁ ∷ x₂ ∷ []) x l a b c d = absurd (omega arith)
+front-is : (s : List ℕ) (d x : ℕ) → 16 ≤ length s → getD s 0 0 ≡ d → getD s 1 0 ≡ x → getD s 2 0 ≡ 0 → getD s 3 0 ≡ 0
+    → d ∷ x ∷ 0 ∷ 0 ∷ [] ≡ take 4 s
+front-is (x₀ ∷ x₁ ∷ x₂ ∷ x₃ ∷ s) d x l a b c e = sym (λ i. a i ∷ b i ∷ c i ∷ e i ∷ [])
+front-is [] d x l a b c e = absurd (omega arith)
+front-is (x₀ ∷ []) d x l a b c e = absurd (omega arith)
+front-is (x₀ ∷ x₁ ∷ []) d x l a b c e = absurd (omega arith)
+front-is (x₀ ∷ x₁ ∷ x₂ ∷ []) d x l a b c e = absurd (omega arith)
+
+-- the zeros behind L
+zeros-are : (s : List ℕ) → ((i : ℕ) → getD s i 0 < 256) → (b : Bool) → headerLength b ≤ length s → wideRight b s ≡ true
+    → little (zeroBytes b) 0 ≡ part s 20 (zeroBytes b)
+unfolding wideRight little
+zeros-are s bytes false l q = refl
+zeros-are s bytes true l q =
+    ap (little 4) (sym (eqb-true (numberAt s 20 4) 0 (each (ltb narrowTotal (sOf s) ∷ leb (sOf s) maxTotal ∷ eqb (numberAt s 20 4) 0 ∷ []) q .1 .1 .0)))
+    ∙ sym (stored s bytes 20 4 l)
 
 -- ---- an image passes
--- a page has no count that the list lacks
-pub within-page : (most e p : ℕ) (xs : List ℕ) → within most xs ≡ true → within most (page e xs p) ≡ true
-within-page most e p xs h = within-each most (page e xs p) at-each
-  where
-    at-each : (j : ℕ) → getD (page e xs p) j 0 ≤ most
-    at-each j = go (decLe (suc j) (2 ^ e))
-      where
-        go : Dec (suc j ≤ 2 ^ e) → getD (page e xs p) j 0 ≤ most
-        go (yes l) = rw (getD-page e xs p j l) (within-at most xs h (2 ^ e * p + j))
-        go (no l) = rw (List·getD-eq-default (page e xs p) 0 {n = j} (omega (arith, l, length-page e xs p))) (omega arith)
-
 module _ (most e : ℕ) (xs : List ℕ) (m : Limits e xs) (few : within most xs ≡ true) where
   abbrev S : List ℕ
   S = image e xs
@@ -97,7 +103,7 @@ module _ (most e : ℕ) (xs : List ℕ) (m : Limits e xs) (few : within most xs 
     tree =
         ap₂ (λ (h z : ℕ). narrow most h z (bits S) (codeAt S + placeOf S p + widthOf S)) (e-is e xs) (sum-is e xs m p l)
         ∙ ap (λ (z : ℕ). narrow most e (sum (page e xs p)) (bits S) (codeAt S + z + widthOf S)) (place-start p (omega arith) ∙ sym (start-is e xs m p l))
-        ∙ tree-narrow most e (page e xs p) (bits S) (treeAt S p) (length-page e xs p) (tree-is e xs m p l) (within-page most e p xs few);
+        ∙ tree-narrow most e (page e xs p) (bits S) (treeAt S p) (length-page e xs p) (tree-is e xs m p l) (page-few most e p xs (within-at most xs few));
   }
 
   image-all : All most S P 0
@@ -120,6 +126,11 @@ module _ (most e : ℕ) (xs : List ℕ) (m : Limits e xs) (few : within most xs 
       ∙ ap (λ (z : List ℕ). same z Z) (take-all (8 * bytesFor n - n) Z (omega (arith, length-replicate {A = ℕ} (8 * bytesFor n - n) 0)))
       ∙ same-refl Z
 
+  sum-at : (i : ℕ) → i ≤ length xs → sumAt S i ≡ given (sum (take i xs))
+  unfolding sumAt sum
+  sum-at zero l = refl
+  sum-at (suc i) l = sum-to e xs m i l
+
   pub image-passes-test : passesTest most S ≡ true
   unfolding passesTest placeOf beforeOf says
   image-passes-test =
@@ -127,7 +138,7 @@ module _ (most e : ℕ) (xs : List ℕ) (m : Limits e xs) (few : within most xs 
       (every-of _ (
         ap (λ (z : ℕ). pagesFrom most S z 0 0 0) (pages-is e xs m) ∙ all-from most S P 0 image-all,
         (
-          ap₂ says (ap (readingAt S) (n-is e xs m) ∙ reading-at e xs m (length xs) (omega arith)
+          ap₂ says (ap (sumAt S) (n-is e xs m) ∙ sum-at (length xs) (omega arith)
               ∙ ap (λ (z : List ℕ). given (sum z)) (take-length xs)) (s-is e xs m) ∙ eq-eqb (sum xs) (sum xs) refl,
           (image-clear, tt),
         ),
@@ -242,68 +253,75 @@ module _ (most : ℕ) (s : List ℕ) (bytes : (i : ℕ) → getD s i 0 < 256) (h
       ap length (codes p (omega arith)) ∙ length-part b c (placeOf s p) (omega (arith, place-le p l, code-fits s header-ok all))
       ∙ sym (pass p l .place)
 
-  packed-same : packed (code e xs) ≡ drop (tableAt K) s
+  packed-same : packed (code e xs) ≡ drop (tableAt (wideOf s) K) s
   unfolding packed fill codeAt
   packed-same =
       let n : ℕ = bytesFor (lOf s) in
-      let z : List ℕ = drop (tableAt K) s in
+      let z : List ℕ = drop (tableAt (wideOf s) K) s in
       let r : part b c (lOf s) ++ part b (c + lOf s) (8 * n - lOf s) ≡ bits z =
       sym (part-more b c (lOf s) (8 * n - lOf s)) ∙ take-all (lOf s + (8 * n - lOf s)) (drop c b)
-      (omega (arith, length-drop c b, bits-long s header-ok all)) ∙ drop-bits (tableAt K) s in
+      (omega (arith, length-drop c b, bits-long s header-ok all)) ∙ drop-bits (tableAt (wideOf s) K) s in
       ap₂ (λ (k : ℕ) (y : List ℕ). pack (bytesFor k) (y ++ replicate (8 * bytesFor k - k) 0)) code-long code-same
       ∙ ap (λ (y : List ℕ). pack n (part b c (lOf s) ++ y)) (sym rest-clear)
       ∙ ap (pack n) r
       ∙ ap (λ (k : ℕ). pack k (bits z)) (sym (body-long s header-ok all))
-      ∙ pack-bits z (λ i. rw (getD-drop (tableAt K) s i 0) (bytes (tableAt K + i)))
+      ∙ pack-bits z (λ i. rw (getD-drop (tableAt (wideOf s) K) s i 0) (bytes (tableAt (wideOf s) K + i)))
 
-  table-same : table e xs ≡ part s headerLength (4 * K)
+  table-same : table e xs ≡ part s (headerLength (wideOf s)) (4 * K)
   unfolding table size pagesOf startOf
   table-same =
-      let T : List ℕ = part s headerLength (4 * K) in
+      let T : List ℕ = part s (headerLength (wideOf s)) (4 * K) in
       ap (λ (z : ℕ). concat (tabulate z (λ p. little 4 (start e xs p)))) pages-same
       ∙ ap concat (tabulate-ext K (λ p. little 4 (start e xs p)) (λ p. part T (4 * p) 4)
-      (λ p l. ap (little 4) (start-same p l) ∙ sym (stored s bytes (tableAt p) 4 (omega (arith, size-is s header-ok all)))
-      ∙ part-in s T headerLength (4 * K) (4 * p) 4 refl (omega arith)))
-      ∙ chop 4 K T (length-part s headerLength (4 * K) (omega (arith, size-is s header-ok all)))
+      (λ p l. ap (little 4) (start-same p l) ∙ sym (stored s bytes (tableAt (wideOf s) p) 4 (omega (arith, size-is s header-ok all)))
+      ∙ part-in s T (headerLength (wideOf s)) (4 * K) (4 * p) 4 refl (omega arith)))
+      ∙ chop 4 K T (length-part s (headerLength (wideOf s)) (4 * K) (omega (arith, size-is s header-ok all)))
 
-  header-same : header e (length xs) (sum xs) (length (code e xs)) ≡ take headerLength s
-  unfolding header nOf sOf lOf eOf headed size
+  abbrev B : Bool
+  B = wideOf s
+
+  wide-same : wide (sum xs) ≡ B
+  wide-same = ap wide total ∙ headed-wide s bytes header-ok
+
+  long : headerLength B ≤ length s
+  unfolding headed
+  long = leb-true (headerLength B) (length s) (each _ header-ok .0)
+
+  header-same : header e (length xs) (sum xs) (length (code e xs)) ≡ take (headerLength B) s
+  unfolding header headerIn nOf sOf lOf eOf headed
   header-same =
       let w = each _ header-ok in
-      let word : (a : ℕ) → a + 4 ≤ length s → little 4 (numberAt s a 4) ≡ part s a 4 = λ a l. sym (stored s bytes a 4 l) in
-      let long′ : headerLength ≤ length s = leb-true headerLength (length s) (w .0) in
-      ap₂ (λ (n t : ℕ). header e n t (length (code e xs))) hours-long total ∙ ap (header e (nOf s) (sOf s)) code-long
-      ∙ ap₂ _++_ (front-is s e long′ (eqb-true (getD s 0 0) 1 (w .1 .0)) refl (eqb-true (getD s 2 0) 0 (w .1 .1 .1 .1 .0))
-      (eqb-true (getD s 3 0) 0 (w .1 .1 .1 .1 .1 .0)))
-      (ap₂ _++_ (word 4 (omega arith)) (ap₂ _++_ (word 8 (omega arith)) (word 12 (omega arith))))
-      ∙ head-parts s
-
-  long : headerLength ≤ length s
-  unfolding headed
-  long = leb-true headerLength (length s) (each _ header-ok .0)
+      let word : (a n : ℕ) → a + n ≤ length s → little n (numberAt s a n) ≡ part s a n = λ a n l. sym (stored s bytes a n l) in
+      ap (λ (b : Bool). headerIn b e (length xs) (sum xs) (length (code e xs))) wide-same
+      ∙ ap₂ (λ (n t : ℕ). headerIn B e n t (length (code e xs))) hours-long total ∙ ap (headerIn B e (nOf s) (sOf s)) code-long
+      ∙ ap₂ _++_ (front-is s (edition B) e (omega (arith, long, header-least B)) (eqb-true (getD s 0 0) (edition B) (w .1 .0)) refl
+      (eqb-true (getD s 2 0) 0 (w .1 .1 .1 .1 .0)) (eqb-true (getD s 3 0) 0 (w .1 .1 .1 .1 .1 .0)))
+      (ap₂ _++_ (word 4 4 (omega (arith, long, header-least B))) (ap₂ _++_ (word 8 (totalWidth B) (omega (arith, long, total-low B)))
+      (ap₂ _++_ (word (bitsPlace B) 4 (omega (arith, long, header-low B))) (zeros-are s bytes B long (w .1 .1 .1 .1 .1 .1 .1 .0)))))
+      ∙ head-parts s B
 
   pub image-same : image e xs ≡ s
   unfolding image
   image-same =
       ap₂ _++_ header-same (ap₂ _++_ table-same packed-same)
-      ∙ ap (λ (z : List ℕ). take headerLength s ++ (part s headerLength (4 * K) ++ z)) (sym (drop-drop (4 * K) headerLength s))
-      ∙ ap (λ (z : List ℕ). take headerLength s ++ z) (take-append-drop (4 * K) (drop headerLength s))
-      ∙ take-append-drop headerLength s
-
-  pub passing-accepted : accepted s ≡ true
-  unfolding accepted sOf
-  passing-accepted =
-      both header-ok (both (le-leb (sum xs) maxTotal (omega (arith, total, word-most s bytes 8 (omega (arith, long)))))
-      (ap (same s) image-same ∙ same-refl s))
+      ∙ ap (λ (z : List ℕ). take (headerLength B) s ++ (part s (headerLength B) (4 * K) ++ z)) (sym (drop-drop (4 * K) (headerLength B) s))
+      ∙ ap (λ (z : List ℕ). take (headerLength B) s ++ z) (take-append-drop (4 * K) (drop (headerLength B) s))
+      ∙ take-append-drop (headerLength B) s
 
   pub passing-within : within most xs ≡ true
   unfolding listOf
   passing-within = within-take most (nOf s) Y (within-concat most K (pageOf s) (λ p l. page-within s header-ok all p l))
 
+  pub passing-accepted : most ≤ maxCount → accepted s ≡ true
+  unfolding accepted
+  passing-accepted few =
+      both header-ok (both (le-leb (sum xs) maxTotal (omega (arith, total, headed-total s bytes header-ok)))
+      (both (within-each maxCount xs (λ i. omega (arith, within-at most xs passing-within i))) (ap (same s) image-same ∙ same-refl s)))
+
 -- the code's test is the statement
-pub test-is : (most : ℕ) (s : List ℕ) → ((i : ℕ) → getD s i 0 < 256) → passesTest most s ≡ (accepted s && within most (listOf s))
-test-is most s bytes =
-    agree (passesTest most s) (accepted s && within most (listOf s)) (λ h. both (passing-accepted most s bytes h) (passing-within most s bytes h))
+pub test-is : (most : ℕ) → most ≤ maxCount → (s : List ℕ) → ((i : ℕ) → getD s i 0 < 256) → passesTest most s ≡ (accepted s && within most (listOf s))
+test-is most few s bytes =
+    agree (passesTest most s) (accepted s && within most (listOf s)) (λ h. both (passing-accepted most s bytes h few) (passing-within most s bytes h))
     (λ t. let a = left (accepted s) (within most (listOf s)) t in
     ap (passesTest most) (accepted-only s a .bytes)
     ∙ image-passes-test most (eOf s) (listOf s) (accepted-only s a .limits) (right (accepted s) (within most (listOf s)) t))

@@ -7,3 +7,4 @@ pub mod Tests
 pub mod Occurrences
 pub mod Reach
 pub mod Pages
+pub mod CountLaws

@@ -32,16 +32,16 @@ module _ (s : List ℕ) (a : accepted s ≡ true) {h : Head} (o : HeadOf s h) wh
   hours = omega (arith, length-list s, o .hours-is)
 
   -- no hours have more coins than all
-  pub coins-small : (k : ℕ) → reading (listOf s) k ≤ 4294967295
+  pub coins-small : (k : ℕ) → reading (listOf s) k ≤ 1099511627775
   coins-small k = omega (arith, sum-take-le k (listOf s), accepted-only s a .limits .total)
 
   -- the sum of a page is that of some hours
-  pub page-small : (page : FrontPage) → RunOf (listOf s) page → page .sum ≤ 4294967295
+  pub page-small : (page : FrontPage) → RunOf (listOf s) page → page .sum ≤ 1099511627775
   page-small page g =
       omega (arith, run-reading (listOf s) (page .first) (page .hours), g .sum-is, coins-small (page .first + page .hours))
 
   pub counts-small : (page : FrontPage) (counts : List ℕ) → RunOf (listOf s) page → CountsOf (listOf s) page counts
-      → reading counts (page .hours) ≤ 4294967295
+      → reading counts (page .hours) ≤ 1099511627775
   counts-small page counts g f = omega (arith, page-small page g, g .sum-is, f .readings (page .hours) (omega arith))
 
   -- the root of an hour's page
@@ -112,7 +112,7 @@ module _ (s : List ℕ) (a : accepted s ≡ true) {h : Head} (o : HeadOf s h) wh
     held-counts : CountsOf (listOf s) page counts
     held-counts = record { long = held-long; readings = held-readings }
 
-    pub held-small : reading counts (page .hours) ≤ 4294967295
+    pub held-small : reading counts (page .hours) ≤ 1099511627775
     held-small = counts-small page counts (g .run-is) held-counts
 
     pub held-page : (marks : List ℕ) → Marked counts (page .hours) (page .stamp) marks → InHand (listOf s) page counts marks

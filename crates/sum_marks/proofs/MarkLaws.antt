@@ -61,7 +61,7 @@ unmarked marks stamp t e xs n m k a b g =
     eqb-false (getD marks (t % marksLength) 0) stamp e (ap (λ (z : ℕ). getD marks (z % marksLength) 0) (sym g) ∙ m .stamped k a b)
 
 -- the sum of the first counts, with one more, where that of all is small
-pub sum-fits : (xs : List ℕ) (n i t : ℕ) → n ≤ length xs → reading xs n ≤ 4294967295 → i < n → t ≡ reading xs i
+pub sum-fits : (xs : List ℕ) (n i t : ℕ) → n ≤ length xs → reading xs n ≤ 1099511627775 → i < n → t ≡ reading xs i
     → t + getD xs i 0 < 18446744073709551616
 sum-fits xs n i t l h b e = omega (arith, reading-next xs i (omega arith), reading-grows xs (i + 1) n (omega arith))
 

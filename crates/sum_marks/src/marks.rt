@@ -12,7 +12,7 @@ pub const MARKS_LENGTH: u64 = 2048;
 
 // Marks the sums of n counts.
 pub fn mark(counts: &[u32], n: usize, stamp: u8, marks: &mut [u8])
-    requires { ⌜ (n ≤ length (now counts)) × (reading (now counts) n ≤ 4294967295) × (length (now marks) ≡ marksLength) ⌝ }
+    requires { ⌜ (n ≤ length (now counts)) × (reading (now counts) n ≤ 1099511627775) × (length (now marks) ≡ marksLength) ⌝ }
     ensures { λ _. ⌜ Marked (now (counts .entry)) n stamp (now (marks .exit)) ⌝ }
 {
     let mut sum = 0;

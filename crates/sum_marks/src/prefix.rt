@@ -14,7 +14,7 @@ pub struct Prefix {
 
 // The fewest of n counts with as many coins as are wanted, or all. So far no more were wanted, and it goes on from where that ended.
 fn reach(counts: &[u32], n: usize, from: Prefix, want: u64) -> Prefix
-    requires { ⌜ (n ≤ length (now counts)) × (reading (now counts) n ≤ 4294967295) × PrefixOf (now counts) n want from ⌝ }
+    requires { ⌜ (n ≤ length (now counts)) × (reading (now counts) n ≤ 1099511627775) × PrefixOf (now counts) n want from ⌝ }
     ensures { λ r. ⌜ Tried (now (counts .entry)) n want r ⌝ }
 {
     let mut sum = from.sum;
@@ -31,7 +31,7 @@ fn reach(counts: &[u32], n: usize, from: Prefix, want: u64) -> Prefix
 
 // Looks for the first of n counts with just as many coins as are wanted: only where there is a mark.
 pub fn attempt(counts: &[u32], n: usize, marks: &[u8], stamp: u8, from: Prefix, want: u64) -> Prefix
-    requires { ⌜ (n ≤ length (now counts)) × (reading (now counts) n ≤ 4294967295) × PrefixOf (now counts) n want from ⌝ }
+    requires { ⌜ (n ≤ length (now counts)) × (reading (now counts) n ≤ 1099511627775) × PrefixOf (now counts) n want from ⌝ }
     requires { ⌜ Marked (now counts) n stamp (now marks) ⌝ }
     ensures { λ r. ⌜ Tried (now (counts .entry)) n want r ⌝ }
 {

@@ -1,2 +1,3 @@
 -- Laws of eight counts whose fours come out of a word each.
 pub mod EightCounts
+pub mod Limits

@@ -15,6 +15,7 @@ ghost use mathlib.Core.Bool.{true};
 ghost use mathlib.Core.Path.{_≡_};
 ghost use Prim.Native.Nat.{_+_, _≤_, _<_, _^_};
 ghost use lib.ListN.{length};
+ghost use Rattle.lists.specs.Counts.{maxCount, within};
 ghost use Rattle.lists.specs.Lists.{splice};
 ghost use Rattle.bits.specs.Bits.{bits};
 ghost use Rattle.reserve.specs.Reserve.{digits};
@@ -54,7 +55,7 @@ fn low_node(
     from: usize,
 )
     requires { ⌜ Sums (now table) × Lies (now (now b)) at h s × (exact h s (bits (now (now b))) at ≡ true) ⌝ }
-    requires { ⌜ (s < 4294967296) × (length (now out) ≡ 256) × (from + 2 ^ h ≤ 256) ⌝ }
+    requires { ⌜ (within maxCount (counts h s (bits (now (now b))) at) ≡ true) × (length (now out) ≡ 256) × (from + 2 ^ h ≤ 256) ⌝ }
     ensures { λ _. ⌜ now (out .exit) ≡ splice (now (out .entry)) from (counts h s (bits (now (now (b .entry)))) at) ⌝ }
 {
     if eight_in_table(h, s) {
@@ -83,7 +84,7 @@ fn low_node(
 // The eight counts with sum s at bit at: most sums are the table's, and need no call of the recursion.
 fn eights(b: &&[u8], table: &[u8; 864], at: usize, s: u64, out: &mut [u32; 256], from: usize)
     requires { ⌜ Sums (now table) × Lies (now (now b)) at 3 s × (exact 3 s (bits (now (now b))) at ≡ true) ⌝ }
-    requires { ⌜ (s < 4294967296) × (length (now out) ≡ 256) × (from + 8 ≤ 256) ⌝ }
+    requires { ⌜ (within maxCount (counts 3 s (bits (now (now b))) at) ≡ true) × (length (now out) ≡ 256) × (from + 8 ≤ 256) ⌝ }
     ensures { λ _. ⌜ now (out .exit) ≡ splice (now (out .entry)) from (counts 3 s (bits (now (now (b .entry)))) at) ⌝ }
 {
     if s < 256 {
@@ -104,7 +105,7 @@ fn decode_node(
     from: usize,
 )
     requires { ⌜ Sums (now table) × Lies (now (now b)) at h s × (exact h s (bits (now (now b))) at ≡ true) ⌝ }
-    requires { ⌜ (s < 4294967296) × (length (now out) ≡ 256) × (from + 2 ^ h ≤ 256) × (4 ≤ h) ⌝ }
+    requires { ⌜ (within maxCount (counts h s (bits (now (now b))) at) ≡ true) × (length (now out) ≡ 256) × (from + 2 ^ h ≤ 256) × (4 ≤ h) ⌝ }
     ensures { λ _. ⌜ now (out .exit) ≡ splice (now (out .entry)) from (counts h s (bits (now (now (b .entry)))) at) ⌝ }
 {
     if fits(h, s) {
@@ -135,7 +136,7 @@ pub fn decode(
     from: usize,
 )
     requires { ⌜ Sums (now table) × Lies (now b) at h s × (exact h s (bits (now b)) at ≡ true) ⌝ }
-    requires { ⌜ (s < 4294967296) × (length (now out) ≡ 256) × (from + 2 ^ h ≤ 256) ⌝ }
+    requires { ⌜ (within maxCount (counts h s (bits (now b)) at) ≡ true) × (length (now out) ≡ 256) × (from + 2 ^ h ≤ 256) ⌝ }
     ensures { λ _. ⌜ now (out .exit) ≡ splice (now (out .entry)) from (counts h s (bits (now (b .entry))) at) ⌝ }
 {
     if fits(h, s) {

@@ -10,6 +10,8 @@ use lib.Seq.{take-all}
 use lib.Dec.{leb, eqb}
 use lib.Pow.{shr-lt}
 use borrow.Author.Tests.{le-leb, lt-leb}
+use Rattle.lists.specs.Counts.{within}
+use Rattle.lists.proofs.CountLaws.{within-append}
 use Rattle.lists.specs.Lists.{every, same, part}
 use Rattle.lists.proofs.Parts.{length-part}
 use Rattle.bits.specs.Bits.{field, value, bits}
@@ -26,9 +28,9 @@ use Rattle.tree.proofs.Exacts.{counts-local, field-part}
 use Rattle.tree.proofs.TwoCounts.{reserve-pair}
 use Rattle.tree.proofs.Local.{tests, exact-tests, exact-local}
 use Rattle.tree_lowest.specs.Code.Four.{FourIn}
-use Rattle.tree_lowest.specs.Code.Narrow.{narrow, within}
+use Rattle.tree_lowest.specs.Code.Narrow.{narrow}
 use Rattle.tree_lowest.specs.declared.four.Four.{Four}
-use Rattle.tree_lowest.proofs.NarrowLaws.{narrow-is, narrow-not, never, within-append}
+use Rattle.tree_lowest.proofs.NarrowLaws.{narrow-is, narrow-not, never}
 
 -- ---- two counts: their tree is one field
 clear-nothing : (b : List ℕ) (a n : ℕ) → n ≡ 0 → clear b a n ≡ true

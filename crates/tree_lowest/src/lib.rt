@@ -8,11 +8,12 @@ ghost use mathlib.Core.List.{[], _∷_};
 ghost use mathlib.Core.Path.{_≡_};
 ghost use Prim.Native.Nat.{_+_, _*_, _≤_, _<_, _^_};
 ghost use lib.ListN.{length};
+ghost use Rattle.lists.specs.Counts.{within};
 ghost use Rattle.bits.specs.Bits.{bits, field};
 ghost use Rattle.reserve.specs.Reserve.{reserve as reserved};
 ghost use Rattle.tree.specs.Code.Exact.{clear, exact};
 ghost use Rattle.tree.specs.Code.Node.{Lies};
-ghost use Rattle.tree_lowest.specs.Code.Narrow.{narrow, within};
+ghost use Rattle.tree_lowest.specs.Code.Narrow.{narrow};
 
 // Whether n bits from bit at on are 0.
 pub fn zero_bits(b: &[u8], at: usize, n: usize) -> bool

@@ -7,6 +7,8 @@ use native.Mathlib.Numerals.{add-one}
 use native.Mathlib.Omega.{arith}
 use lib.Dec.{leb}
 use borrow.Author.Tests.{le-leb, lt-leb}
+use Rattle.lists.specs.Counts.{within}
+use Rattle.lists.proofs.CountLaws.{within-append}
 use Rattle.lists.specs.Lists.{every}
 use Rattle.bits.specs.Bits.{bits}
 use Rattle.bits.proofs.Laws.{length-bits}
@@ -17,8 +19,8 @@ use Rattle.tree.specs.Code.Exact.{clear, exact, spareAt, spareLen}
 use Rattle.tree.specs.Code.Node.{Lies}
 use Rattle.tree.proofs.Rooting.{Halves as Below, halves, top}
 use Rattle.tree_check.proofs.CheckSteps.{not-zero}
-use Rattle.tree_lowest.specs.Code.Narrow.{narrow, within}
-use Rattle.tree_lowest.proofs.NarrowLaws.{narrow-few, never, within-append}
+use Rattle.tree_lowest.specs.Code.Narrow.{narrow}
+use Rattle.tree_lowest.proofs.NarrowLaws.{narrow-few, never}
 use Rattle.tree_narrow.specs.Code.Halves.{Halved}
 use Rattle.tree_narrow.specs.declared.Halves.{Halves}
 

@@ -25,9 +25,9 @@ pair-exact k a b l = mod-eq-of-lt l
 
 -- ---- answers whose words lose nothing: cells are no more than a store has, N and S within their limits, refusals 1 to 20
 abbrev pub Small : End → Type 0
-Small (theNumber n) = n ≤ 4294967295
+Small (theNumber n) = n ≤ 1099511627775
 Small (theCells t r) = (t ≤ 1800) × (r ≤ 1800)
-Small (theSums n s) = (n ≤ 65536) × (s ≤ 4294967295)
+Small (theSums n s) = (n ≤ 65536) × (s ≤ 1099511627775)
 Small (theRun f s) = (f ≤ 65536) × (s < 1099511627776)
 Small (theHours f n) = (f ≤ 65536) × (1 ≤ n) × (n ≤ 65536)
 Small noRun = Unit {0}

@@ -1,6 +1,7 @@
 -- `book_out::to_bcd` meets its contract. Assumes nothing.
 use mathlib.Core.Bool.{false}
 use mathlib.Core.Path.{_≡_, sym, subst, _∙_}
+use native.Mathlib.Omega.{arith}
 use borrow.Author.Needs.{needs}
 use Rattle.lists.proofs.Tests.{left}
 use Rattle.image.specs.Check.{headed}
@@ -38,7 +39,7 @@ returns c =
     to-fails (a .s .now) (a .book .now) 5 (check-5 (a .s .now) (wrong c))
 
 passes-requires : tie.Need-passes-requires
-passes-requires c κs = opened c
+passes-requires c κs = (opened c, omega arith)
 
 write-book-requires : tie.Need-write-book-requires
 write-book-requires c κs =
@@ -57,7 +58,7 @@ returns-2 c =
     w .write-book .ensures ∙ to-past (a .s .now) (a .book .now) (left _ _ (sym (p .passes .ensures) ∙ w .before .before .if1 .taken))
 
 passes-requires-2 : tie.Need-passes-requires-2
-passes-requires-2 c κs = opened (c .before .before)
+passes-requires-2 c κs = (opened (c .before .before), omega arith)
 
 returns-3 : tie.Need-returns-3
 returns-3 c =

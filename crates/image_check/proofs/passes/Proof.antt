@@ -26,7 +26,7 @@ module _ (c : tie.After-pages-pass) where
 returns : tie.Need-returns
 returns c =
     let t = c .before in
-    test-fails (call t .args .widest) (call t .pre) (bytes t) 0 (sym (t .pages-pass .ensures) ∙ not-true (t .pages-pass .result) (c .if1 .taken))
+    test-fails (call t .pre .1) (call t .pre .0) (bytes t) 0 (sym (t .pages-pass .ensures) ∙ not-true (t .pages-pass .result) (c .if1 .taken))
 
 rest-zero-requires : tie.Need-rest-zero-requires
 rest-zero-requires c κs = search needs
@@ -35,7 +35,7 @@ returns-2 : tie.Need-returns-2
 returns-2 c =
     let r = c .before in
     let t = r .before .before in
-    test-fails (call t .args .widest) (call t .pre) (bytes t) 1 (sym (r .rest-zero .ensures) ∙ not-true (r .rest-zero .result) (c .if2 .taken))
+    test-fails (call t .pre .1) (call t .pre .0) (bytes t) 1 (sym (r .rest-zero .ensures) ∙ not-true (r .rest-zero .result) (c .if2 .taken))
 
 fill-zero-requires : tie.Need-fill-zero-requires
 fill-zero-requires c κs = search needs
@@ -45,7 +45,7 @@ returns-3 c =
     let r = c .before .before in
     let t = r .before .before in
     c .fill-zero .ensures
-    ∙ test-last (call t .args .widest) (call t .pre) (bytes t)
+    ∙ test-last (call t .pre .1) (call t .pre .0) (bytes t)
     (sym (t .pages-pass .ensures) ∙ not-false (t .pages-pass .result) (r .before .if1 .left))
     (sym (r .rest-zero .ensures) ∙ not-false (r .rest-zero .result) (c .before .if2 .left))
 

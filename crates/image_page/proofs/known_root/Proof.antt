@@ -25,7 +25,7 @@ get-field-requires : tie.Need-get-field-requires
 get-field-requires c κs =
     let a = c .before .before in
     let g = page a in
-    omega (arith, g .end-low, g .code-low, g .end-in, g .narrow, g .entry-in, a .pre .1 .code-is, a .pre .1 .width-is, c .start-of .ensures)
+    omega (arith, g .end-low, g .code-low, g .end-in, g .narrow, g .entry-in, g .head-low, a .pre .1 .code-is, a .pre .1 .width-is, c .start-of .ensures)
 
 returns : tie.Need-returns
 unfolding rootOf

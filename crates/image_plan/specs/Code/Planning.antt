@@ -7,7 +7,7 @@ use lib.ListN.{length}
 use Rattle.lists.specs.Lists.{reading, sum}
 use Rattle.reserve.specs.Reserve.{digits}
 use Rattle.image.specs.Calls.{lengthCall}
-use Rattle.image.specs.Image.{Limits, code, codeStart, maxHours, page, pages, start}
+use Rattle.image.specs.Image.{Limits, code, codeStart, headerLength, maxHours, page, pages, start, wide}
 use Rattle.answers.specs.Image.{refused}
 use Rattle.image_plan.specs.declared.Layout.{Layout}
 use Rattle.image_plan.specs.declared.Plan.{Plan}
@@ -68,7 +68,8 @@ pub record LayoutOf (e : ℕ) (xs : List ℕ) (r : Layout) : Type 0 where
   pub hours-are : r .hours ≡ length xs
   pub pages-are : r .pages ≡ pages e (length xs)
   pub total-is : r .total ≡ sum xs
-  pub code-is : r .code ≡ codeStart (pages e (length xs))
+  pub table-is : r .table ≡ headerLength (wide (sum xs))
+  pub code-is : r .code ≡ codeStart (wide (sum xs)) (pages e (length xs))
   pub bits-are : r .bits ≡ length (code e xs)
 
 -- a layout where xs has an image, else the refusal of length

@@ -7,7 +7,9 @@ use Rattle.image_put.proofs.begin.Statement.{statement}
 use Rattle.image_put.proofs.begin.Tie as tie
 
 put-header-requires : tie.Need-put-header-requires
-put-header-requires c κs = omega (arith, ends (c .before .before .pre .room))
+put-header-requires c κs =
+    let g = ends (c .before .before .pre .room) in
+    (g .long, g .e-most)
 
 same-length : tie.Need-same-length
 same-length c = search needs

@@ -1,63 +1,71 @@
--- `image_put::put_header` meets its contract: four stores and three numbers are the header (`header-put`). Assumes nothing.
-use native.Mathlib.Omega.{arith}
 use borrow.Author.Needs.{needs}
-use lib.ListN.{length-set}
-use Rattle.image_put.proofs.Writing.{header-put}
+use native.Mathlib.Omega.{arith}
+use Rattle.image.specs.Image.{wide}
+use Rattle.image.proofs.Editions.{header-least}
+use Rattle.image_put.proofs.Writing.{header-narrow, header-wide, wide-room}
+use borrow.Author.Needs.{needs}
 use Rattle.image_put.proofs.put_header.Statement.{statement}
 use Rattle.image_put.proofs.put_header.Tie as tie
+use Rattle.image_put.proofs.put_header.Reads as reads
+use Rattle.image_put.proofs.put_header.Lts as lts
+use Rattle.image_put.proofs.put_front.Reads as put-front-reads
+use Rattle.image_put.proofs.put_narrow.Reads as put-narrow-reads
+use Rattle.image_put.proofs.put_wide.Reads as put-wide-reads
 
-slice-write-out : tie.Need-slice-write-out
-slice-write-out c = search needs
+put-front-requires : tie.Need-put-front-requires
+put-front-requires c κs =
+    let a = c .before .before .before .before in
+    (omega (arith, a .pre .0, header-least (wide (a .args .r .total))), a .pre .1)
 
-cast-out : tie.Need-cast-out
-cast-out c = search needs
-
-slice-write-out-2 : tie.Need-slice-write-out-2
-slice-write-out-2 c = simp length-set (omega arith)
-
-slice-write-out-3 : tie.Need-slice-write-out-3
-slice-write-out-3 c = simp length-set (omega arith)
-
-slice-write-out-4 : tie.Need-slice-write-out-4
-slice-write-out-4 c = simp length-set (omega arith)
-
-put4-requires : tie.Need-put4-requires
-put4-requires c κs = simp length-set (omega arith)
-
-put4-requires-2 : tie.Need-put4-requires-2
-put4-requires-2 c κs = omega (arith, simp length-set at (c .before .before .before .put4 .kept .0))
-
-put4-requires-3 : tie.Need-put4-requires-3
-put4-requires-3 c κs =
-    let n = c .before .before .before in
-    omega (arith, n .put42 .kept .0, simp length-set at (n .before .before .before .before .put4 .kept .0))
+put-narrow-requires : tie.Need-put-narrow-requires
+put-narrow-requires c κs =
+    let a = c .before .before .before .before .before .before .before .before in
+    omega (arith, a .pre .0, header-least (wide (a .args .r .total)), c .before .before .before .put-front .kept .0)
 
 same-length : tie.Need-same-length
-same-length c =
-    let n = c .before .before in
-    let m = n .before .before .before .before in
-    omega (arith, n .put43 .kept .0, m .put42 .kept .0, simp length-set at (m .before .before .before .before .put4 .kept .0))
+same-length c = omega (arith, c .before .before .put-narrow .kept .0, c .before .before .before .before .before .before .put-front .kept .0)
 
 returns : tie.Need-returns
 returns c =
     let n = c .before .before in
-    let m = n .before .before .before .before in
-    let k = m .before .before .before .before in
-    let a = k .before .before .before .before .args in
-    header-put (a .out .now) (k .put4 .last .0) (m .put42 .last .0) (n .put43 .last .0) (a .r .e) (a .r .hours) (a .r .total) (a .r .bits)
-    (k .before .before .before .before .pre .0) (k .put4 .ensures) (m .put42 .ensures) (n .put43 .ensures)
+    let k = n .before .before .before .before in
+    let t = k .before .before in
+    let a = t .before .before .before in
+    header-narrow (a .args .out .now) _ _ (a .args .r .e) (a .args .r .hours) (a .args .r .total) (a .args .r .bits) (t .if1 .taken) (a .pre .0)
+    (k .put-front .ensures) (n .put-narrow .ensures)
+
+put-front-requires-2 : tie.Need-put-front-requires-2
+put-front-requires-2 c κs =
+    let a = c .before .before .before .before in
+    (omega (arith, a .pre .0, header-least (wide (a .args .r .total))), a .pre .1)
+
+put-wide-requires : tie.Need-put-wide-requires
+put-wide-requires c κs =
+    let t = c .before .before .before .before .before in
+    let a = t .before .before .before in
+    omega (arith, wide-room (a .args .r .total) _ (a .pre .0) (t .if1 .left), c .before .before .before .put-front2 .kept .0)
+
+same-length-2 : tie.Need-same-length-2
+same-length-2 c = omega (arith, c .before .before .put-wide .kept .0, c .before .before .before .before .before .before .put-front2 .kept .0)
+
+returns-2 : tie.Need-returns-2
+returns-2 c =
+    let n = c .before .before in
+    let k = n .before .before .before .before in
+    let t = k .before .before in
+    let a = t .before .before .before in
+    header-wide (a .args .out .now) _ _ (a .args .r .e) (a .args .r .hours) (a .args .r .total) (a .args .r .bits) (t .if1 .left) (a .pre .0)
+    (k .put-front2 .ensures) (n .put-wide .ensures)
 
 pub put-header-spec : {M : Type 1} → statement M
 put-header-spec =
     tie.close
     (tie.spec
-    slice-write-out
-    cast-out
-    slice-write-out-2
-    slice-write-out-3
-    slice-write-out-4
-    put4-requires
-    put4-requires-2
-    put4-requires-3
+    put-front-requires
+    put-narrow-requires
     same-length
-    returns)
+    returns
+    put-front-requires-2
+    put-wide-requires
+    same-length-2
+    returns-2)

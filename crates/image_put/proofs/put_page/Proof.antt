@@ -4,8 +4,9 @@ use mathlib.Core.Path.{_≡_, refl}
 use native.Mathlib.Omega.{arith}
 use borrow.Author.Needs.{needs}
 use lib.ListN.{length}
-use Rattle.image.specs.Image.{codeStart, pages}
-use Rattle.image_put.specs.Code.Writing.{Handed}
+use Rattle.lists.specs.Lists.{sum}
+use Rattle.image.specs.Image.{codeStart, headerLength, pages, wide}
+use Rattle.image_put.specs.Code.Writing.{Handed, headLength}
 use Rattle.image_put.proofs.PageSteps.{Step, next-place, page-put, size-low, step}
 use Rattle.image_put.proofs.PagesLaid.{one-more}
 use Rattle.image_put.proofs.put_page.Statement.{statement}
@@ -36,21 +37,24 @@ module _ (c : tie.After-sum-of) where
       (call .args .at .start) (call .args .at .before)
   own-numbers = numbers (call .pre)
 
-  layout : call .args .r .code ≡ codeStart (pages (call .args .r .e) (length (call .pre .xs)))
+  layout : call .args .r .code ≡ codeStart (wide (sum (call .pre .xs))) (pages (call .args .r .e) (length (call .pre .xs)))
   layout = call .pre .so-far .room .layout .code-is
+
+  table : call .args .r .table ≡ headLength (call .pre .xs)
+  table = call .pre .so-far .room .layout .table-is
 
 -- where the page's numbers stand, seen from each write
 abbrev at-put4 : tie.After-struct-known3 → tie.After-sum-of
 at-put4 c = c .before .before .before .before .before
 
-abbrev at-field : tie.After-struct-known5 → tie.After-sum-of
-at-field c = at-put4 (c .before .before .before .before .before .before)
+abbrev at-field : tie.After-struct-known6 → tie.After-sum-of
+at-field c = at-put4 (c .before .before .before .before .before .before .before)
 
-abbrev at-write : tie.After-struct-known6 → tie.After-sum-of
+abbrev at-write : tie.After-struct-known7 → tie.After-sum-of
 at-write c = at-field (c .before .before .before .before .before)
 
-abbrev reserved : tie.After-struct-known6 → tie.After-reserve-of
-reserved c = c .before .before .before .before .before .before .before .before .before .before .before .before .before .before .before
+abbrev reserved : tie.After-struct-known7 → tie.After-reserve-of
+reserved c = c .before .before .before .before .before .before .before .before .before .before .before .before .before .before .before .before
 
 power-requires : tie.Need-power-requires
 power-requires c κs = omega (arith, c .before .before .pre .so-far .room .limits)
@@ -76,13 +80,13 @@ add-tree : tie.Need-add-tree
 add-tree c = omega (arith, own-numbers (c .before .before .before))
 
 mul-put4 : tie.Need-mul-put4
-mul-put4 c = omega (arith, own-numbers (at-put4 c), call (at-put4 c) .pre .so-far)
+mul-put4 c = omega (arith, own-numbers (at-put4 c))
 
 add-put4 : tie.Need-add-put4
-add-put4 c = omega (arith, own-numbers (at-put4 c), call (at-put4 c) .pre .so-far)
+add-put4 c = omega (arith, own-numbers (at-put4 (c .before)), table (at-put4 (c .before)))
 
 put4-requires : tie.Need-put4-requires
-put4-requires c κs = omega (arith, own-numbers (at-put4 c))
+put4-requires c κs = omega (arith, own-numbers (at-put4 (c .before)), table (at-put4 (c .before)))
 
 add-put-field : tie.Need-add-put-field
 add-put-field c = omega (arith, own-numbers (at-field c), layout (at-field c))
@@ -131,7 +135,7 @@ returns c =
           let p = numbers n a in
           one-more (w .write .last .0) _ (a .so-far) (a .more) (omega (arith, w .write .kept .0, f .put-field .kept .0, o .put4 .kept .0)) refl
           (next-place p (v .result) (v .ensures))
-          (page-put p (s .r .code) (s .out .now) (o .put4 .last .0) (f .put-field .last .0) (w .write .last .0) (a .so-far .room .layout .code-is) refl
+          (page-put p (s .r .code) (s .r .table) (s .out .now) (o .put4 .last .0) (f .put-field .last .0) (w .write .last .0) (a .so-far .room .layout .table-is) (a .so-far .room .layout .code-is) refl
           (o .put4 .ensures) (f .put-field .ensures) (w .write .ensures)),
     )
 

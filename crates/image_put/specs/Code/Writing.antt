@@ -1,13 +1,14 @@
 -- What the functions ask and answer. The list xs stands nowhere in the code: it is the one whose pages a caller hands over.
 -- Assumes nothing.
-use mathlib.Core.List.{List, _++_}
+use mathlib.Core.Bool.{Bool}
+use mathlib.Core.List.{List, _∷_, _++_}
 use mathlib.Core.Path.{_≡_}
 use Prim.Native.Nat.{ℕ, _*_, _^_, _≤_, _<_}
 use lib.ListN.{length, getD}
-use Rattle.lists.specs.Lists.{concat, reading, splice, tabulate, window}
+use Rattle.lists.specs.Lists.{concat, reading, splice, sum, tabulate, window}
 use Rattle.bits.specs.Bits.{bits}
 use Rattle.bits.specs.Numbers.{little}
-use Rattle.image.specs.Image.{Limits, code, codeStart, firstPages, header, headerLength, image, maxHours, page, pages, start, table}
+use Rattle.image.specs.Image.{Limits, code, codeStart, firstPages, header, headerLength, image, maxHours, page, pages, start, table, totalWidth, wide, zeroBytes}
 use Rattle.image_plan.specs.Code.Planning.{LayoutOf}
 use Rattle.image_plan.specs.declared.Layout.{Layout}
 use Rattle.image_put.specs.declared.Place.{Place}
@@ -16,9 +17,23 @@ use Rattle.image_put.specs.declared.Place.{Place}
 abbrev pub starts : ℕ → List ℕ → ℕ → List ℕ
 starts e xs k = concat (tabulate k (λ p. little 4 (start e xs p)))
 
+-- the header's bytes 0 to 7, and the tail behind them
+abbrev pub headFront : ℕ → ℕ → ℕ → List ℕ
+headFront edition e n = edition ∷ e ∷ 0 ∷ 0 ∷ little 4 n
+
+abbrev pub headTail : Bool → ℕ → ℕ → List ℕ
+headTail b s l = little (totalWidth b) s ++ (little 4 l ++ little (zeroBytes b) 0)
+
+-- how long the header of the image of xs is, and where its code starts
+abbrev pub headLength : List ℕ → ℕ
+headLength xs = headerLength (wide (sum xs))
+
+abbrev pub codeOf : ℕ → List ℕ → ℕ
+codeOf e xs = codeStart (wide (sum xs)) (pages e (length xs))
+
 -- the bits b after the first k pages were put: start bits behind the header, code behind the whole table
 unfoldable pub laid : List ℕ → ℕ → List ℕ → ℕ → List ℕ
-laid b e xs k = splice (splice b (8 * headerLength) (bits (starts e xs k))) (codeStart (pages e (length xs))) (firstPages e xs k)
+laid b e xs k = splice (splice b (8 * headLength xs) (bits (starts e xs k))) (codeOf e xs) (firstPages e xs k)
 
 -- the bits of an image behind its header, but for the zeros that fill its last byte
 abbrev pub tableAndCode : ℕ → List ℕ → List ℕ

@@ -69,13 +69,13 @@ look-in-requires c κs =
       omega arith,
     )
 
-answer-of-requires : tie.Need-answer-of-requires
-answer-of-requires c κs = tt
+count-of-requires : tie.Need-count-of-requires
+count-of-requires c κs = tt
 
 returns-3 : tie.Need-returns-3
 returns-3 c =
     let l = c .before .before .before .before .before .before in
-    c .answer-of .ensures ∙ count-found (past (l .before .before .before)) _ (l .if1 .left) (c .before .look-in .ensures)
+    c .count-of .ensures ∙ count-found (past (l .before .before .before)) _ (l .if1 .left) (c .before .look-in .ensures)
 
 pub count-spec : {M : Type 1} → statement M
 count-spec =
@@ -91,5 +91,5 @@ count-spec =
     root-before-requires
     page-between-requires
     look-in-requires
-    answer-of-requires
+    count-of-requires
     returns-3)

@@ -67,13 +67,12 @@ page-between-requires c κs = record {
   last-at = c .root-before .ensures;
 }
 
-look-in-requires : tie.Need-look-in-requires
-look-in-requires c κs =
+look-through-requires : tie.Need-look-through-requires
+look-through-requires c κs =
     let t = c .before .before in
     let o = past (t .before .before .before .before .before .before) in (
       o,
       look-between _ _ o _ 1 (t .before .page-with .ensures) (t .root-of .ensures) (c .before .root-before .ensures) (c .page-between .ensures),
-      omega arith,
     )
 
 answer-of-requires : tie.Need-answer-of-requires
@@ -83,7 +82,7 @@ returns-4 : tie.Need-returns-4
 returns-4 c =
     let l = c .before .before .before .before .before .before in
     c .answer-of .ensures
-    ∙ reading-found (past (l .before .before .before .before)) _ (omega (arith, l .if2 .left)) (l .before .if1 .left) (c .before .look-in .ensures)
+    ∙ reading-found (past (l .before .before .before .before)) _ (omega (arith, l .if2 .left)) (l .before .if1 .left) (c .before .look-through .ensures)
 
 pub reading-spec : {M : Type 1} → statement M
 reading-spec =
@@ -100,6 +99,6 @@ reading-spec =
     root-of-requires
     root-before-requires
     page-between-requires
-    look-in-requires
+    look-through-requires
     answer-of-requires
     returns-4)

@@ -15,7 +15,7 @@ use Rattle.image.specs.Image.{bytesFor}
 use Rattle.answers.specs.Image.{Reply, given, refused}
 use Rattle.image.specs.Read.{eOf, nOf, sOf, lOf, pagesOf, widthOf, startOf, codeAt, rootOf}
 use Rattle.image.specs.Check.{headed}
-use Rattle.image.specs.Query.{passing, readingAt}
+use Rattle.image.specs.Query.{look, passing, theReading}
 use Rattle.image_test.specs.declared.Tested.{Tested}
 
 -- k pages from page p on, which is to start at bit a of the code, the root before it being x; at the end all L bits are used, and the
@@ -32,6 +32,11 @@ pagesFrom widest s (suc k) p a x =
     ∷ pagesFrom widest s k (suc p) (a + widthOf s + reserve (eOf s) (t - x)) t
     ∷ [])
 
+-- the reading at an hour's end, whatever the hour's count: the limit for counts is the pages' own
+unfoldable pub sumAt : List ℕ → ℕ → Reply
+sumAt s zero = given 0
+sumAt s (suc i) = theReading (look s i)
+
 -- a reply is this number
 unfoldable pub says : Reply → ℕ → Bool
 says (given n) t = eqb n t
@@ -43,7 +48,7 @@ passesTest widest s =
     headed s
     && every
     (pagesFrom widest s (pagesOf s) 0 0 0
-    ∷ says (readingAt s (nOf s)) (sOf s)
+    ∷ says (sumAt s (nOf s)) (sOf s)
     ∷ clear (bits s) (codeAt s + lOf s) (8 * bytesFor (lOf s) - lOf s)
     ∷ [])
 

@@ -33,7 +33,7 @@ module _ (c : tie.In-loop Inv-loop μ-loop) where
       let a = call .pre in
       omega (arith, place-here _ (a .0 .0) (a .0 .1) _ _ _ (a .1 .0 .1) (a .1 .0 .2) (c .before .loop .i + 3) (omega (arith, c .loop-test .taken)))
 
-  low : c .before .loop .want ≤ 4294967295
+  low : c .before .loop .want ≤ 1099511627775
   low = let a = call .pre .0 in omega (arith, c .before .loop .inv .1 .1, sum-small _ (a .0) (a .1) _ (a .2))
 
 loop-holds : tie.Need-loop-holds Inv-loop μ-loop

@@ -19,6 +19,7 @@ use borrow.Author.Needs.{needs}
 use Prim.Native.Nat.{ℕ, _<_}
 use borrow.Fn.Kinds.{In}
 use borrow.Fn.PlainCycle.{Measures, is, falls, and}
+use Rattle.tree_decode.proofs.Limits.{left-fits, of-that, right-fits}
 use Rattle.tree_decode.proofs.decode_node.Reads as decode-node
 use Rattle.tree_decode.proofs.decode_node.Kinds as decode-node-kinds
 use Rattle.tree_decode.proofs.+decode_node.Lts-decode_node as decode-node-lts
@@ -160,7 +161,7 @@ decode-node-eights-requires t c κs =
     let w = unfolded-at t n in
     let p = call t n .pre .1 in
     let k = eight-of (sixteen t e) (left-lies (p .0 .1) (w .node)) (w .left-exact) in
-    ((p .0 .0, k .0, k .1), (omega (arith, left-le t n, p .1 .0), p .1 .1, omega (arith, half-is t n, eight-is t e, p .1 .2)))
+    ((p .0 .0, k .0, k .1), (of-that _ _ _ (sixteen t e) (left-fits (w .node) (p .1 .0)), p .1 .1, omega (arith, half-is t n, eight-is t e, p .1 .2)))
 
 decode-node-sub-eights : (t : ℕ) → decode-node-lts.Need-sub-eights (callees t) (decode-node-at t) decode-node.Post
 decode-node-sub-eights t c = left-le t (c .before .before .before .before)
@@ -178,7 +179,7 @@ decode-node-eights-requires-2 t c κs =
     let w = unfolded-at t n in
     let p = call t n .pre .1 in
     let k = eight-of (sixteen t e) (right-lies (p .0 .1) (w .node)) (w .right-exact) in
-    ((p .0 .0, k .0, k .1), (omega (arith, p .1 .0), left-long t l, omega (arith, half-is t n, eight-is t e, p .1 .2)))
+    ((p .0 .0, k .0, k .1), (of-that _ _ _ (sixteen t e) (right-fits (w .node) (p .1 .0)), left-long t l, omega (arith, half-is t n, eight-is t e, p .1 .2)))
 
 decode-node-returns-2 : (t : ℕ) → decode-node-lts.Need-returns-2 (callees t) (decode-node-at t) decode-node.Post
 decode-node-returns-2 t c =
@@ -198,7 +199,7 @@ decode-node-decode-node-requires t c κs =
     let w = unfolded-at t n in
     let p = call t n .pre .1 in (
       omega (arith, call t n .pre .0, w .node .high),
-      ((p .0 .0, left-lies (p .0 .1) (w .node), w .left-exact), (omega (arith, left-le t n, p .1 .0), p .1 .1, omega (arith, half-is t n, p .1 .2), omega (arith, p .1 .3, c .before .before .if2 .left))),
+      ((p .0 .0, left-lies (p .0 .1) (w .node), w .left-exact), (left-fits (w .node) (p .1 .0), p .1 .1, omega (arith, half-is t n, p .1 .2), omega (arith, p .1 .3, c .before .before .if2 .left))),
     )
 
 decode-node-sub-decode-node : (t : ℕ) → decode-node-lts.Need-sub-decode-node (callees t) (decode-node-at t) decode-node.Post
@@ -218,7 +219,7 @@ decode-node-decode-node-requires-2 t c κs =
     let w = unfolded-at t n in
     let p = call t n .pre .1 in (
       omega (arith, call t n .pre .0, w .node .high),
-      ((p .0 .0, right-lies (p .0 .1) (w .node), w .right-exact), (omega (arith, p .1 .0), long t l, omega (arith, half-is t n, p .1 .2, q .power .ensures), omega (arith, p .1 .3, q .before .if2 .left))),
+      ((p .0 .0, right-lies (p .0 .1) (w .node), w .right-exact), (right-fits (w .node) (p .1 .0), long t l, omega (arith, half-is t n, p .1 .2, q .power .ensures), omega (arith, p .1 .3, q .before .if2 .left))),
     )
 
 decode-node-returns-3 : (t : ℕ) → decode-node-lts.Need-returns-3 (callees t) (decode-node-at t) decode-node.Post

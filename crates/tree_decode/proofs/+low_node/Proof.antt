@@ -11,6 +11,7 @@ use Rattle.tree.proofs.Rooting.{top, halved, left-lies, right-lies}
 use Rattle.tree.proofs.Shape.{still-long}
 use Rattle.tree_word.proofs.Decoding.{Unfolded, unfolded, one-count, both-halves, OfHeight, of-height, height-written}
 use Rattle.tree_word.proofs.WordBits.{HighEnd, loaded, word-exact, word-counts}
+use Rattle.tree_decode.proofs.Limits.{left-fits, one-fits, right-fits}
 use Rattle.tree_decode.proofs.EightCounts.{eight-exact, eight-written}
 use borrow.Author.Needs.{needs}
 use Prim.Native.Nat.{ℕ, _<_}
@@ -185,7 +186,9 @@ low-node-returns-3 t c =
     (c .four .ensures ∙ ap (splice (a .out .now) (a .from)) (word-counts (held t d) (four-at t d .code)))
 
 low-node-cast-out : (t : ℕ) → low-node-lts.Need-cast-out (callees t) (low-node-at t) low-node.Post
-low-node-cast-out t c = omega (arith, one t c .pre .1 .1 .0)
+low-node-cast-out t c =
+    let a = one t c .args in
+    omega (arith, one-fits 4294967295 (a .h) (a .s) (bits (a .b .now .now)) (a .at) (c .if4 .taken) (one t c .pre .1 .1 .0))
 
 low-node-mul-out : (t : ℕ) → low-node-lts.Need-mul-out (callees t) (low-node-at t) low-node.Post
 low-node-mul-out t c = omega (arith, one t c .pre .1 .1 .2)
@@ -216,7 +219,7 @@ low-node-low-node-requires t c κs =
     let w = unfolded-at t n in
     let p = call t n .pre .1 in (
       omega (arith, call t n .pre .0, w .node .high),
-      ((p .0 .0, left-lies (p .0 .1) (w .node), w .left-exact), (omega (arith, left-le t n, p .1 .0), p .1 .1, omega (arith, half-is t n, p .1 .2))),
+      ((p .0 .0, left-lies (p .0 .1) (w .node), w .left-exact), (left-fits (w .node) (p .1 .0), p .1 .1, omega (arith, half-is t n, p .1 .2))),
     )
 
 low-node-sub-low-node : (t : ℕ) → low-node-lts.Need-sub-low-node (callees t) (low-node-at t) low-node.Post
@@ -235,7 +238,7 @@ low-node-low-node-requires-2 t c κs =
     let w = unfolded-at t n in
     let p = call t n .pre .1 in (
       omega (arith, call t n .pre .0, w .node .high),
-      ((p .0 .0, right-lies (p .0 .1) (w .node), w .right-exact), (omega (arith, p .1 .0), long t l, omega (arith, half-is t n, p .1 .2, q .power .ensures))),
+      ((p .0 .0, right-lies (p .0 .1) (w .node), w .right-exact), (right-fits (w .node) (p .1 .0), long t l, omega (arith, half-is t n, p .1 .2, q .power .ensures))),
     )
 
 low-node-returns-5 : (t : ℕ) → low-node-lts.Need-returns-5 (callees t) (low-node-at t) low-node.Post

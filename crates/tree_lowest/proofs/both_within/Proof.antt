@@ -3,8 +3,8 @@ use mathlib.Core.Path.{sym}
 use mathlib.Core.Bool.{and-true}
 use lib.Dec.{leb}
 use borrow.Author.Tests.{le-leb, lt-leb}
+use Rattle.lists.specs.Counts.{within}
 use Rattle.lists.specs.Lists.{every}
-use Rattle.tree_lowest.specs.Code.Narrow.{within}
 use Rattle.tree_lowest.proofs.both_within.Statement.{statement}
 use Rattle.tree_lowest.proofs.both_within.Tie as tie
 

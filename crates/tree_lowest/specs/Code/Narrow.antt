@@ -1,15 +1,10 @@
--- Counts with a limit. Assumes nothing.
+-- Trees of counts with a limit. Assumes nothing.
 use mathlib.Core.Bool.{Bool, _&&_}
-use mathlib.Core.List.{List, map}
+use mathlib.Core.List.{List}
 use Prim.Native.Nat.{ℕ}
-use lib.Dec.{leb}
-use Rattle.lists.specs.Lists.{every}
+use Rattle.lists.specs.Counts.{within}
 use Rattle.tree.specs.Read.{counts}
 use Rattle.tree.specs.Code.Exact.{exact}
-
--- none of these counts is above the limit
-unfoldable pub within : ℕ → List ℕ → Bool
-within widest xs = every (map (λ x. leb x widest) xs)
 
 -- a tree of 2^h counts with sum s from bit a on is the code of some list, and none of its counts is above the limit
 unfoldable pub narrow : ℕ → ℕ → ℕ → List ℕ → ℕ → Bool

@@ -4,6 +4,7 @@ use mathlib.Core.Path.{refl, ap, _∙_}
 use mathlib.Core.List.{List}
 use Prim.Native.Nat.{_<_}
 use lib.ListN.{length-replicate}
+use Rattle.tree_decode.proofs.Limits.{small-fits}
 use Rattle.pages.proofs.Coding.{lies}
 use Rattle.pages.proofs.SoundPage.{as-said, sum-small}
 use Rattle.store.proofs.Holds.{page-length}
@@ -74,10 +75,10 @@ decode-requires : tie.Need-decode-requires Inv-loop μ-loop
 decode-requires c κs =
     let g = c .before .before .before in
     let o = g .before .entry-of .ensures in
-    let n = g .before .before in (
-      (n .before .before .put-sums .ensures, lies (g .gather-at .result) _ (omega arith) (sum-small o), page-decoded o (g .gather-at .ensures) .0),
-      (sum-small o, n .before .loop .inv .1 ∙ long n, omega (arith, short n)),
-    )
+    let n = g .before .before in
+    let y = lies (g .gather-at .result) _ (omega arith) (sum-small o) in
+    let x = page-decoded o (g .gather-at .ensures) .0 in
+    ((n .before .before .put-sums .ensures, y, x), (small-fits y x (omega (arith, sum-small o)), n .before .loop .inv .1 ∙ long n, omega (arith, short n)))
 
 add-j : tie.Need-add-j Inv-loop μ-loop
 add-j c = omega (arith, short (c .before .before .before .before .before .before))

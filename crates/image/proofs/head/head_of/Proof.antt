@@ -1,32 +1,26 @@
--- `image::head::head_of` meets its contract. Assumes nothing.
 use borrow.Author.Needs.{needs}
-use Rattle.image.proofs.HeadLaws.{head-read}
 use Rattle.image.proofs.head.head_of.Statement.{statement}
 use Rattle.image.proofs.head.head_of.Tie as tie
+use Rattle.image.proofs.head.head_of.Reads as reads
+use Rattle.image.proofs.head.head_of.Lts as lts
+use Rattle.image.proofs.head.pages_of.Reads as pages-of-reads
+use Rattle.image.proofs.head.table_at.Reads as table-at-reads
 
-get4-requires : tie.Need-get4-requires
-get4-requires c κs = search needs
-
-get4-requires-2 : tie.Need-get4-requires-2
-get4-requires-2 c κs = search needs
-
+-- src/head.rt:166:9
 pages-of-requires : tie.Need-pages-of-requires
 pages-of-requires c κs = search needs
 
+-- src/head.rt:167:20
 table-at-requires : tie.Need-table-at-requires
 table-at-requires c κs = search needs
 
+-- src/head.rt:167:16
 mul-code : tie.Need-mul-code
 mul-code c = search needs
 
+-- src/head.rt:162:1
 returns : tie.Need-returns
-returns c =
-    let p = c .before in
-    let l = p .before in
-    let t = l .before in
-    head-read (t .before .before .pre .1) (t .get4 .ensures) (l .get42 .ensures) (p .pages-of .ensures .0) (c .table-at .ensures)
+returns c = search needs
 
 pub head-of-spec : {M : Type 1} → statement M
-head-of-spec =
-    tie.close
-    (tie.spec get4-requires get4-requires-2 pages-of-requires table-at-requires mul-code returns)
+head-of-spec = tie.close (tie.spec pages-of-requires table-at-requires mul-code returns)

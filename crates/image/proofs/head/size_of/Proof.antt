@@ -19,7 +19,7 @@ add-result-2 c = search needs
 returns : tie.Need-returns
 returns c =
     let a = c .before .before .args in
-    size-of-is (a .e) (a .n) (a .l) (c .table-at .result) (c .before .pages-of .result) (c .before .pages-of .ensures .0) (c .table-at .ensures)
+    size-of-is (a .e) (a .n) (a .l) (c .table-at .result) (c .before .pages-of .result) (a .table) (c .before .pages-of .ensures .0) (c .table-at .ensures)
 
 pub size-of-spec : {M : Type 1} → statement M
 size-of-spec =

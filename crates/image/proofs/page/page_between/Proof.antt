@@ -85,7 +85,7 @@ add-at c =
     let g = roots e (entry e .pre) in
     let o = g .read .opened in
     let f = bounds _ _ o in
-    omega (arith, own-within g, o .head .bits-small, o .head .code-is, f .code-at, f .few)
+    omega (arith, own-within g, o .head .bits-small, o .head .code-is, f .code-at, f .few, f .head-high)
 
 returns-6 : tie.Need-returns-6
 returns-6 c a =

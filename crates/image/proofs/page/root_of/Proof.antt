@@ -1,10 +1,11 @@
 -- `image::page::root_of` meets its contract. Assumes nothing.
 use mathlib.Core.Path.{_≡_, ap, _∙_}
-use Prim.Native.Nat.{ℕ}
+use Prim.Native.Nat.{ℕ, _+_, _*_}
 use native.Mathlib.Omega.{arith}
 use borrow.Author.Needs.{needs}
 use Rattle.bits.specs.Numbers.{numberAt}
 use Rattle.image.specs.Image.{tableAt}
+use Rattle.image.specs.Read.{wideOf}
 use Rattle.image.proofs.HeadLaws.{bounds}
 use Rattle.image.proofs.RootLaws.{root-bad, root-good}
 use Rattle.image.proofs.page.root_of.Statement.{statement}
@@ -12,19 +13,22 @@ use Rattle.image.proofs.page.root_of.Tie as tie
 
 -- page p's start bit stands in the table
 start-is : (c : tie.After-get4)
-    → c .get4 .result ≡ numberAt (c .before .before .before .args .s .now) (tableAt (c .before .before .before .args .p)) 4
+    → c .get4 .result ≡ numberAt (c .before .before .before .args .s .now) (tableAt (wideOf (c .before .before .before .args .s .now)) (c .before .before .before .args .p)) 4
 start-is c =
-    c .get4 .ensures .is ∙ ap (λ (z : ℕ). numberAt (c .before .before .before .args .s .now) z 4) (c .before .table-at .ensures)
+    let a = c .before .before .before in
+    c .get4 .ensures .is
+    ∙ ap (λ (z : ℕ). numberAt (a .args .s .now) z 4) (c .before .table-at .ensures ∙ ap (λ (z : ℕ). z + 4 * a .args .p) (a .pre .0 .head .table-is))
 
 table-at-requires : tie.Need-table-at-requires
 table-at-requires c κs =
     let a = c .before in
-    (a .pre .0 .head .table-is, omega (arith, bounds (a .args .s .now) (a .args .h) (a .pre .0) .few, a .pre .1))
+    let f = bounds (a .args .s .now) (a .args .h) (a .pre .0) in
+    (f .table-low, omega (arith, f .few, a .pre .1))
 
 get4-requires : tie.Need-get4-requires
 get4-requires c κs =
     let a = c .before .before in
-    omega (arith, bounds (a .args .s .now) (a .args .h) (a .pre .0) .long, a .pre .1, c .table-at .ensures)
+    omega (arith, bounds (a .args .s .now) (a .args .h) (a .pre .0) .long, a .pre .1, c .table-at .ensures, a .pre .0 .head .table-is)
 
 digits-of-requires : tie.Need-digits-of-requires
 digits-of-requires c κs = search needs
@@ -45,7 +49,7 @@ add-get-field : tie.Need-add-get-field
 add-get-field c =
     let a = c .before .before .before .before .before .before .before in
     let f = bounds (a .args .s .now) (a .args .h) (a .pre .0) in
-    omega (arith, f .few, f .code-at, a .pre .0 .head .code-is, c .before .before .before .before .get4 .ensures .small)
+    omega (arith, f .few, f .head-high, f .code-at, a .pre .0 .head .code-is, c .before .before .before .before .get4 .ensures .small)
 
 get-field-requires : tie.Need-get-field-requires
 get-field-requires c κs =
@@ -56,10 +60,10 @@ get-field-requires c κs =
     let g = c .before .before .before .before .get4 .ensures .small in (
       (
         omega (arith, q .code-is, f .code-at, f .long),
-        omega (arith, q .code-is, f .code-at, f .few, f .narrow, f .width, w, g),
+        omega (arith, q .code-is, f .code-at, f .few, f .head-high, f .narrow, f .width, w, g),
         omega (arith, w, f .width, f .narrow),
       ),
-      omega (arith, f .long),
+      omega (arith, f .long, f .head-low),
     )
 
 returns-2 : tie.Need-returns-2

@@ -1,6 +1,7 @@
 -- `pages::counts::counts_in` meets its contract. Assumes nothing.
 use mathlib.Core.Path.{refl, sym}
 use native.Mathlib.Omega.{arith}
+use Rattle.tree_decode.proofs.Limits.{small-fits}
 use Rattle.store.specs.Plain.{page}
 use Rattle.store.specs.Reading.{listIn}
 use Rattle.store.proofs.Holds.{page-length}
@@ -23,14 +24,10 @@ decode-requires c κs =
     let g = w .gather-at in
     let a = w .before .before .args in
     let o = w .before .before .pre .0 in
-    let xs = listIn (a .s .now) in (
-      (
-        w .before .before .pre .1,
-        lies (g .result) (a .sum) (omega arith) (sum-small o),
-        code-exact (g .result) (page xs (a .p)) _ (a .sum) (page-length xs (a .p)) (sum-same o) (g .ensures .code-is),
-      ),
-      (sum-small o, refl, omega arith),
-    )
+    let xs = listIn (a .s .now) in
+    let y = lies (g .result) (a .sum) (omega arith) (sum-small o) in
+    let x = code-exact (g .result) (page xs (a .p)) _ (a .sum) (page-length xs (a .p)) (sum-same o) (g .ensures .code-is) in
+    ((w .before .before .pre .1, y, x), (small-fits y x (omega (arith, sum-small o)), refl, omega arith))
 
 slice-aggregate-first-counts : tie.Need-slice-aggregate-first-counts
 slice-aggregate-first-counts c = sym (still-long 6 _ _ _ _ _ 0 256 refl (omega arith) (c .before .decode .ensures))
