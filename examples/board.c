@@ -350,6 +350,17 @@ static void image_of_a_list(void)
     printf("\n");
 }
 
+/* A ticket wall gives out more than a store could log.  Its image has the wide
+ * edition by itself, and is asked as any other; its sums need 64 bits. */
+static void image_of_a_ticket_wall(void)
+{
+    static const uint32_t tickets[3] = {4000000000u, 0, 3000000000u};
+    uint8_t wall[HOURLOG_IMAGE_LENGTH_MAX(3, 2)];
+    size_t length = (size_t)must(hourlog_image_write(tickets, 3, 2, wall, sizeof wall));
+    report("ticket wall: edition", wall[0]);
+    report("ticket wall: all three hours", hourlog_image_reading(wall, length, 3));
+}
+
 /* ---- every refusal once -------------------------------------------------- */
 
 static void refusals_of_the_store(const char *path)
@@ -400,6 +411,7 @@ int main(int argc, char **argv)
     freeze_to(argv[1]);
     look_into_image(argv[1]);
     image_of_a_list();
+    image_of_a_ticket_wall();
     refusals_of_the_store(argv[1]);
     refusals_of_the_image(argv[1]);
     return EXIT_SUCCESS;

@@ -15,7 +15,7 @@
 #include <string.h>
 
 /* The longest book, and an hour more, so that one that is too long is refused;
- * the longest image of it, at the smallest pages. */
+ * the longest image of all, at the smallest pages. */
 static uint8_t book[HOURLOG_BOOK_LENGTH(HOURLOG_IMAGE_HOURS_MAX + 1)];
 static uint8_t image[HOURLOG_IMAGE_LENGTH_MAX(HOURLOG_IMAGE_HOURS_MAX, HOURLOG_E_MIN)];
 

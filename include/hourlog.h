@@ -51,7 +51,7 @@
  * WebAssembly, whose figures docs/BOARDS.md has: those here are of x86-64.  The
  * bytes of a store or an image mean the same on every machine.
  * Memory: the buffers, which the macros below measure (the largest store has
- * 63,760 bytes); 44 KiB of code; memcpy and memset of the C library.
+ * 63,760 bytes); 45 KiB of code; memcpy and memset of the C library.
  * Stack: HOURLOG_STACK, for insert and strike HOURLOG_MOVE_STACK, for freeze
  * HOURLOG_FREEZE_STACK.  A board that has not so much sends its store's bytes as
  * they are, and the laptop freezes them.
@@ -94,12 +94,15 @@ extern "C" {
 /* Of this header.  MAJOR rises where a call takes or answers something else
  * than before, MINOR where something is added.  For #if: 1000*MAJOR + MINOR. */
 #define HOURLOG_VERSION_MAJOR 2
-#define HOURLOG_VERSION_MINOR 2
+#define HOURLOG_VERSION_MINOR 3
 #define HOURLOG_VERSION (1000 * HOURLOG_VERSION_MAJOR + HOURLOG_VERSION_MINOR)
 
-/* Of the bytes: what byte 0 of a store, and of an image, says. */
+/* Of the bytes: what byte 0 of a store, and of an image, says.  An image of up
+ * to HOURLOG_TOTAL_MAX coins has HOURLOG_IMAGE_EDITION, as ever; one of more is
+ * WIDE, and readers of a version before 2.3 refuse it with 5. */
 #define HOURLOG_STORE_EDITION 1
 #define HOURLOG_IMAGE_EDITION 1
+#define HOURLOG_IMAGE_EDITION_WIDE 2
 
 /* ---- for the compiler -------------------------------------------------- */
 
@@ -126,7 +129,8 @@ typedef uint64_t hourlog_size;
 #define HOURLOG_PAGES_MAX 1024u        /* pages P of a store: 1 to this       */
 #define HOURLOG_CELLS_MAX 1800u        /* cells C of a store: 1 to this       */
 #define HOURLOG_HOURS_A_PAGE 64u       /* so a store logs at most 64*P hours  */
-#define HOURLOG_TOTAL_MAX 4294967295u  /* the sum of all counts, store, image */
+#define HOURLOG_TOTAL_MAX 4294967295u  /* the sum of all counts in a store    */
+#define HOURLOG_IMAGE_TOTAL_MAX 1099511627775u /* in an image: 2^40 - 1       */
 #define HOURLOG_IMAGE_HOURS_MAX 65536u /* counts in an image                  */
 #define HOURLOG_E_MIN 2u               /* an image's pages hold 2^e counts,   */
 #define HOURLOG_E_MAX 8u               /* e from 2 to 8                       */
@@ -145,26 +149,30 @@ typedef uint64_t hourlog_size;
  * twice the coins needs at most one cell more (docs/SIZING.md has examples). */
 #define HOURLOG_CELLS_A_PAGE_MAX 8u
 
-/* Bytes that suffice for the image of this many hours at page size 2^e,
- * whatever the counts are; a constant if both are.  Most images are far
- * shorter. */
+/* Bytes that suffice for the image of this many hours at page size 2^e; a
+ * constant if both are.  Most images are far shorter.  HOURLOG_IMAGE_LENGTH_MAX
+ * is for any counts; HOURLOG_NARROW_LENGTH_MAX, which is less, for a total of up
+ * to HOURLOG_TOTAL_MAX, as that of every store and of every book. */
 #define HOURLOG_IMAGE_PAGE(e) (HOURLOG_AS(size_t, 1) << (e))
 #define HOURLOG_IMAGE_PAGES(hours, e) \
     ((HOURLOG_AS(size_t, hours) + HOURLOG_IMAGE_PAGE(e) - 1) >> (e))
-#define HOURLOG_IMAGE_LENGTH_MAX(hours, e)                             \
-    (16 + 4 * HOURLOG_IMAGE_PAGES(hours, e) +                          \
-     (HOURLOG_IMAGE_PAGES(hours, e) *                                  \
-          (HOURLOG_IMAGE_PAGE(e) * HOURLOG_AS(size_t, 35 - (e)) - 4) + \
-      7) / 8)
+#define HOURLOG_IMAGE_BYTES(header, pages, bits_a_page) \
+    ((header) + 4 * (pages) + ((pages) * (bits_a_page) + 7) / 8)
+#define HOURLOG_IMAGE_LENGTH_MAX(hours, e)                  \
+    HOURLOG_IMAGE_BYTES(24, HOURLOG_IMAGE_PAGES(hours, e),  \
+                        HOURLOG_IMAGE_PAGE(e) * 35 + 4 - HOURLOG_AS(size_t, e))
+#define HOURLOG_NARROW_LENGTH_MAX(hours, e)                 \
+    HOURLOG_IMAGE_BYTES(16, HOURLOG_IMAGE_PAGES(hours, e),  \
+                        HOURLOG_IMAGE_PAGE(e) * HOURLOG_AS(size_t, 35 - (e)) - 4)
 
 /* Bytes that suffice for freezing any store of P pages and C cells; a constant
  * if all three are.  For e up to 6 a page of the image lies within a page of
  * the store, and all code takes no more than the cells: at e = 6 that is about
- * the length of the store.  For e of 7 or 8 it is the figure for any 64*P
- * hours. */
-#define HOURLOG_FREEZE_LENGTH_MAX(P, C, e)                             \
-    ((e) > 6 ? HOURLOG_IMAGE_LENGTH_MAX(64 * HOURLOG_AS(size_t, P), e) \
-             : 16 + 30 * HOURLOG_AS(size_t, C) +                       \
+ * the length of the store.  For e of 7 or 8 it is HOURLOG_NARROW_LENGTH_MAX
+ * for 64*P hours. */
+#define HOURLOG_FREEZE_LENGTH_MAX(P, C, e)                              \
+    ((e) > 6 ? HOURLOG_NARROW_LENGTH_MAX(64 * HOURLOG_AS(size_t, P), e) \
+             : 16 + 30 * HOURLOG_AS(size_t, C) +                        \
                    8 * HOURLOG_IMAGE_PAGES(64 * HOURLOG_AS(size_t, P), e))
 
 /* A book of the old boards, in packed decimal: two bytes an hour, four digits,
@@ -190,9 +198,12 @@ typedef uint64_t hourlog_size;
  *       At 4 the macros above say what length suffices, for freeze, for write
  *       and for books; for write hourlog_image_length says the exact one.
  *   3   Nobody pays that much: look at the coin counter.  The refused hour is
- *       NOT logged: append it with the right count.
- *   5, 6  A laptop takes the image from the board again.  At 6, count and
- *       reading still answer for the hours whose path is whole.
+ *       NOT logged: append it with the right count.  Of a list it says that no
+ *       image holds so many coins: make two images of it.
+ *   5, 6  A laptop takes the image from the board again.  At 5 look at byte 0
+ *       first: an edition that this header does not name was written by a later
+ *       version, and the laptop needs that.  At 6, count and reading still answer
+ *       for the hours whose path is whole.
  *   10  These bytes are not a sound store, or len is not their length (as after
  *       an update of the firmware that changes P or C).  First try the other
  *       copy: if it is sound, it is the log but for the last change at most.
@@ -213,7 +224,9 @@ typedef uint64_t hourlog_size;
  */
 #define HOURLOG_REFUSED_PAGE_SIZE 1 /* e outside 2 to 8                        */
 #define HOURLOG_REFUSED_LIST 2      /* over 65,536 counts                      */
-#define HOURLOG_REFUSED_TOTAL 3     /* the total would pass 4,294,967,295      */
+#define HOURLOG_REFUSED_TOTAL 3     /* the total would pass its limit: store   */
+                                    /* HOURLOG_TOTAL_MAX, list for an image    */
+                                    /* HOURLOG_IMAGE_TOTAL_MAX                 */
 #define HOURLOG_REFUSED_BUFFER 4    /* output buffer too short: image or book  */
 #define HOURLOG_REFUSED_HEADER 5    /* image: header or byte length wrong      */
 #define HOURLOG_REFUSED_BODY 6      /* image: check, not the writer's bytes;   */
@@ -249,7 +262,7 @@ static inline const char *hourlog_refusal_text(int number)
     case 0: return "no refusal";
     case HOURLOG_REFUSED_PAGE_SIZE: return "e must be 2 to 8";
     case HOURLOG_REFUSED_LIST: return "more than 65,536 counts";
-    case HOURLOG_REFUSED_TOTAL: return "total would pass 4,294,967,295";
+    case HOURLOG_REFUSED_TOTAL: return "total would pass its limit";
     case HOURLOG_REFUSED_BUFFER: return "buffer too short";
     case HOURLOG_REFUSED_HEADER: return "not an image";
     case HOURLOG_REFUSED_BODY: return "image is damaged";
@@ -405,7 +418,13 @@ static inline uint32_t hourlog_total(const uint8_t *store)
 
 /* ---- the frozen image -------------------------------------------------- */
 
-/* The length in bytes of the image of n counts.  Refuses: 1, 2, 3. */
+/*
+ * An image has the edition that its total asks for, and every call takes both.
+ * Sums of an image have up to 40 bits: keep them in 64, not in 32.
+ */
+
+/* The length in bytes of the image of n counts.
+ * Refuses: 1, 2, 3 (the total is above HOURLOG_IMAGE_TOTAL_MAX). */
 HOURLOG_MUST_USE
 int64_t hourlog_image_length(const uint32_t *counts, hourlog_size n, uint32_t e);
 
@@ -427,11 +446,13 @@ HOURLOG_MUST_USE
 int64_t hourlog_image_check(const uint8_t *image, hourlog_size len);
 
 /* The count of an hour; tests only the path to it.
- * Refuses: 5, 7 (hour >= N), 6. */
+ * Refuses: 5, 7 (hour >= N), 6 (also if the path ends at a count of more than
+ * 4,294,967,295; no other hour's is looked at). */
 HOURLOG_MUST_USE
 int64_t hourlog_image_count(const uint8_t *image, hourlog_size len, uint32_t hour);
 
-/* The sum of the counts before an hour; tests only the path to it.
+/* The sum of the counts before an hour; tests only the path to the last of
+ * them, as count does.
  * Refuses: 5, 7 (hour > N), 6.  At hour 0 it is 0, whatever the body holds. */
 HOURLOG_MUST_USE
 int64_t hourlog_image_reading(const uint8_t *image, hourlog_size len, uint32_t hour);
@@ -464,7 +485,7 @@ int64_t hourlog_image_match(const uint8_t *image, hourlog_size len, uint64_t fig
 
 /* Writes the image of a book, pages of 2^e counts, and answers its length in
  * bytes.  Bytes of the buffer beyond the image are left unchanged.
- * HOURLOG_IMAGE_LENGTH_MAX(book_len / 2, e) bytes suffice for it.
+ * HOURLOG_NARROW_LENGTH_MAX(book_len / 2, e) bytes suffice for it.
  * Refuses: 1, 14 (wherever in the book, and however long it is), 2, 4. */
 HOURLOG_MUST_USE
 int64_t hourlog_image_from_bcd(const uint8_t *book, hourlog_size book_len, uint32_t e,
@@ -474,7 +495,7 @@ int64_t hourlog_image_from_bcd(const uint8_t *book, hourlog_size book_len, uint3
  * bytes, HOURLOG_BOOK_LENGTH(N).  Bytes of the buffer beyond the book are left
  * unchanged.  Over and back, with the image's own e (its byte 1), the first
  * bytes come again, from a book as from an image.
- * Refuses: 5, 6 (both as check does), 15, 4. */
+ * Refuses: 5, 6 (both as check does), 15 (so every wide image), 4. */
 HOURLOG_MUST_USE
 int64_t hourlog_image_to_bcd(const uint8_t *image, hourlog_size len,
                              uint8_t *book, hourlog_size book_len);

@@ -1,7 +1,7 @@
 // The header as C++ sees it: it compiles, its constants are constants, its names
 // link without C++'s mangling, its numbers and texts are those of header_words.h, and what
 // it says of lengths, cells, NULL and the bytes of a store is so of the library. The stores
-// that docs/FORMAT.md works out are so too.
+// and the wide image that docs/FORMAT.md works out are so too.
 #include "header_words.h"
 
 #include <cstdio>
@@ -11,18 +11,27 @@
 static_assert(HOURLOG_STORE_LENGTH(1, 2) == 86, "16 + 6 + 64");
 static_assert(HOURLOG_STORE_LENGTH(HOURLOG_PAGES_MAX, HOURLOG_CELLS_MAX) == 63760,
               "the largest store");
-static_assert(HOURLOG_IMAGE_LENGTH_MAX(5, 2) == 16 + 8 + 32, "two pages of 128 bits");
+static_assert(HOURLOG_IMAGE_LENGTH_MAX(5, 2) == 24 + 8 + 36, "two pages of 142 bits");
+static_assert(HOURLOG_NARROW_LENGTH_MAX(5, 2) == 16 + 8 + 32, "two pages of 128 bits");
 static_assert(HOURLOG_FREEZE_LENGTH_MAX(1, 2, 6) == 16 + 8 + 60, "one page of two cells");
 static_assert(HOURLOG_FREEZE_LENGTH_MAX(4, 12, 8) == 16 + 4 + 864, "one page of 6,908 bits");
 
-// One page that holds the greatest total is the longest page of its size.
+// How long the library says that the image of a list is.
+static size_t image_length(const std::vector<uint32_t> &counts, uint32_t e)
+{
+    const int64_t length = hourlog_image_length(counts.data(), counts.size(), e);
+    assert(!hourlog_is_refused(length));
+    return static_cast<size_t>(length);
+}
+
+// One page that holds a store's greatest total is the longest page of its size in edition 1.
+// In edition 2 pages of full hours are, where their roots have 40 bits: in 256 hours.
 static void longest_images()
 {
-    const std::vector<uint32_t> counts{HOURLOG_TOTAL_MAX};
+    const std::vector<uint32_t> one{HOURLOG_TOTAL_MAX}, full(256, UINT32_MAX);
     for (uint32_t e = HOURLOG_E_MIN; e <= HOURLOG_E_MAX; e++) {
-        const int64_t length = hourlog_image_length(counts.data(), counts.size(), e);
-        assert(!hourlog_is_refused(length));
-        assert(static_cast<size_t>(length) == HOURLOG_IMAGE_LENGTH_MAX(1, e));
+        assert(image_length(one, e) == HOURLOG_NARROW_LENGTH_MAX(1, e));
+        assert(image_length(full, e) == HOURLOG_IMAGE_LENGTH_MAX(256, e));
     }
 }
 
@@ -182,6 +191,41 @@ static void worked_chains()
     chains({1, 3}, {2}, {4});
 }
 
+// docs/FORMAT.md's image of edition 2: e = 2, counts 4,294,967,295, 0, 2, 0, 5.
+static void worked_wide_image()
+{
+    const std::vector<uint8_t> expected{2,    2, 0, 0, 5,    0,    0,    0,    6,    0,    0,    0,    1,    0, 0, 0,
+                                        0xAA, 0, 0, 0, 0,    0,    0,    0,    0,    0,    0,    0,    0x82, 0, 0, 0,
+                                        0x80, 0, 0, 0, 0xBF, 0xFF, 0xFF, 0xFF, 0xFF, 0xFF, 0xFF, 0xFF, 0xE0, 0, 0, 0,
+                                        0x20, 0, 0, 0, 0xD6, 0x80};
+    const std::vector<uint32_t> counts{UINT32_MAX, 0, 2, 0, 5};
+    std::vector<uint8_t> image(expected.size());
+    assert(static_cast<size_t>(hourlog_image_write(counts.data(), 5, 2, image.data(), image.size())) == image.size());
+    assert(image == expected && image[0] == HOURLOG_IMAGE_EDITION_WIDE);
+}
+
+// The greatest total that an image has is read whole; with one coin more there is no image.
+static void greatest_image()
+{
+    std::vector<uint32_t> counts(257, UINT32_MAX);
+    counts[256] = 255;
+    std::vector<uint8_t> image(HOURLOG_IMAGE_LENGTH_MAX(257, 6));
+    const int64_t length = hourlog_image_write(counts.data(), 257, 6, image.data(), image.size());
+    const size_t len = static_cast<size_t>(length);
+    assert(!hourlog_is_refused(length) && image[0] == HOURLOG_IMAGE_EDITION_WIDE);
+    const int64_t checked = hourlog_image_check(image.data(), len);
+    assert(hourlog_checked_total(checked) == HOURLOG_IMAGE_TOTAL_MAX && hourlog_checked_hours(checked) == 257);
+    assert(hourlog_image_reading(image.data(), len, 257) == static_cast<int64_t>(HOURLOG_IMAGE_TOTAL_MAX));
+    assert(hourlog_image_reach(image.data(), len, HOURLOG_IMAGE_TOTAL_MAX) == 257);
+    const int64_t busiest = hourlog_image_busiest(image.data(), len, 256);
+    assert(hourlog_busiest_sum(busiest) == HOURLOG_IMAGE_TOTAL_MAX - 255 && hourlog_busiest_first(busiest) == 0);
+    const int64_t bag = hourlog_image_match(image.data(), len, HOURLOG_IMAGE_TOTAL_MAX);
+    assert(hourlog_matched_first(bag) == 0 && hourlog_matched_hours(bag) == 257);
+    counts[256]++;
+    assert(hourlog_image_length(counts.data(), 257, 6) == -HOURLOG_REFUSED_TOTAL);
+    assert(hourlog_image_write(counts.data(), 257, 6, nullptr, 0) == -HOURLOG_REFUSED_TOTAL);
+}
+
 // docs/FORMAT.md's book of three hours, 10, 1234 and 9999 coins, over and back; a buffer of a byte
 // less is refused, and so is a count of one coin more.
 static void worked_book()
@@ -297,6 +341,8 @@ int main()
     bytes_of_a_store();
     worked_store();
     worked_chains();
+    worked_wide_image();
+    greatest_image();
     worked_book();
     null_with_length_0();
     lengths_above_32_bits();

@@ -14,11 +14,11 @@
 
 static inline void limits(void)
 {
-    assert(HOURLOG_VERSION_MAJOR == 2 && HOURLOG_VERSION_MINOR == 2 && HOURLOG_VERSION == 2002);
-    assert(HOURLOG_STORE_EDITION == 1 && HOURLOG_IMAGE_EDITION == 1);
+    assert(HOURLOG_VERSION_MAJOR == 2 && HOURLOG_VERSION_MINOR == 3 && HOURLOG_VERSION == 2003);
+    assert(HOURLOG_STORE_EDITION == 1 && HOURLOG_IMAGE_EDITION == 1 && HOURLOG_IMAGE_EDITION_WIDE == 2);
     assert(HOURLOG_PAGES_MAX == 1024 && HOURLOG_CELLS_MAX == 1800);
     assert(HOURLOG_HOURS_A_PAGE == 64 && HOURLOG_CELLS_A_PAGE_MAX == 8);
-    assert(HOURLOG_TOTAL_MAX == 4294967295 && HOURLOG_IMAGE_HOURS_MAX == 65536);
+    assert(HOURLOG_TOTAL_MAX == 4294967295 && HOURLOG_IMAGE_TOTAL_MAX == 1099511627775 && HOURLOG_IMAGE_HOURS_MAX == 65536);
     assert(HOURLOG_E_MIN == 2 && HOURLOG_E_MAX == 8);
     assert(HOURLOG_BOOK_COUNT_MAX == 9999);
     assert(HOURLOG_STACK == 8192 && HOURLOG_MOVE_STACK == 12288 && HOURLOG_FREEZE_STACK == 12288);
@@ -34,10 +34,14 @@ static inline void lengths(void)
     assert(HOURLOG_IMAGE_PAGES(0, 2) == 0 && HOURLOG_IMAGE_PAGES(1, 2) == 1);
     assert(HOURLOG_IMAGE_PAGES(4, 2) == 1 && HOURLOG_IMAGE_PAGES(5, 2) == 2);
     assert(HOURLOG_IMAGE_PAGES(65536, 8) == 256);
-    assert(HOURLOG_IMAGE_LENGTH_MAX(0, 2) == 16);
-    assert(HOURLOG_IMAGE_LENGTH_MAX(1, 2) == 36 && HOURLOG_IMAGE_LENGTH_MAX(1, 3) == 52);
-    assert(HOURLOG_IMAGE_LENGTH_MAX(1, 6) == 252 && HOURLOG_IMAGE_LENGTH_MAX(1, 8) == 884);
-    assert(HOURLOG_IMAGE_LENGTH_MAX(65536, 2) == 327696);
+    assert(HOURLOG_IMAGE_LENGTH_MAX(0, 2) == 24);
+    assert(HOURLOG_IMAGE_LENGTH_MAX(1, 2) == 46 && HOURLOG_IMAGE_LENGTH_MAX(1, 3) == 64 && HOURLOG_IMAGE_LENGTH_MAX(1, 4) == 98);
+    assert(HOURLOG_IMAGE_LENGTH_MAX(256, 2) == 1416 && HOURLOG_IMAGE_LENGTH_MAX(256, 6) == 1159 && HOURLOG_IMAGE_LENGTH_MAX(256, 8) == 1148);
+    assert(HOURLOG_IMAGE_LENGTH_MAX(65536, 2) == 356376);
+    assert(HOURLOG_NARROW_LENGTH_MAX(0, 2) == 16);
+    assert(HOURLOG_NARROW_LENGTH_MAX(1, 2) == 36 && HOURLOG_NARROW_LENGTH_MAX(1, 3) == 52);
+    assert(HOURLOG_NARROW_LENGTH_MAX(1, 6) == 252 && HOURLOG_NARROW_LENGTH_MAX(1, 8) == 884);
+    assert(HOURLOG_NARROW_LENGTH_MAX(65536, 2) == 327696);
 
     /* up to e = 6 by the cells, above it by the hours */
     assert(HOURLOG_FREEZE_LENGTH_MAX(1, 2, 6) == 84 && HOURLOG_FREEZE_LENGTH_MAX(1024, 1800, 2) == 185088);
@@ -83,7 +87,7 @@ static inline void refusals(void)
         {0, "no refusal"},
         {HOURLOG_REFUSED_PAGE_SIZE, "e must be 2 to 8"},
         {HOURLOG_REFUSED_LIST, "more than 65,536 counts"},
-        {HOURLOG_REFUSED_TOTAL, "total would pass 4,294,967,295"},
+        {HOURLOG_REFUSED_TOTAL, "total would pass its limit"},
         {HOURLOG_REFUSED_BUFFER, "buffer too short"},
         {HOURLOG_REFUSED_HEADER, "not an image"},
         {HOURLOG_REFUSED_BODY, "image is damaged"},

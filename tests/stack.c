@@ -4,8 +4,9 @@
  * The stack below is painted before a call; what is no longer paint afterwards
  * was used.  Store and image are as large as they come; the image has coins in every
  * hour, the store in the 200 that it has logged (an emulated board takes long for
- * more), so that no recursion ends early.  Nothing here depends on a processor but
- * that its stack grows downwards: boards run it too (boards/run).
+ * more), so that no recursion ends early.  The calls on an image are measured on one
+ * of each edition.  Nothing here depends on a processor but that its stack grows
+ * downwards: boards run it too (boards/run).
  */
 #include "hourlog.h"
 
@@ -45,8 +46,8 @@ static int64_t write_image(void) { return hourlog_image_write(LIST, image, sizeo
 static int64_t check(void) { return hourlog_image_check(IMAGE); }
 static int64_t image_count(void) { return hourlog_image_count(IMAGE, LAST); }
 static int64_t image_reading(void) { return hourlog_image_reading(IMAGE, LAST); }
-static int64_t image_reach(void) { return hourlog_image_reach(IMAGE, 5000000); }
-static int64_t image_match(void) { return hourlog_image_match(IMAGE, 5000001); }
+static int64_t image_reach(void) { return hourlog_image_reach(IMAGE, 5000 * (uint64_t)counts[0]); }
+static int64_t image_match(void) { return hourlog_image_match(IMAGE, 5000 * (uint64_t)counts[0] + 1); }
 static int64_t image_busiest(void) { return hourlog_image_busiest(IMAGE, 1000); }
 static int64_t to_bcd(void) { return hourlog_image_to_bcd(IMAGE, book, sizeof book); }
 static int64_t from_bcd(void) { return hourlog_image_from_bcd(book, sizeof book, IMAGE_E, image, sizeof image); }
@@ -68,7 +69,7 @@ struct measured {
 };
 
 /* In an order in which none is refused. */
-static const struct measured all[] = {
+static const struct measured of_store[] = {
     {"append", append, HOURLOG_STACK},
     {"set", set, HOURLOG_STACK},
     {"insert", insert, HOURLOG_MOVE_STACK},
@@ -79,6 +80,10 @@ static const struct measured all[] = {
     {"day", day, HOURLOG_STACK},
     {"free", free_cells, HOURLOG_STACK},
     {"freeze", freeze, HOURLOG_FREEZE_STACK},
+    {"fresh", fresh, HOURLOG_STACK},
+};
+
+static const struct measured of_image[] = {
     {"image length", length, HOURLOG_STACK},
     {"image write", write_image, HOURLOG_STACK},
     {"image check", check, HOURLOG_STACK},
@@ -87,9 +92,11 @@ static const struct measured all[] = {
     {"image reach", image_reach, HOURLOG_STACK},
     {"image busiest", image_busiest, HOURLOG_STACK},
     {"image match", image_match, HOURLOG_STACK},
+};
+
+static const struct measured of_book[] = {
     {"image to bcd", to_bcd, HOURLOG_STACK},
     {"image from bcd", from_bcd, HOURLOG_STACK},
-    {"fresh", fresh, HOURLOG_STACK},
 };
 
 static int64_t answer;
@@ -112,36 +119,53 @@ static size_t used_by(int64_t (*call)(void))
 }
 
 /* Whether a call takes no more than it may, beyond what any call takes. */
-static int holds(struct measured m)
+static int holds(const char *before, struct measured m)
 {
     size_t used = used_by(m.call);
     int good = !hourlog_is_refused(answer) && used <= m.most + used_by(nothing);
-    printf("%s%s %lu", good ? "" : " FAILED:", m.name, (unsigned long)used);
+    printf("%s%s%s %lu", before, good ? "" : "FAILED: ", m.name, (unsigned long)used);
     return good;
 }
 
-static void fill(void)
+static int all_hold(const char *before, const struct measured *all, size_t n)
+{
+    int good = 1;
+    for (size_t k = 0; k < n; k++) {
+        good &= holds(k == 0 ? before : ", ", all[k]);
+    }
+    return good;
+}
+
+#define ALL_HOLD(before, all) all_hold(before, all, sizeof all / sizeof *all)
+
+static void fill_store(void)
 {
     fresh();
     for (uint32_t k = 0; k < 200; k++) {
         answer = hourlog_append(STORE, 1 + k % 9);
     }
+}
+
+/* 1 if the image of so many coins in each hour, and some more, has this edition. */
+static int fill_image(uint32_t coins, uint8_t edition)
+{
     for (size_t k = 0; k <= LAST; k++) {
-        counts[k] = 1000 + (uint32_t)(k % 7);
+        counts[k] = coins + (uint32_t)(k % 7);
     }
     image_len = (size_t)write_image();
+    return image[0] == edition;
 }
 
 int main(int argc, char **argv)
 {
-    int good = 1;
     (void)argc, (void)argv;
-    fill();
-    printf("bytes of stack:");
-    for (size_t k = 0; k < sizeof all / sizeof *all; k++) {
-        printf(k == 0 ? " " : ", ");
-        good &= holds(all[k]);
-    }
+    fill_store();
+    int good = ALL_HOLD("bytes of stack: ", of_store);
+    good &= fill_image(1000, HOURLOG_IMAGE_EDITION);
+    good &= ALL_HOLD(", ", of_image);
+    good &= ALL_HOLD(", ", of_book);
+    good &= fill_image(16000000, HOURLOG_IMAGE_EDITION_WIDE);
+    good &= ALL_HOLD("; of a wide image: ", of_image);
     printf("\n");
     return good ? EXIT_SUCCESS : EXIT_FAILURE;
 }

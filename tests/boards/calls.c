@@ -119,9 +119,9 @@ static void damage(struct lent l)
 }
 
 /* A figure to reach: a reading, at which the search has to stop, or one behind. */
-static uint32_t figure_at(int64_t reading, uint32_t hour)
+static uint64_t figure_at(int64_t reading, uint32_t hour)
 {
-    return (hourlog_is_refused(reading) ? hour : (uint32_t)reading) + hour % 2;
+    return (hourlog_is_refused(reading) ? hour : (uint64_t)reading) + hour % 2;
 }
 
 /* Changed days, mostly right ones: at most three, and at times an entry too few, a
@@ -159,7 +159,7 @@ static void store_call(uint64_t length)
     case 6: say("count", length, hour, 0, hourlog_count(store, length, hour)); break;
     case 7: say("reading", length, hour, 0, hourlog_reading(store, length, hour)); break;
     case 8: say("reach", length, number, 0, hourlog_reach(store, length, number)); break;
-    case 9: number = figure_at(hourlog_reading(store, length, hour), hour);
+    case 9: number = (uint32_t)figure_at(hourlog_reading(store, length, hour), hour);
         say("reach", length, number, 0, hourlog_reach(store, length, number)); break;
     case 10: changed = changed_days();
         say("day", length, hour / 24, (uint32_t)changed, hourlog_day(store, length, hour / 24, changes, changed)); break;
@@ -202,7 +202,7 @@ static void store_round(unsigned round)
     uint32_t cells = round == 7 ? HOURLOG_CELLS_MAX : 1 + below(8 * pages);
     size_t length = HOURLOG_STORE_LENGTH(pages, cells);
     first = lend(length, round % 2, round % 4);
-    second = lend(HOURLOG_IMAGE_LENGTH_MAX(64 * pages, 2) / (1 + round % 3), 1 - (int)(round % 2), round % 4);
+    second = lend(HOURLOG_NARROW_LENGTH_MAX(64 * pages, 2) / (1 + round % 3), 1 - (int)(round % 2), round % 4);
 
     store_calls(length, 2); /* on bytes that are no store */
     uint32_t wrong = any();
@@ -284,6 +284,19 @@ static void read_image(const uint8_t *from, size_t length, uint32_t hours, unsig
     }
 }
 
+/* A count of an image: in every fourth round of any size, in every other fourth one
+ * as much as it can be, so that many totals are above those of edition 1, and some
+ * above those of edition 2. */
+static uint32_t count_of(unsigned round, uint32_t shift)
+{
+    uint32_t n = next();
+    switch (round % 4) {
+    case 0: return n >> shift;
+    case 1: return UINT32_MAX - n % 3;
+    default: return n >> shift >> 8;
+    }
+}
+
 static void image_round(unsigned round)
 {
     uint32_t n = below(COUNTS_MAX + 1);
@@ -293,7 +306,7 @@ static void image_round(unsigned round)
     second = lend(HOURLOG_IMAGE_LENGTH_MAX(n, e), 1 - (int)(round % 2), round % 4);
     uint32_t *counts = (uint32_t *)(void *)first.at;
     for (uint32_t k = 0; k < n; k++) {
-        counts[k] = next() >> shift >> (round % 4 == 0 ? 0 : 8);
+        counts[k] = count_of(round, shift);
     }
     for (int k = 0; k < 4; k++) {
         uint64_t many = length_near(n);
@@ -318,11 +331,11 @@ static void image_round(unsigned round)
  * little room.  The first buffer is lent to read, the second to write. */
 static void book_round(unsigned round)
 {
-    static uint8_t kept[HOURLOG_IMAGE_LENGTH_MAX(COUNTS_MAX, 2)];
+    static uint8_t kept[HOURLOG_NARROW_LENGTH_MAX(COUNTS_MAX, 2)];
     uint32_t n = below(COUNTS_MAX + 1);
     uint32_t e = 2 + round % 7;
     first = lend(HOURLOG_BOOK_LENGTH(n), round % 2, round % 4);
-    second = lend(HOURLOG_IMAGE_LENGTH_MAX(n, e), 1 - (int)(round % 2), round % 4);
+    second = lend(HOURLOG_NARROW_LENGTH_MAX(n, e), 1 - (int)(round % 2), round % 4);
     say("from bcd", first.length, e, 0, hourlog_image_from_bcd(first.at, first.length, e, second.at, second.length));
     for (size_t k = 0; k < first.length; k++) {
         uint32_t two = below(100);

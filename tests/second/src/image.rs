@@ -1,13 +1,63 @@
-//! The frozen image: written from a list, and read from any bytes.
+//! The frozen image: written from a list, and read from any bytes. Edition 1 is
+//! document 01's, edition 2 that of document 02, note 8.
 
 use crate::bits::{field, number, packed, push_field, push_number};
-use crate::plain::{reached, TOTAL_LIMIT};
+use crate::plain::reached;
 use crate::refusal::{refuse_if, Answer, Refusal};
 use crate::reserve::{digits, reserve};
 use crate::tree::{decode, encode, walk, Walked};
+use std::ops::RangeInclusive;
 
-const HEADER: usize = 16;
 const MOST_HOURS: usize = 65_536;
+pub const MOST_COINS: u64 = (1 << 40) - 1;
+pub const COUNT_LIMIT: u64 = 4_294_967_295;
+
+/// What an edition's header has: the number in byte 0, how many bytes S takes,
+/// how many zero bytes stand behind L, and which totals it is for.
+struct Edition {
+    number: u8,
+    total_bytes: usize,
+    zeros: usize,
+    totals: RangeInclusive<u64>,
+}
+
+static EDITIONS: [Edition; 2] = [
+    Edition {
+        number: 1,
+        total_bytes: 4,
+        zeros: 0,
+        totals: 0..=4_294_967_295,
+    },
+    Edition {
+        number: 2,
+        total_bytes: 8,
+        zeros: 4,
+        totals: 1 << 32..=MOST_COINS,
+    },
+];
+
+impl Edition {
+    /// The one that the writer uses.
+    fn of_total(total: u64) -> &'static Edition {
+        let mut all = EDITIONS.iter();
+        all.find(|edition| edition.totals.contains(&total))
+            .expect("a total that an image can have")
+    }
+
+    fn of_bytes(image: &[u8]) -> Option<&'static Edition> {
+        let number = image.first()?;
+        EDITIONS.iter().find(|edition| edition.number == *number)
+    }
+
+    /// Where L stands, behind S.
+    fn code_bits_at(&self) -> usize {
+        8 + self.total_bytes
+    }
+
+    fn header(&self) -> usize {
+        self.code_bits_at() + 4 + self.zeros
+    }
+}
 
 pub fn page_size_allowed(e: u32) -> bool {
     (2..=8).contains(&e)
@@ -27,10 +77,12 @@ pub fn image_of(counts: &[u64], e: u32) -> Vec<u8> {
         push_field(&mut code, digits(total), root);
         encode(&page, &mut code);
     }
-    let mut image = vec![1, e as u8, 0, 0];
+    let edition = Edition::of_total(total);
+    let mut image = vec![edition.number, e as u8, 0, 0];
     push_number(&mut image, 4, counts.len() as u64);
-    push_number(&mut image, 4, total);
+    push_number(&mut image, edition.total_bytes, total);
     push_number(&mut image, 4, code.len() as u64);
+    push_number(&mut image, edition.zeros, 0);
     for start in starts {
         push_number(&mut image, 4, start);
     }
@@ -42,7 +94,7 @@ pub fn image_of(counts: &[u64], e: u32) -> Vec<u8> {
 pub fn image(counts: &[u64], e: u32) -> Answer<Vec<u8>> {
     refuse_if(!page_size_allowed(e), Refusal::PageSize)?;
     refuse_if(counts.len() > MOST_HOURS, Refusal::List)?;
-    refuse_if(counts.iter().sum::<u64>() > TOTAL_LIMIT, Refusal::Total)?;
+    refuse_if(counts.iter().sum::<u64>() > MOST_COINS, Refusal::Total)?;
     Ok(image_of(counts, e))
 }
 
@@ -63,6 +115,7 @@ pub fn write(counts: &[u64], e: u32, out: &mut [u8]) -> Answer<u64> {
 
 /// What an image says of itself, once refusal 5 is past.
 struct Header {
+    edition: &'static Edition,
     e: u32,
     hours: usize,
     total: u64,
@@ -71,17 +124,21 @@ struct Header {
 
 impl Header {
     fn read(image: &[u8]) -> Answer<Header> {
-        refuse_if(image.len() < HEADER, Refusal::Header)?;
+        let edition = Edition::of_bytes(image).ok_or(Refusal::Header)?;
+        refuse_if(image.len() < edition.header(), Refusal::Header)?;
+        let (bits_at, end) = (edition.code_bits_at(), edition.header());
         let header = Header {
+            edition,
             e: u32::from(image[1]),
             hours: number(&image[4..8]) as usize,
-            total: number(&image[8..12]),
-            code_bits: number(&image[12..16]) as usize,
+            total: number(&image[8..bits_at]),
+            code_bits: number(&image[bits_at..bits_at + 4]) as usize,
         };
-        let right = image[0] == 1
-            && page_size_allowed(header.e)
-            && image[2..4] == [0, 0]
-            && header.hours <= MOST_HOURS;
+        let mut zeros = image[2..4].iter().chain(&image[bits_at + 4..end]);
+        let right = page_size_allowed(header.e)
+            && zeros.all(|&byte| byte == 0)
+            && header.hours <= MOST_HOURS
+            && edition.totals.contains(&header.total);
         refuse_if(!right || image.len() != header.length(), Refusal::Header)?;
         Ok(header)
     }
@@ -90,17 +147,21 @@ impl Header {
         self.hours.div_ceil(1 << self.e)
     }
 
+    fn code_at(&self) -> usize {
+        self.edition.header() + 4 * self.pages()
+    }
+
     fn length(&self) -> usize {
-        HEADER + 4 * self.pages() + self.code_bits.div_ceil(8)
+        self.code_at() + self.code_bits.div_ceil(8)
     }
 
     fn code<'a>(&self, image: &'a [u8]) -> &'a [u8] {
-        &image[HEADER + 4 * self.pages()..]
+        &image[self.code_at()..]
     }
 
     /// Where the table says that a page starts.
     fn start(&self, image: &[u8], page: usize) -> usize {
-        number(&image[HEADER + 4 * page..][..4]) as usize
+        number(&image[self.edition.header() + 4 * page..][..4]) as usize
     }
 
     /// A page's cumulative sum; `None` if it passes L or is above S.
@@ -141,12 +202,13 @@ impl Header {
         Some(counts)
     }
 
-    /// The count of an hour, and the sum of all counts before it.
+    /// The count of an hour, and the sum of all counts before it; a walk that
+    /// ends at a count above its limit is damage, one that passes it is not.
     fn look(&self, image: &[u8], hour: usize) -> Option<Walked> {
         let size = 1 << self.e;
         let page = self.page(image, hour / size)?;
         let found = walk(self.code(image), page.at, self.e, page.sum, hour % size)?;
-        Some(Walked {
+        (found.count <= COUNT_LIMIT).then_some(Walked {
             before: page.before + found.before,
             count: found.count,
         })
@@ -164,6 +226,8 @@ struct Page {
 pub fn list(image: &[u8]) -> Answer<Vec<u64>> {
     let header = Header::read(image)?;
     let counts = header.counts(image).ok_or(Refusal::Body)?;
+    let in_a_list = |&count: &u64| count <= COUNT_LIMIT;
+    refuse_if(!counts.iter().all(in_a_list), Refusal::Body)?;
     refuse_if(image_of(&counts, header.e) != image, Refusal::Body)?;
     Ok(counts)
 }

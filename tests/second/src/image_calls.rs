@@ -3,7 +3,7 @@
 use crate::bits::number;
 use crate::book_calls::compare_to_book;
 use crate::ffi::Library;
-use crate::image::{self, Reached};
+use crate::image::{self, Reached, MOST_COINS};
 use crate::random::Random;
 use crate::refusal::{word, Answer};
 use crate::run_calls::{compare_busiest, compare_match};
@@ -80,13 +80,15 @@ const RUNS: u64 = 6;
 
 impl Questions {
     /// Every hour and figure of a small image, some of a large one; the
-    /// header's N and S count as they stand, damaged or not.
+    /// header's N and S count as they stand, damaged or not, but for an S so
+    /// large that no edition has it.
     pub fn of(bytes: &[u8], random: &mut Random, most: u64) -> Questions {
-        let at = |from: usize| match bytes.get(from..from + 4) {
-            Some(four) => number(four),
-            None => 0,
+        let at = |from: usize, width: usize| bytes.get(from..from + width).map_or(0, number);
+        let hours = at(4, 4);
+        let total = match bytes.first() {
+            Some(2) => at(8, 8).min(2 * MOST_COINS),
+            _ => at(8, 4),
         };
-        let (hours, total) = (at(4), at(8));
         let mut questions = Questions {
             hours: some_to(hours + 1, most, random)
                 .map(|hour| hour as u32)

@@ -107,9 +107,14 @@ fn of_width(random: &mut Random, most: u64) -> u64 {
     random.below(1 << width)
 }
 
-/// A list of counts whose total stays within its limit.
+/// A list of counts whose total stays within a store's limit.
 pub fn counts(random: &mut Random, length: usize, size: Size) -> Vec<u64> {
-    let mut left = crate::plain::TOTAL_LIMIT;
+    counts_to(random, length, size, crate::plain::TOTAL_LIMIT)
+}
+
+/// A list of counts whose total is at most this.
+pub fn counts_to(random: &mut Random, length: usize, size: Size, most: u64) -> Vec<u64> {
+    let mut left = most;
     (0..length)
         .map(|_| {
             let value = u64::from(count(random, size)).min(left);

@@ -1,10 +1,11 @@
 //! Images that are damaged: verdict and every query must agree.
 
-use crate::bits::{number, turn};
+use crate::bits::{number, push_number, turn};
 use crate::image::image_of;
 use crate::image_calls::{compare_looking, Questions};
 use crate::random::{counts, Random, Size};
 use crate::run::{Outcome, Run};
+use crate::suites::tickets::drawn;
 
 const FIRST_SEED: u64 = 4_000_000;
 const EACH_BIT: u64 = 60;
@@ -13,10 +14,25 @@ const GARBAGE: u64 = 4_000;
 const LONGER: u64 = 60;
 
 pub fn play(run: &mut Run) -> Outcome {
-    run.each_seed(FIRST_SEED, EACH_BIT, each_bit_and_length)?;
-    run.each_seed(FIRST_SEED + 100_000, RANDOM, random_damage)?;
-    run.each_seed(FIRST_SEED + 200_000, GARBAGE, garbage_body)?;
+    run.each_seed(FIRST_SEED, EACH_BIT, |run, seed| {
+        each_bit_and_length(run, seed, small_image)
+    })?;
+    run.each_seed(FIRST_SEED + 100_000, RANDOM, |run, seed| {
+        random_damage(run, seed, small_image)
+    })?;
+    run.each_seed(FIRST_SEED + 200_000, GARBAGE, |run, seed| {
+        garbage_body(run, seed, false)
+    })?;
     run.each_seed(FIRST_SEED + 300_000, LONGER, longer_image)?;
+    run.each_seed(FIRST_SEED + 400_000, EACH_BIT, |run, seed| {
+        each_bit_and_length(run, seed, small_wide_image)
+    })?;
+    run.each_seed(FIRST_SEED + 500_000, RANDOM, |run, seed| {
+        random_damage(run, seed, small_wide_image)
+    })?;
+    run.each_seed(FIRST_SEED + 600_000, GARBAGE, |run, seed| {
+        garbage_body(run, seed, true)
+    })?;
     for e in run.page_sizes() {
         let result = last_page_of_the_longest(run, e);
         run.note(format!("the longest image, damaged, e = {e}"), result)?;
@@ -33,6 +49,12 @@ fn small_image(random: &mut Random) -> Vec<u8> {
     image_of(&counts(random, length, size), e)
 }
 
+/// The same, of a total around or above the least of edition 2.
+fn small_wide_image(random: &mut Random) -> Vec<u8> {
+    let e = random.pick(&[2, 2, 3, 3, 4, 6]);
+    image_of(&drawn(random, 20), e)
+}
+
 fn look(run: &mut Run, bytes: &[u8], random: &mut Random) -> Result<(), String> {
     let questions = Questions::of(bytes, random, 40);
     compare_looking(&mut run.library, bytes, &questions)
@@ -40,9 +62,13 @@ fn look(run: &mut Run, bytes: &[u8], random: &mut Random) -> Result<(), String> 
 
 /// The image as it is, with each bit turned, at each shorter length and at
 /// some longer ones.
-fn each_bit_and_length(run: &mut Run, seed: u64) -> Result<(), String> {
+fn each_bit_and_length(
+    run: &mut Run,
+    seed: u64,
+    image: fn(&mut Random) -> Vec<u8>,
+) -> Result<(), String> {
     let mut random = Random::new(seed);
-    let image = small_image(&mut random);
+    let image = image(&mut random);
     look(run, &image, &mut random)?;
     for bit in 0..8 * image.len() {
         let mut damaged = image.clone();
@@ -104,9 +130,13 @@ fn last_page_of_the_longest(run: &mut Run, e: u32) -> Result<(), String> {
 }
 
 /// Several changes at once, of kinds that single bits do not give.
-fn random_damage(run: &mut Run, seed: u64) -> Result<(), String> {
+fn random_damage(
+    run: &mut Run,
+    seed: u64,
+    image: fn(&mut Random) -> Vec<u8>,
+) -> Result<(), String> {
     let mut random = Random::new(seed);
-    let mut image = small_image(&mut random);
+    let mut image = image(&mut random);
     for _ in 0..random.between(1, 3) {
         damage(&mut image, &mut random);
     }
@@ -115,17 +145,23 @@ fn random_damage(run: &mut Run, seed: u64) -> Result<(), String> {
 
 fn damage(image: &mut [u8], random: &mut Random) {
     let any = random.below(image.len() as u64) as usize;
-    let body = image.len() as u64 - 16;
+    let header = if image[0] == 2 { 24 } else { 16 };
+    let body = image.len().saturating_sub(header) as u64;
     match random.below(5) {
         0 => image[any] = random.next() as u8,
         1 => image[any] = random.pick(&[0, 1, 127, 128, 255]),
-        2 if body > 0 => image[16 + random.below(body) as usize] = random.next() as u8,
-        3 => nudge(image, random.pick(&[4, 8, 12]), random),
-        _ => nudge(image, 16, random),
+        2 if body > 0 => image[header + random.below(body) as usize] = random.next() as u8,
+        3 => nudge(
+            image,
+            4 + 4 * random.below(header as u64 / 4 - 1) as usize,
+            random,
+        ),
+        _ => nudge(image, header, random),
     }
 }
 
-/// Moves a number of four bytes a little up or down: N, S, L or a start.
+/// Moves a number of four bytes a little up or down: N, S, L or a start; of
+/// edition 2 also the high half of S, or its zero bytes.
 fn nudge(image: &mut [u8], at: usize, random: &mut Random) {
     let Some(four) = image.get(at..at + 4) else {
         return;
@@ -135,21 +171,31 @@ fn nudge(image: &mut [u8], at: usize, random: &mut Random) {
     image[at..at + 4].copy_from_slice(&moved.to_le_bytes());
 }
 
-/// A good header over a body of random bytes, starts within or near L: the
-/// queries get past their first tests and meet every later one.
-fn garbage_body(run: &mut Run, seed: u64) -> Result<(), String> {
+/// A good header, of edition 2 if wide, over a body of random bytes, starts
+/// within or near L: the queries get past their first tests and meet every
+/// later one.
+fn garbage_body(run: &mut Run, seed: u64, wide: bool) -> Result<(), String> {
     let mut random = Random::new(seed);
     let e = random.pick(&[2, 3, 4, 5, 6, 8]) as u32;
     let hours = random.between(0, 3 << e) as u32;
     let code_bits = random.between(0, 700) as u32;
-    let total = random.next() as u32 >> random.below(32);
+    let drawn = random.next();
     let mut image = vec![1, e as u8, 0, 0];
-    for number in [hours, total, code_bits] {
-        image.extend(number.to_le_bytes());
+    push_number(&mut image, 4, hours.into());
+    if wide {
+        image[0] = 2;
+        let digits = random.between(33, 40);
+        push_number(&mut image, 8, 1 << (digits - 1) | drawn >> (64 - digits));
+        push_number(&mut image, 4, code_bits.into());
+        push_number(&mut image, 4, 0);
+    } else {
+        let total = drawn as u32 >> random.below(32);
+        push_number(&mut image, 4, total.into());
+        push_number(&mut image, 4, code_bits.into());
     }
     for _ in 0..hours.div_ceil(1 << e) {
-        let start = random.below(u64::from(code_bits) + 3) as u32;
-        image.extend(start.to_le_bytes());
+        let start = random.below(u64::from(code_bits) + 3);
+        push_number(&mut image, 4, start);
     }
     let thin = random.one_in(2);
     for byte in random.bytes(code_bits.div_ceil(8) as usize) {

@@ -30,7 +30,7 @@ fn write_and_look(run: &mut Run, list: &[u64], e: u32, most: u64, case: &str) ->
     run.note(format!("{case}, e = {e}, N = {}", list.len()), result)
 }
 
-fn written_and_looked(run: &mut Run, list: &[u64], e: u32, most: u64) -> Result<(), String> {
+pub fn written_and_looked(run: &mut Run, list: &[u64], e: u32, most: u64) -> Result<(), String> {
     let Some(image) = compare_writing(&mut run.library, list, e)? else {
         return Ok(());
     };
@@ -55,7 +55,8 @@ fn page_boundaries(run: &mut Run, e: u32) -> Outcome {
     Ok(())
 }
 
-/// Totals at the limit and one above it, in one hour and in several.
+/// Totals at the limit of edition 1 and one above it, in one hour and in
+/// several, and one that no image has.
 fn totals(run: &mut Run, e: u32) -> Outcome {
     let half = TOTAL_LIMIT / 2;
     for list in [
@@ -72,8 +73,8 @@ fn totals(run: &mut Run, e: u32) -> Outcome {
     Ok(())
 }
 
-/// The longest list, and one that is too long, whose total may be too large
-/// as well.
+/// The longest list, in either edition, and one that is too long, whose total
+/// may be too large as well.
 fn lengths(run: &mut Run, e: u32) -> Outcome {
     for list in [
         vec![0; 65_536],
@@ -81,7 +82,7 @@ fn lengths(run: &mut Run, e: u32) -> Outcome {
         vec![65_535; 65_536],
         vec![65_536; 65_536],
         vec![0; 65_537],
-        vec![65_536; 65_537],
+        vec![16_777_216; 65_537],
     ] {
         write_and_look(run, &list, e, 60, "lengths")?;
     }
@@ -90,7 +91,8 @@ fn lengths(run: &mut Run, e: u32) -> Outcome {
 
 /// Refusal 1 comes before 2, 3 and 4.
 fn refusals_by_page_size(run: &mut Run, e: u32) -> Result<(), String> {
-    for list in [vec![], vec![1, 2, 3], vec![0; 65_537], vec![TOTAL_LIMIT; 2]] {
+    let too_dear = vec![TOTAL_LIMIT; 300];
+    for list in [vec![], vec![1, 2, 3], vec![0; 65_537], too_dear] {
         compare_writing(&mut run.library, &list, e)?;
     }
     Ok(())

@@ -14,6 +14,8 @@ mod sessions;
 mod store_damage;
 mod store_faults;
 mod stretches;
+mod ticket_faults;
+mod tickets;
 
 use crate::run::{Outcome, Run};
 
@@ -27,7 +29,7 @@ pub fn all() -> impl Iterator<Item = &'static Suite> {
 }
 
 /// The quick ones first.
-static ALL: [Suite; 14] = [
+static ALL: [Suite; 16] = [
     suite("document 01's examples", examples::play),
     suite("what more coins cost", coins::play),
     suite("named faults of images", image_faults::play),
@@ -35,6 +37,8 @@ static ALL: [Suite; 14] = [
     suite("busiest stretches", stretches::play),
     suite("bags", bags::play),
     suite("books", books::play),
+    suite("ticket walls", tickets::play),
+    suite("named faults of edition 2", ticket_faults::play),
     suite("days with a clock change", days::play),
     suite("insert and strike", insert_strike::play),
     suite("lists of calls on small stores", sessions::play),
