@@ -13,6 +13,7 @@ use exported as c;
 
 pub struct Contender {
     pub name: &'static str,
+    pub length: fn(&[u32], u32) -> i64,
     pub write: fn(&[u32], u32, &mut [u8]) -> i64,
     pub check: fn(&[u8]) -> i64,
     pub count: fn(&[u8], u32) -> i64,
@@ -48,6 +49,7 @@ fn fast() -> Contender {
 fn rival<C: Code>(name: &'static str) -> Contender {
     Contender {
         name,
+        length: image::length::<C>,
         write: image::write::<C>,
         check: image::check::<C>,
         count: image::count::<C>,
@@ -67,6 +69,7 @@ fn rival<C: Code>(name: &'static str) -> Contender {
 fn library() -> Contender {
     Contender {
         name: "library",
+        length: |counts, e| unsafe { c::hourlog_image_length(counts.as_ptr(), counts.len(), e) },
         write: |counts, e, out| unsafe {
             let (image, room) = (out.as_mut_ptr(), out.len());
             c::hourlog_image_write(counts.as_ptr(), counts.len(), e, image, room)

@@ -20,9 +20,11 @@ fn main() {
         "{:<38} {:>9} {:>9} {:>9}   {:>9} {:>9}",
         "", "library", "straight", "fast", "lib/strai", "lib/fast"
     );
-    for kind in Kind::ALL {
-        measure_all(&contenders, kind.name(), tasks::over_images(kind));
+    for kind in Kind::COINS {
+        measure_all(&contenders, kind.name(), tasks::over_coins(kind));
     }
+    measure_all(&contenders, Kind::Tickets.name(), tasks::over_tickets());
+    measure_all(&contenders, Kind::Rich.name(), tasks::over_rich_pages());
     for pages in [16, 64, 256, 1_024] {
         let on = format!("{pages} pages");
         measure_all(&contenders, &on, vec![tasks::append(pages)]);

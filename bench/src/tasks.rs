@@ -1,7 +1,7 @@
 //! What is timed.
 
 use crate::contender::Contender;
-use crate::data::{counts, in_order, questions, Kind, HOURS, INPUTS};
+use crate::data::{counts, in_order, questions, Kind, INPUTS};
 use crate::filled::filled;
 
 const E: u32 = 6;
@@ -65,6 +65,13 @@ impl Log {
         self.counts.iter().map(|&count| u64::from(count)).sum()
     }
 
+    /// Contenders that all refuse an image agree, and would be timed at that.
+    fn assert_accepted(&self, edition: u8) {
+        let accepted = self.total() | (self.counts.len() as u64) << 40;
+        let checked = rival::image::check::<rival::Straightforward>(&self.image);
+        assert_eq!((self.image[0], checked), (edition, accepted as i64));
+    }
+
     /// Bytes to write to that are not clear.
     fn no_image(&self) -> Vec<u8> {
         vec![0xFF; self.image.len()]
@@ -82,36 +89,63 @@ fn logs(kind: Kind, change: impl Fn(&mut Vec<u32>)) -> Vec<Log> {
         .map(|seed| {
             let mut counts = counts(kind, seed);
             change(&mut counts);
-            Log::new(seed, counts)
+            let log = Log::new(seed, counts);
+            log.assert_accepted(kind.edition());
+            log
         })
         .collect()
 }
 
-/// Each image call over images of a kind.
-pub fn over_images(kind: Kind) -> Vec<Task> {
-    let logs = logs(kind, |_| ());
-    let ordered = |_: &Log| in_order(QUESTIONS);
-    let random = |log: &Log| questions(HOURS as u64, QUESTIONS, log.seed);
-    let figures = |log: &Log| questions(log.total() + 1, QUESTIONS, log.seed);
-    let mut tasks = vec![
-        asking("count", &logs, random, count),
-        asking("reading", &logs, random, reading),
-        asking("count in order", &logs, ordered, count),
-        asking("reading in order", &logs, ordered, reading),
-        asking("reach", &logs, figures, |by, bytes, figure| {
-            (by.reach)(bytes, figure)
-        }),
-        writing("write", &logs),
-        whole("check", &logs, |by, bytes| (by.check)(bytes)),
-        whole("busiest day", &logs, |by, bytes| (by.busiest)(bytes, DAY)).beside("check"),
-        whole("busiest year", &logs, |by, bytes| {
-            (by.busiest)(bytes, YEAR)
-        })
-        .beside("check"),
-    ];
-    tasks.extend(matches(kind));
+/// Each image call over images of a kind, of edition 1.
+pub fn over_coins(kind: Kind) -> Vec<Task> {
+    let mut tasks = over_images(kind);
     tasks.extend(books(kind));
     tasks
+}
+
+/// The same of edition 2, which no book's image has.
+pub fn over_tickets() -> Vec<Task> {
+    over_images(Kind::Tickets)
+}
+
+/// The calls that look at one hour's count, where a page's sum has more than 32
+/// bits.
+pub fn over_rich_pages() -> Vec<Task> {
+    let logs = logs(Kind::Rich, |_| ());
+    vec![
+        asking("count", &logs, at_random, count),
+        asking("reading", &logs, at_random, reading),
+    ]
+}
+
+fn over_images(kind: Kind) -> Vec<Task> {
+    let logs = logs(kind, |_| ());
+    let mut tasks = vec![
+        asking("count", &logs, at_random, count),
+        asking("reading", &logs, at_random, reading),
+        asking("count in order", &logs, ordered, count),
+        asking("reading in order", &logs, ordered, reading),
+        asking("reach", &logs, figures, reach),
+        measuring("length", &logs),
+        writing("write", &logs),
+        whole("check", &logs, check),
+        whole("busiest day", &logs, busiest_day).beside("check"),
+        whole("busiest year", &logs, |by, bytes| (by.busiest)(bytes, YEAR)).beside("check"),
+    ];
+    tasks.extend(matches(kind));
+    tasks
+}
+
+fn at_random(log: &Log) -> Vec<u64> {
+    questions(log.counts.len() as u64, QUESTIONS, log.seed)
+}
+
+fn ordered(log: &Log) -> Vec<u64> {
+    in_order(log.counts.len(), QUESTIONS)
+}
+
+fn figures(log: &Log) -> Vec<u64> {
+    questions(log.total() + 1, QUESTIONS, log.seed)
 }
 
 fn count(by: &Contender, bytes: &mut [u8], hour: u64) -> i64 {
@@ -120,6 +154,18 @@ fn count(by: &Contender, bytes: &mut [u8], hour: u64) -> i64 {
 
 fn reading(by: &Contender, bytes: &mut [u8], hour: u64) -> i64 {
     (by.reading)(bytes, hour as u32)
+}
+
+fn reach(by: &Contender, bytes: &mut [u8], figure: u64) -> i64 {
+    (by.reach)(bytes, figure)
+}
+
+fn check(by: &Contender, bytes: &mut [u8]) -> i64 {
+    (by.check)(bytes)
+}
+
+fn busiest_day(by: &Contender, bytes: &mut [u8]) -> i64 {
+    (by.busiest)(bytes, DAY)
 }
 
 /// The last count alone is odd: a bag of as many coins is found there and
@@ -138,10 +184,10 @@ fn matches(kind: Kind) -> Vec<Task> {
                 work: Box::new(move |by, bytes| (by.matched)(bytes, figure)),
             }
         });
-        over_hours(name, inputs.collect()).beside("check of bags")
+        over_hours(name, &logs, inputs.collect()).beside("check of bags")
     };
     vec![
-        whole("check of bags", &logs, |by, bytes| (by.check)(bytes)),
+        whole("check of bags", &logs, check),
         matching("match at end", |_| 1_001),
         matching("match none", |_| 999),
         matching("match none of many", |log| {
@@ -184,9 +230,9 @@ fn books(kind: Kind) -> Vec<Task> {
     });
     vec![
         writing("write of books", &logs),
-        over_hours("from book", over.collect()).beside("write of books"),
-        whole("check of books", &logs, |by, bytes| (by.check)(bytes)),
-        over_hours("to book", back.collect()).beside("check of books"),
+        over_hours("from book", &logs, over.collect()).beside("write of books"),
+        whole("check of books", &logs, check),
+        over_hours("to book", &logs, back.collect()).beside("check of books"),
     ]
 }
 
@@ -282,6 +328,18 @@ fn asking(
     }
 }
 
+/// The length of each list's image.
+fn measuring(name: &'static str, logs: &[Log]) -> Task {
+    let inputs = logs.iter().map(|log| {
+        let counts = log.counts.clone();
+        Input {
+            start: Vec::new(),
+            work: Box::new(move |by, _| (by.length)(&counts, E)),
+        }
+    });
+    over_hours(name, logs, inputs.collect())
+}
+
 /// Each list into a buffer that is not clear.
 fn writing(name: &'static str, logs: &[Log]) -> Task {
     let inputs = logs.iter().map(|log| {
@@ -291,7 +349,7 @@ fn writing(name: &'static str, logs: &[Log]) -> Task {
             work: Box::new(move |by, bytes| (by.write)(&counts, E, bytes)),
         }
     });
-    over_hours(name, inputs.collect())
+    over_hours(name, logs, inputs.collect())
 }
 
 fn whole(name: &'static str, logs: &[Log], work: fn(&Contender, &mut [u8]) -> i64) -> Task {
@@ -299,14 +357,15 @@ fn whole(name: &'static str, logs: &[Log], work: fn(&Contender, &mut [u8]) -> i6
         start: log.image.clone(),
         work: Box::new(work),
     });
-    over_hours(name, inputs.collect())
+    over_hours(name, logs, inputs.collect())
 }
 
-fn over_hours(name: &'static str, inputs: Vec<Input>) -> Task {
+/// The logs have as many hours each.
+fn over_hours(name: &'static str, logs: &[Log], inputs: Vec<Input>) -> Task {
     Task {
         name,
         unit: "ns a count",
-        divisor: HOURS as f64,
+        divisor: logs[0].counts.len() as f64,
         rounds: 20,
         inputs,
         beside: None,

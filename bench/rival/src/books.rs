@@ -3,7 +3,8 @@
 
 use crate::code::Code;
 use crate::cursor::Cursor;
-use crate::image::{accepted, page_size_allowed, write_from, Source, LARGEST_PAGE};
+use crate::header::page_size_allowed;
+use crate::image::{accepted, write_from, Source, LARGEST_PAGE};
 use crate::refused::{word, BUFFER, NOT_DECIMAL, NO_BOOK_COUNT, PAGE_SIZE};
 
 const MOST: u64 = 9_999;

@@ -1,5 +1,8 @@
 //! What image and store need of the tree code.
 
+/// No count is larger, whatever sum a tree has.
+pub const MOST_COUNT: u64 = u32::MAX as u64;
+
 /// A walk's end: the sum before a count, and the count.
 pub struct Found {
     pub before: u64,

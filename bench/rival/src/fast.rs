@@ -4,8 +4,9 @@
 //! call, a walk without jumps on data, code written in order through a word,
 //! and interpolation in the search.
 
-use crate::code::{digits, halved, Code, Found};
+use crate::code::{digits, halved, Code, Found, MOST_COUNT};
 use crate::fields::{all_zero, bits_from, first_bits, get};
+use crate::straightforward::Straightforward;
 use crate::writer::write_tree;
 
 pub struct Fast;
@@ -104,11 +105,21 @@ impl Four {
 
     /// The four counts.
     #[inline(always)]
+    fn counts(&self) -> [u64; 4] {
+        let r = self.s - self.l;
+        [
+            self.left_l,
+            self.l - self.left_l,
+            self.right_l,
+            r - self.right_l,
+        ]
+    }
+
+    #[inline(always)]
     fn put(&self, counts: &mut [u32]) {
-        counts[0] = self.left_l as u32;
-        counts[1] = (self.l - self.left_l) as u32;
-        counts[2] = self.right_l as u32;
-        counts[3] = (self.s - self.l - self.right_l) as u32;
+        for (place, count) in counts[..4].iter_mut().zip(self.counts()) {
+            *place = count as u32;
+        }
     }
 
     /// `None` at a left sum above its node at the root.
@@ -146,7 +157,10 @@ impl Four {
 
     #[inline(always)]
     fn is_exact(&self) -> bool {
-        self.left_l <= self.l && self.right_l <= self.s - self.l && self.left_over == 0
+        self.left_l <= self.l
+            && self.right_l <= self.s - self.l
+            && self.left_over == 0
+            && (self.s <= MOST_COUNT || self.counts().iter().all(|&count| count <= MOST_COUNT))
     }
 }
 
@@ -219,6 +233,10 @@ impl Code for Fast {
     fn write(bytes: &mut [u8], at: usize, counts: &[u32], s: u64) {
         if s == 0 {
             return;
+        }
+        // The writer has its sums in 32 bits; few pages have a larger one.
+        if s > u32::MAX.into() {
+            return Straightforward::write(bytes, at, counts, s);
         }
         write_tree(bytes, at, counts, Self::reserve(counts.len().ilog2(), s));
     }

@@ -1,17 +1,11 @@
 //! The frozen image.
 
-use crate::code::{digits, Code, Found};
+use crate::code::{digits, Code, Found, MOST_COUNT};
 use crate::fields::{all_zero, four, get, put, put_four};
+use crate::header::{page_size_allowed, Header, MOST_HOURS, MOST_TOTAL};
 use crate::refused::{word, BODY, BUFFER, FIGURE, HEADER, HOUR, LIST, PAGE_SIZE, TOTAL};
 
-const HEADER_BYTES: usize = 16;
-pub const MOST_HOURS: usize = 65_536;
-pub const MOST_TOTAL: u64 = 4_294_967_295;
 pub(crate) const LARGEST_PAGE: usize = 256;
-
-pub(crate) fn page_size_allowed(e: u32) -> bool {
-    (2..=8).contains(&e)
-}
 
 /// Where the counts of a new image come from.
 pub(crate) trait Source {
@@ -48,18 +42,13 @@ fn sum(counts: &[u32]) -> u64 {
     counts.iter().map(|&count| u64::from(count)).sum()
 }
 
-/// What an image's size follows from.
-struct Measures {
-    total: u64,
-    code_bits: usize,
-    bytes: usize,
-}
-
-fn measured<C: Code>(counts: &(impl Source + ?Sized), e: u32) -> Result<Measures, i64> {
+/// The header of the counts' image.
+fn measured<C: Code>(counts: &(impl Source + ?Sized), e: u32) -> Result<Header, i64> {
     if !page_size_allowed(e) {
         return Err(PAGE_SIZE);
     }
-    if counts.hours() > MOST_HOURS {
+    let hours = counts.hours();
+    if hours > MOST_HOURS {
         return Err(LIST);
     }
     let total = counts.total();
@@ -69,20 +58,16 @@ fn measured<C: Code>(counts: &(impl Source + ?Sized), e: u32) -> Result<Measures
     let root = digits(total) as usize;
     let mut code_bits = 0;
     counts.each_page(e, |page| code_bits += root + C::reserve(e, sum(page)));
-    let bytes = image_bytes(counts.hours(), e, code_bits);
-    Ok(Measures {
+    Ok(Header {
+        e,
+        hours,
         total,
         code_bits,
-        bytes,
     })
 }
 
-fn image_bytes(hours: usize, e: u32, code_bits: usize) -> usize {
-    HEADER_BYTES + 4 * hours.div_ceil(1 << e) + code_bits.div_ceil(8)
-}
-
 pub fn length<C: Code>(counts: &[u32], e: u32) -> i64 {
-    word(measured::<C>(counts, e).map(|measures| measures.bytes as i64))
+    word(measured::<C>(counts, e).map(|header| header.image_bytes() as i64))
 }
 
 pub fn write<C: Code>(counts: &[u32], e: u32, out: &mut [u8]) -> i64 {
@@ -90,35 +75,26 @@ pub fn write<C: Code>(counts: &[u32], e: u32, out: &mut [u8]) -> i64 {
 }
 
 pub(crate) fn write_from<C: Code>(counts: &(impl Source + ?Sized), e: u32, out: &mut [u8]) -> i64 {
-    let measures = match measured::<C>(counts, e) {
-        Ok(measures) => measures,
+    let header = match measured::<C>(counts, e) {
+        Ok(header) => header,
         Err(refusal) => return refusal,
     };
-    if out.len() < measures.bytes {
+    let bytes = header.image_bytes();
+    if out.len() < bytes {
         return BUFFER;
     }
-    write_measured::<C>(counts, e, &measures, &mut out[..measures.bytes]);
-    measures.bytes as i64
+    write_measured::<C>(counts, &header, &mut out[..bytes]);
+    bytes as i64
 }
 
-fn write_measured<C: Code>(
-    counts: &(impl Source + ?Sized),
-    e: u32,
-    measures: &Measures,
-    image: &mut [u8],
-) {
+fn write_measured<C: Code>(counts: &(impl Source + ?Sized), header: &Header, image: &mut [u8]) {
     image.fill(0);
-    image[0] = 1;
-    image[1] = e as u8;
-    put_four(image, 4, counts.hours() as u64);
-    put_four(image, 8, measures.total);
-    put_four(image, 12, measures.code_bits as u64);
-    let table_bytes = 4 * counts.hours().div_ceil(1 << e);
-    let (table, code) = image[HEADER_BYTES..].split_at_mut(table_bytes);
+    header.write(image);
+    let (table, code) = image[header.bytes()..].split_at_mut(header.table_bytes());
     let mut starts = table.chunks_exact_mut(4);
-    let width = digits(measures.total);
+    let width = digits(header.total);
     let (mut at, mut root) = (0, 0);
-    counts.each_page(e, |page| {
+    counts.each_page(header.e, |page| {
         let start = starts.next().expect("one entry a page");
         put_four(start, 0, at as u64);
         let s = sum(page);
@@ -128,7 +104,7 @@ fn write_measured<C: Code>(
         }
         at += width as usize;
         C::write(code, at, page, s);
-        at += C::reserve(e, s);
+        at += C::reserve(header.e, s);
     });
 }
 
@@ -152,23 +128,13 @@ struct Page {
 impl<'a> Image<'a> {
     #[inline(always)]
     fn open(bytes: &'a [u8]) -> Result<Image<'a>, i64> {
-        if bytes.len() < HEADER_BYTES || bytes[0] != 1 || bytes[2] != 0 || bytes[3] != 0 {
-            return Err(HEADER);
-        }
-        let (e, hours) = (u32::from(bytes[1]), four(bytes, 4) as usize);
-        if !page_size_allowed(e) || hours > MOST_HOURS {
-            return Err(HEADER);
-        }
-        let code_bits = four(bytes, 12) as usize;
-        if bytes.len() != image_bytes(hours, e, code_bits) {
-            return Err(HEADER);
-        }
-        let (starts, code) = bytes[HEADER_BYTES..].split_at(4 * hours.div_ceil(1 << e));
+        let header = Header::read(bytes).ok_or(HEADER)?;
+        let (starts, code) = bytes[header.bytes()..].split_at(header.table_bytes());
         Ok(Image {
-            e,
-            hours,
-            total: four(bytes, 8),
-            code_bits,
+            e: header.e,
+            hours: header.hours,
+            total: header.total,
+            code_bits: header.code_bits,
             starts,
             code,
         })
@@ -218,6 +184,9 @@ impl<'a> Image<'a> {
         let page = self.page::<C>(hour >> self.e)?;
         let j = hour as u32 & ((1 << self.e) - 1);
         let found = C::walk(self.code, page.at, self.e, page.sum, j).ok_or(BODY)?;
+        if found.count > MOST_COUNT {
+            return Err(BODY);
+        }
         Ok(Found {
             before: page.before + found.before,
             count: found.count,

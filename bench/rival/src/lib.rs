@@ -15,6 +15,7 @@ mod code;
 mod cursor;
 mod fast;
 mod fields;
+mod header;
 pub mod image;
 pub mod moves;
 mod refused;

@@ -3,9 +3,8 @@
 
 use crate::code::Code;
 use crate::fields::{put_four, two};
-use crate::image::MOST_TOTAL;
 use crate::refused::{word, CELLS, FULL, HOUR, TOTAL};
-use crate::sound::{cells_of, sound, Sound, HEIGHT, MOST_PAGES, PAGE, PAGE_CODE};
+use crate::sound::{cells_of, sound, Sound, HEIGHT, MOST_PAGES, MOST_TOTAL, PAGE, PAGE_CODE};
 use core::ops::RangeInclusive;
 
 /// What becomes of the pages that are concerned: the count that enters each of

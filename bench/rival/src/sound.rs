@@ -2,11 +2,11 @@
 
 use crate::code::Code;
 use crate::fields::{all_zero, four, two};
-use crate::image::MOST_TOTAL;
 use crate::refused::UNSOUND;
 
 pub const MOST_PAGES: usize = 1_024;
 const MOST_CELLS: usize = 1_800;
+pub const MOST_TOTAL: u64 = 4_294_967_295;
 pub const PAGE: usize = 64;
 pub const HEIGHT: u32 = 6;
 

@@ -2,10 +2,12 @@
 
 use crate::code::Code;
 use crate::fields::{four, put_four, put_two, two};
-use crate::image::{self, MOST_HOURS, MOST_TOTAL};
+use crate::header::MOST_HOURS;
+use crate::image;
 use crate::refused::{word, CELLS, FIGURE, FRESH, FULL, HOUR, TOTAL};
 use crate::sound::{
-    cells_of, length, sizes_allowed, sound, Sound, CELL, CELL_CODE, HEIGHT, PAGE, PAGE_CODE,
+    cells_of, length, sizes_allowed, sound, Sound, CELL, CELL_CODE, HEIGHT, MOST_TOTAL, PAGE,
+    PAGE_CODE,
 };
 
 impl Sound {

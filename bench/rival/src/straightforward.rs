@@ -1,7 +1,7 @@
 //! The tree code as document 01 describes it: recursion on the height, one
 //! field a node, the reserve by its two cases.
 
-use crate::code::{digits, halved, Code, Found};
+use crate::code::{digits, halved, Code, Found, MOST_COUNT};
 use crate::fields::{all_zero, get, put};
 
 pub struct Straightforward;
@@ -9,7 +9,7 @@ pub struct Straightforward;
 /// The end of an exact tree; `None` if the tree is not exact.
 fn exact_end(bytes: &[u8], at: usize, h: u32, s: u64) -> Option<usize> {
     if h == 0 || s == 0 {
-        return Some(at);
+        return (s <= MOST_COUNT).then_some(at);
     }
     let t = digits(s);
     let l = get(bytes, at, t);
