@@ -32,8 +32,13 @@
  * without summer time:
  *   after fresh     append 0 until N is H, the hour of the day;
  *   each full hour  append the coins of the hour that is over: N is H again;
- *   after power-up  while N is behind H, append 0 for each hour slept through;
- *   hour missed     insert it with its coins; logged twice: strike it;
+ *   after power-up  while N is behind H, append: the hour in which power failed
+ *                   with its coins (see WHEN POWER FAILS), each hour slept through
+ *                   with 0;
+ *   wrong count     set it, as that of an hour logged with 0 that had coins;
+ *   hour missed     if the log has no place for it (the clock had stood), insert
+ *                   it with its coins, and put the clock right;
+ *   logged twice    strike it;
  *   N ahead of H    (the clock was put back) skip: append nothing and count on,
  *                   so that these coins come into the next hour logged.
  * A day has 24 hours, but 23 where the clocks of the arcade are put forward on
@@ -51,7 +56,8 @@
  * WebAssembly, whose figures docs/BOARDS.md has: those here are of x86-64.  The
  * bytes of a store or an image mean the same on every machine.
  * Memory: the buffers, which the macros below measure (the largest store has
- * 63,760 bytes); 45 KiB of code; memcpy and memset of the C library.
+ * 63,760 bytes); 14 to 45 KiB of code, by the calls that are linked, of which
+ * docs/BOARDS.md has a table; memcpy and memset of the C library.
  * Stack: HOURLOG_STACK, for insert and strike HOURLOG_MOVE_STACK, for freeze
  * HOURLOG_FREEZE_STACK.  A board that has not so much sends its store's bytes as
  * they are, and the laptop freezes them.
@@ -64,20 +70,44 @@
  * a strike costs as much again for each page from its hour on.  An image is
  * written and checked in time that grows with its hours; its count and reading
  * take the same few hundred instructions whatever its length, reach about twice
- * as many.  The busiest stretch, and a bag's match, take two to four times as
+ * as many.  The busiest stretch, and a bag's match, take two to five times as
  * long as check where pages have 64 hours (e = 6), and up to six times where
  * they have four (e = 2).
  * Threads and interrupts: any number of calls may run at once, unless one of
  * them changes a buffer that another is lent.
- * Power: a call is not atomic.  Cut off within fresh, append, set, insert or
- * strike, it may leave bytes that are not sound, or that are sound and hold
- * another count.  Where power can fail, keep two copies, as examples/board.c
- * does.  See that the copy in use is sound, lest damage be copied over the last
- * good log.  Copy it over the other one and change that.  Then, and only if the
- * change was not refused, say in a byte of your own beside the two that this one
- * is in use.
  * Memory that fails: a store has no checksum, and damage can leave it sound
  * with another count.  Where that is to be seen, keep a checksum of your own.
+ *
+ * WHEN POWER FAILS
+ *
+ * examples/kept.c does what follows, and loses no coin wherever it is cut off:
+ * start from it.
+ * Two copies: a call is not atomic.  Cut off within fresh, append, set, insert
+ * or strike, it may leave bytes that are not sound, or that are sound and hold
+ * neither the old counts nor the new.  So keep two copies, and of your own a
+ * byte that says which is IN USE and one that says that the other is WHOLE,
+ * which is to say the same.  For a change see that the copy in use is sound,
+ * lest damage be copied over the last good log.  Let WHOLE be 0, copy the one
+ * in use over the other and change that.  Unless it was refused, let it be the
+ * one IN USE.  Copy this over the other, and let WHOLE be 1.  At power-up copy
+ * so, too: the change may have been cut off.
+ * Coins: those that are not logged yet must survive as well, or the hour in
+ * which power fails is logged without them.  Number the appends, and keep with
+ * each copy the number of its next one.  Keep coins beside the number of the
+ * append that is to log them: an append takes those that stand beside its
+ * number, or else 0.  So each is logged once.  (Beside the number of their hour
+ * they would not be, for insert and strike move it.)  Keep two such pairs,
+ * since coins fall while an hour is logged.  For an hour that begins take the
+ * pair that is logged: its coins become 0 first, and then its number the new
+ * one.
+ * Memory: what is kept stands in battery-backed RAM, FRAM or MRAM, in a section
+ * that the start code leaves alone.  Flash and EEPROM wear out where a whole
+ * store is written each hour: there make the change in RAM, and write what
+ * differs.  An append changes bytes 12 to 15, which are N.  If its hour has
+ * coins it also changes the entry of its page, 6 bytes from 16 + 6*page on, and
+ * the page's cells, 32 bytes each; and bytes 6 to 9 if it takes cells: 270
+ * bytes at most.  A set changes these but N, and cells that the page gives
+ * back; insert and strike, all pages from their hour on.
  */
 #ifndef HOURLOG_H
 #define HOURLOG_H
@@ -132,8 +162,9 @@ typedef uint64_t hourlog_size;
 #define HOURLOG_TOTAL_MAX 4294967295u  /* the sum of all counts in a store    */
 #define HOURLOG_IMAGE_TOTAL_MAX 1099511627775u /* in an image: 2^40 - 1       */
 #define HOURLOG_IMAGE_HOURS_MAX 65536u /* counts in an image                  */
-#define HOURLOG_E_MIN 2u               /* an image's pages hold 2^e counts,   */
-#define HOURLOG_E_MAX 8u               /* e from 2 to 8                       */
+#define HOURLOG_E_MIN 2u               /* an image's pages hold 2^e counts, e */
+#define HOURLOG_E_MAX 8u               /* from 2 to 8: 6 if nothing speaks    */
+                                       /* for another                         */
 
 /* Bytes of a store with P pages and C cells; a constant if P and C are. */
 #define HOURLOG_STORE_LENGTH(P, C) \
@@ -175,6 +206,10 @@ typedef uint64_t hourlog_size;
              : 16 + 30 * HOURLOG_AS(size_t, C) +                        \
                    8 * HOURLOG_IMAGE_PAGES(64 * HOURLOG_AS(size_t, P), e))
 
+/* The entries of a list of changes, which is what hourlog_day takes as n; of an
+ * array, not of a pointer to one. */
+#define HOURLOG_CHANGES(list) (sizeof(list) / sizeof(uint32_t))
+
 /* A book of the old boards, in packed decimal: two bytes an hour, four digits,
  * the high digit first, so that ten coins are 00 10 in hexadecimal. */
 #define HOURLOG_BOOK_COUNT_MAX 9999u
@@ -206,21 +241,22 @@ typedef uint64_t hourlog_size;
  *       for the hours whose path is whole.
  *   10  These bytes are not a sound store, or len is not their length (as after
  *       an update of the firmware that changes P or C).  First try the other
- *       copy: if it is sound, it is the log but for the last change at most.
- *       Only where neither is, make a fresh store; and unless the board is new,
- *       copy both away before, for they may be a log that was damaged.
+ *       copy: it is the log if it is sound and you know it to be WHOLE (see WHEN
+ *       POWER FAILS); sound alone it may be half a change.  Only where it is not,
+ *       make a fresh store; and unless the board is new, copy both away before,
+ *       for they may be a log that was damaged.
  *   11, 12  The log takes no more, and the refused hour is NOT in it.  Save the
  *       log, by freeze or as it stands; make a fresh store, filled up to the
  *       hour of the day (see THE CLOCK); append the refused count to it.  At 12
  *       a smaller count may still fit, and an hour without coins does; but no
- *       cell comes back unless a set makes some count smaller.  An insert or a
+ *       cell comes back but by a set, a strike or an insert.  An insert or a
  *       strike is refused 12 too, where the hours behind it would fall into
  *       pages that need more cells: the log is as it was, and goes on.
  *   14  Read the book from the old board again: an odd number of bytes, or a
  *       digit above 9, was never written by one.  No hour of it came over.
  *   15  No old board could have held that hour: keep the image.
- *   16  The list of changes is none (see THE CLOCK): set it right.  The log is
- *       whole; with the empty list every day has 24 hours.
+ *   16  The list of changes is not valid (see THE CLOCK): set it right.  The log
+ *       is whole; with the empty list every day has 24 hours.
  */
 #define HOURLOG_REFUSED_PAGE_SIZE 1 /* e outside 2 to 8                        */
 #define HOURLOG_REFUSED_LIST 2      /* over 65,536 counts                      */
@@ -336,8 +372,8 @@ int64_t hourlog_reach(const uint8_t *store, hourlog_size len, uint32_t figure);
 
 /* The sum of the hours of a day.  A day starts after the hours of all days
  * before it: 24 each, but for those that the list of changes names (see THE
- * CLOCK).  n is the number of its entries, two for each change; with n = 0 day d
- * is hours 24*d to 24*d + 23.
+ * CLOCK).  n is the number of its entries, two for each change, which is what
+ * HOURLOG_CHANGES gives; with n = 0 day d is hours 24*d to 24*d + 23.
  * Refuses: 10; 16 (n is odd, a day number is not above the one before it, or
  * hours are neither 23 nor 25, anywhere in the list); 7 (the day ends after N). */
 HOURLOG_MUST_USE
@@ -352,7 +388,8 @@ int64_t hourlog_free(const uint8_t *store, hourlog_size len);
 
 /* Writes the image of all logged counts, pages of 2^e counts, and answers its
  * length in bytes.  Bytes of the buffer beyond the image are left unchanged.
- * A smaller e makes the image longer and its queries faster.
+ * A smaller e makes the image longer and its queries faster: take 6 unless you
+ * know better.
  * Refuses: 10, 1, 4. */
 HOURLOG_MUST_USE
 int64_t hourlog_freeze(const uint8_t *store, hourlog_size len, uint32_t e,

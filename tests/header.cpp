@@ -1,9 +1,10 @@
 // The header as C++ sees it: it compiles, its constants are constants, its names
 // link without C++'s mangling, its numbers and texts are those of header_words.h, and what
-// it says of lengths, cells, NULL and the bytes of a store is so of the library. The stores
-// and the wide image that docs/FORMAT.md works out are so too.
+// it says of lengths, cells, NULL, the bytes of a store and those that a change writes is so
+// of the library. The stores and the wide image that docs/FORMAT.md works out are so too.
 #include "header_words.h"
 
+#include <algorithm>
 #include <cstdio>
 #include <sys/mman.h>
 #include <vector>
@@ -191,6 +192,65 @@ static void worked_chains()
     chains({1, 3}, {2}, {4});
 }
 
+// Every byte that differs is among those that the header names for an append or a set in a
+// page: the entry and the cells that the page has or had where its sum is another, bytes 6
+// to 9 where cells are taken or given back, and N.  How many they are.
+static size_t bytes_changed(const std::vector<uint8_t> &before, const std::vector<uint8_t> &after, uint32_t page)
+{
+    const size_t entry = 16 + 6 * page, cells = HOURLOG_STORE_LENGTH(hourlog_pages(after.data()), 0);
+    const std::vector<uint32_t> had = chain(before, entry + 4), has = chain(after, entry + 4);
+    std::vector<bool> named(after.size());
+    const auto name = [&](size_t from, size_t length) {
+        for (size_t k = from; k < from + length; k++) {
+            named[k] = true;
+        }
+    };
+    if (hourlog_hours(before.data()) != hourlog_hours(after.data())) {
+        name(12, 4);
+    }
+    if (hourlog_four_bytes(&before[entry]) != hourlog_four_bytes(&after[entry])) {
+        name(entry, 6);
+        for (const auto &page_cells : {had, has}) {
+            for (const uint32_t cell : page_cells) {
+                name(cells + 32 * (cell - 1), 32);
+            }
+        }
+    }
+    if (had.size() != has.size()) {
+        name(6, 4);
+    }
+    size_t changed = 0;
+    for (size_t k = 0; k < after.size(); k++) {
+        assert(before[k] == after[k] || named[k]);
+        changed += named[k];
+    }
+    return changed;
+}
+
+// Hours from none to many coins, and cells that go to and fro between three pages.
+static void bytes_of_a_change()
+{
+    std::vector<uint8_t> store(HOURLOG_STORE_LENGTH(3, 24));
+    assert(hourlog_fresh(store.data(), store.size(), 3, 24) == 0);
+    size_t most_changed = 0;
+    for (uint32_t hour = 0; hour < 3 * HOURLOG_HOURS_A_PAGE; hour++) {
+        const uint32_t count = hour % 3 == 0 ? 0 : 1u << (hour * 7 % 25);
+        std::vector<uint8_t> before = store;
+        assert(!hourlog_is_refused(hourlog_append(store.data(), store.size(), count)));
+        assert(bytes_changed(before, store, hour / 64) <= 270);
+        before = store;
+        assert(!hourlog_is_refused(hourlog_set(store.data(), store.size(), hour / 2, count / 1000)));
+        most_changed = std::max(most_changed, bytes_changed(before, store, hour / 128));
+    }
+    assert(most_changed > 32);
+    std::vector<uint8_t> one(HOURLOG_STORE_LENGTH(1, 8)), none;
+    assert(hourlog_fresh(one.data(), one.size(), 1, 8) == 0);
+    none = one;
+    assert(hourlog_append(one.data(), one.size(), 0) == 0 && bytes_changed(none, one, 0) == 4);
+    none = one;
+    assert(hourlog_append(one.data(), one.size(), HOURLOG_TOTAL_MAX) == 8 && bytes_changed(none, one, 0) == 270);
+}
+
 // docs/FORMAT.md's image of edition 2: e = 2, counts 4,294,967,295, 0, 2, 0, 5.
 static void worked_wide_image()
 {
@@ -341,6 +401,7 @@ int main()
     bytes_of_a_store();
     worked_store();
     worked_chains();
+    bytes_of_a_change();
     worked_wide_image();
     greatest_image();
     worked_book();

@@ -30,6 +30,10 @@ static inline void lengths(void)
     assert(HOURLOG_STORE_LENGTH(1024, 1800) == 63760);
     assert(HOURLOG_BOOK_LENGTH(3) == 6 && HOURLOG_BOOK_LENGTH(65536) == 131072);
 
+    /* entries and not changes, also where the changes are rows */
+    static const uint32_t changes[] = {88, 23, 305, 25}, rows[3][2] = {{88, 23}, {305, 25}, {452, 23}};
+    assert(HOURLOG_CHANGES(changes) == 4 && HOURLOG_CHANGES(rows) == 6);
+
     assert(HOURLOG_IMAGE_PAGE(2) == 4 && HOURLOG_IMAGE_PAGE(8) == 256);
     assert(HOURLOG_IMAGE_PAGES(0, 2) == 0 && HOURLOG_IMAGE_PAGES(1, 2) == 1);
     assert(HOURLOG_IMAGE_PAGES(4, 2) == 1 && HOURLOG_IMAGE_PAGES(5, 2) == 2);
