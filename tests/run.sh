@@ -105,10 +105,10 @@ from_c() {
     echo "== C example and header"
     strict="-O2 -Wconversion -Wsign-conversion"
     for standard in c99 c11; do
-        build board-$standard "$HOURLOG_LIB" gcc -std=$standard $strict examples/board.c
+        build board-$standard "$HOURLOG_LIB" gcc -std=$standard $strict examples/board.c examples/kept.c
         transcript board-$standard
     done
-    build board-c++17 "$HOURLOG_LIB" g++ -std=c++17 $strict -x c++ examples/board.c
+    build board-c++17 "$HOURLOG_LIB" g++ -std=c++17 $strict -x c++ examples/board.c examples/kept.c
     transcript board-c++17
     build book-c99 "$HOURLOG_LIB" gcc -std=c99 $strict examples/book.c
     over_and_back book-c99
@@ -149,19 +149,20 @@ installed() {
         flags=$(sed -n "s/^Cflags: //p; s/^Libs: //p" "$file" |
             sed "s,\${includedir},$prefix/include,; s,\${libdir},$prefix/lib,")
     fi
-    gcc -std=c99 -O2 examples/board.c $flags -o "$out/board-installed"
+    gcc -std=c99 -O2 examples/board.c examples/kept.c $flags -o "$out/board-installed"
     transcript board-installed
 }
 
-# Leaks are not looked for: the library allocates nothing. A stable rustc does not
-# offer its sanitizer yet: hence RUSTC_BOOTSTRAP. A seventh of the seeds is played;
-# the shapes of the largest stores go by sixths, so all are met.
+# Leaks are not looked for: the library allocates nothing. KEPT is nothing, since a
+# section of one's own has no red zones. A stable rustc does not offer its sanitizer
+# yet: hence RUSTC_BOOTSTRAP. A seventh of the seeds is played; the shapes of the
+# largest stores go by sixths, so all are met.
 sanitised() {
     echo "== with AddressSanitizer"
     export ASAN_OPTIONS=detect_leaks=0
     tests/instrumented.sh "$instrumented"
     build board-sanitised "$instrumented" gcc -std=c99 -g -O1 \
-        -fsanitize=address,undefined -fno-sanitize-recover=all examples/board.c
+        -fsanitize=address,undefined -fno-sanitize-recover=all -DKEPT= examples/board.c examples/kept.c
     transcript board-sanitised
     export HOURLOG_LIB="$instrumented" HOURLOG_SHARE=7
     export RUSTC_BOOTSTRAP=1 RUSTFLAGS=-Zsanitizer=address
