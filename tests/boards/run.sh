@@ -1,12 +1,13 @@
 #!/bin/sh
 # The proved library on other processors, held to the one on x86-64: on emulated boards with a Cortex-M3, with an M4, with the Cortex-M0+'s
 # code (on the M3, made to fault at unaligned addresses as an M0+ does, and on a Cortex-M0 with 16 KiB of memory), with an AArch64 and, where
-# qemu-system-riscv32 is there, a RISC-V; as WebAssembly in node. Two minutes.
+# qemu-system-riscv32 is there, a RISC-V; as WebAssembly in node. And a board whose power fails. Two to three minutes.
 #
 # usage: tests/boards/run.sh [tools]
 #   tools             only sees to it that the tools are there: what is missing is installed, on Debian as root
 #   HOURLOG_BOARDS=0  leaves all of it out
 #   HOURLOG_LIB       the folder that holds libhourlog_c.a of x86-64 (else it is built)
+#   HOURLOG_CUTS      how often power fails; HOURLOG_SEED repeats a run (tests/boards/power)
 #
 # What is compared: document 01's session and the lines of crates/hourlog/stdin, by the program that stands in for `hourlog`; the C example;
 # some ten thousand calls, answer by answer and byte by byte. The stack of each call is held to include/hourlog.h. The figures that are
@@ -31,6 +32,7 @@ fail() {
 # The Debian packages that are missing.
 missing() {
     command -v gcc >/dev/null || printf ' gcc'
+    command -v python3 >/dev/null || printf ' python3'
     command -v arm-none-eabi-gcc >/dev/null || printf ' gcc-arm-none-eabi'
     case $(arm-none-eabi-gcc -print-file-name=rdimon.specs 2>/dev/null) in */*) ;; *) printf ' libnewlib-arm-none-eabi' ;; esac
     command -v qemu-system-arm >/dev/null && command -v qemu-system-aarch64 >/dev/null || printf ' qemu-system-arm'
@@ -87,7 +89,7 @@ faults_outside() {
 run_all() {
     on_board session tests/boards/session.out "" tests/boards/session.c "$out/session_document.c"
     on_board lines crates/hourlog/stdout "" tests/boards/session.c "$out/session_lines.c"
-    on_board example examples/board.expected "" examples/board.c -- "$folder/board.image"
+    on_board example examples/board.expected "" examples/board.c examples/kept.c -- "$folder/board.image"
     on_board calls "$out/calls.expected" "" tests/boards/calls.c
     case $target in
     cortex-m*)
@@ -137,8 +139,9 @@ expect() {
     as_c crates/hourlog/stdin >"$out/session_lines.c"
     gcc -std=c99 -O2 -Iinclude tests/boards/calls.c -L"$library" -lhourlog_c -o "$out/calls"
     "$out/calls" >"$out/calls.expected"
-    gcc -std=c99 -O2 -Iinclude examples/board.c -L"$library" -lhourlog_c -o "$out/board"
+    gcc -std=c99 -O2 -Iinclude examples/board.c examples/kept.c -L"$library" -lhourlog_c -o "$out/board"
     "$out/board" "$out/board.image" >/dev/null
+    gcc -shared -Wl,--whole-archive "$library/libhourlog_c.a" -Wl,--no-whole-archive -o "$out/hourlog.so"
     for call in $(nm "$library/libhourlog_c.a" | awk '$2 == "T" { print $3 }'); do
         grep -q "$call(" tests/boards/calls.c || fail "tests/boards/calls.c does not make the call $call"
         grep -q "$call(" tests/stack.c || fail "tests/stack.c does not measure the call $call"
@@ -152,7 +155,7 @@ install_missing
 [ "${1:-}" != tools ] || exit 0
 boards/module >/dev/null
 expect
-(one_target cortex-m3 && one_target cortex-m0plus) &
+(one_target cortex-m3 && timeout 3600 tests/boards/power "$out/cortex-m3" "$out/hourlog.so" && one_target cortex-m0plus) &
 others=$!
 status=0
 (for each in cortex-m4 aarch64 riscv32 wasm32; do one_target $each; done) || status=$?
