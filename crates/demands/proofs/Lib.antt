@@ -25,6 +25,7 @@ pub mod Note4
 pub mod Note5
 pub mod Note7
 pub mod Note8
+pub mod FirstEdition
 pub mod ExampleForms
 pub mod ExampleSearches
 pub mod Computing
