@@ -11,7 +11,7 @@ use Rattle.answers.specs.Image.{Verdict, fails, given, holds, refused, told}
 use Rattle.answers.specs.declared.image.Answer.the-variants.{Number, Refused}
 use Rattle.lists.specs.Lists.{pick, splice}
 use Rattle.lists.proofs.Tests.{right}
-use Rattle.image.specs.Calls.{put, resultOf, unwritten}
+use Rattle.image.specs.Calls.{past, put, resultOf, unwritten}
 use Rattle.image.specs.Check.{accepted, check}
 use Rattle.image.specs.Read.{listOf}
 use Rattle.image.proofs.CallLaws.{put-refused}
@@ -19,7 +19,7 @@ use Rattle.image.proofs.CheckLaws.{check-holds}
 use Rattle.image_put.proofs.Writing.{splice-front}
 use Rattle.book.specs.Book.{bookOf, fourDigits}
 use Rattle.book.proofs.BookLaws.{length-book}
-use Rattle.book_out.specs.ToBook.{past, putBook, toCall}
+use Rattle.book_out.specs.ToBook.{putBook, toCall}
 
 -- ---- the tests, one after another
 pub to-fails : (s out : List ℕ) (k : ℕ) → check s ≡ fails k → resultOf (Refused k) out ≡ toCall s out
@@ -68,6 +68,6 @@ pub to-refused : (s out : List ℕ) (k : ℕ) → toCall s out .reply ≡ refuse
 unfolding toCall past unwritten
 to-refused s out k = go (check s)
   where
-    go : (v : Verdict) → past v (putBook (listOf s) out) out .reply ≡ refused k → past v (putBook (listOf s) out) out .bytes ≡ out
+    go : (v : Verdict) → past v out (putBook (listOf s) out) .reply ≡ refused k → past v out (putBook (listOf s) out) .bytes ≡ out
     go (holds n t) q = book-refused (listOf s) out k q
     go (fails j) q = refl

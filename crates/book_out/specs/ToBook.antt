@@ -2,9 +2,8 @@
 use mathlib.Core.List.{List}
 use Prim.Native.Nat.{ℕ}
 use Rattle.answers.specs.Refusals.{countTooWide}
-use Rattle.answers.specs.Image.{Verdict, fails, holds}
 use Rattle.lists.specs.Lists.{pick}
-use Rattle.image.specs.Calls.{Result, put, unwritten}
+use Rattle.image.specs.Calls.{Result, past, put, unwritten}
 use Rattle.image.specs.Check.{check}
 use Rattle.image.specs.Read.{listOf}
 use Rattle.book.specs.Book.{bookOf, fourDigits}
@@ -14,11 +13,6 @@ use Rattle.book.specs.Book.{bookOf, fourDigits}
 unfoldable pub putBook : List ℕ → List ℕ → Result
 putBook xs out = pick (fourDigits xs) (put out (bookOf xs)) (unwritten out countTooWide)
 
--- past the check: '5 and 6 of an image that must be accepted are those of the full check'
-unfoldable pub past : Verdict → Result → List ℕ → Result
-past (holds n t) w out = w
-past (fails k) w out = unwritten out k
-
 -- the book of the list that the bytes s say
 unfoldable pub toCall : List ℕ → List ℕ → Result
-toCall s out = past (check s) (putBook (listOf s) out) out
+toCall s out = past (check s) out (putBook (listOf s) out)

@@ -25,7 +25,7 @@ pub(crate) fn put_book(s: &[u8], table: &[u8; 864], h: Head, book: &mut [u8])
     let mut counts = [0u32; 256];
     let mut p = 0;
     while p < pages {
-        page_counts(s, table, h.table, h.code, w, h.e, p, &mut counts);
+        page_counts(s, table, h.table, h.code, w, h.e, p, &mut counts, 0);
         let from = m * p;
         let some = lists::smaller(m, n - from);
         put_hours(book, from, &counts, some);

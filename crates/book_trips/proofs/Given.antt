@@ -10,7 +10,7 @@ use lib.Seq.{take-at}
 use borrow.Author.Tests.{le-leb}
 use Rattle.answers.specs.Image.{Reply, Verdict, fails, given, holds, refused}
 use Rattle.lists.specs.Lists.{pick}
-use Rattle.image.specs.Calls.{Result, lengthCall, put, putAfter, unwritten, writeCall}
+use Rattle.image.specs.Calls.{Result, lengthCall, past, put, putAfter, unwritten, writeCall}
 use Rattle.image.specs.Check.{accepted, check}
 use Rattle.image.specs.Image.{Limits, image}
 use Rattle.image.specs.Read.{listOf}
@@ -19,7 +19,7 @@ use Rattle.image.proofs.CheckLaws.{check-held}
 use Rattle.book.specs.Book.{bookOf, decimal, fourDigits, listOfBook}
 use Rattle.book_in.specs.FromBook.{fromCall}
 use Rattle.book_in.proofs.FromLaws.{from-list}
-use Rattle.book_out.specs.ToBook.{past, putBook, toCall}
+use Rattle.book_out.specs.ToBook.{putBook, toCall}
 use Rattle.book_out.proofs.ToLaws.{to-past}
 use Rattle.book_trips.specs.RoundTrips.{Gave}
 
@@ -98,7 +98,7 @@ pub to-gave : (s out b : List ℕ) → Gave (toCall s out) b → Back s b
 unfolding toCall past
 to-gave s out b = go (check s) refl
   where
-    go : (v : Verdict) → check s ≡ v → Gave (past v (putBook (listOf s) out) out) b → Back s b
+    go : (v : Verdict) → check s ≡ v → Gave (past v out (putBook (listOf s) out)) b → Back s b
     go (holds n t) q g =
         let w = book-gave (listOf s) out b g in
         record { is-accepted = check-held s n t q; four = w .0; book-is = w .1 }
@@ -166,7 +166,7 @@ to-does : (s out : List ℕ) (n : ℕ) → toCall s out .reply ≡ given n → G
 unfolding toCall past unwritten
 to-does s out n = go (check s)
   where
-    go : (v : Verdict) → past v (putBook (listOf s) out) out .reply ≡ given n → Gave (past v (putBook (listOf s) out) out) (bookOf (listOf s))
+    go : (v : Verdict) → past v out (putBook (listOf s) out) .reply ≡ given n → Gave (past v out (putBook (listOf s) out)) (bookOf (listOf s))
     go (holds m t) q = book-does (listOf s) out n q
     go (fails k) q = absurd (never k n q)
 

@@ -12,3 +12,4 @@ pub mod TailLaws
 pub mod RootLaws
 pub mod CallLaws
 pub mod Sizes
+pub mod Blocks

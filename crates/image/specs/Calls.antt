@@ -7,7 +7,7 @@ use lib.Dec.{leb}
 use Rattle.answers.specs.Refusals.{bufferShort, listTooLong, pageSizeWrong, totalTooHigh}
 use Rattle.lists.specs.Lists.{sum, pick}
 use Rattle.image.specs.Image.{image, maxHours, maxTotal}
-use Rattle.answers.specs.Image.{Reply, given, refused, told}
+use Rattle.answers.specs.Image.{Reply, Verdict, fails, given, holds, refused, told}
 use Rattle.answers.specs.declared.image.Answer.{Answer}
 
 -- length: 1, 'e outside 2 to 8'; 2, 'over 65,536 counts'; 3, the total 'above 2^40 - 1'; else 'the image's length in bytes'
@@ -38,6 +38,11 @@ put out i = pick (leb (length i) (length out)) (record { reply = given (length i
 unfoldable pub putAfter : Reply → List ℕ → List ℕ → Result
 putAfter (given n) out i = put out i
 putAfter (refused k) out i = unwritten out k
+
+-- past the refusals of a check: '5 and 6 of an image that must be accepted are those of the full check'
+unfoldable pub past : Verdict → List ℕ → Result → Result
+past (holds n t) out r = r
+past (fails k) out r = unwritten out k
 
 -- write: the refusals of length, then 4
 unfoldable pub writeCall : ℕ → List ℕ → List ℕ → Result

@@ -6,7 +6,7 @@ use Prim.Native.Nat.{ℕ, zero, suc, _≤_, _<_}
 use native.Mathlib.Omega.{arith}
 use lib.ListN.{getD, take}
 use lib.Dec.{leb}
-use borrow.Author.Tests.{le-leb, leb-true}
+use borrow.Author.Tests.{le-leb, leb-false, leb-true}
 use Rattle.lists.specs.Counts.{within}
 use Rattle.lists.specs.Lists.{concat, every, sum, tabulate}
 use Rattle.lists.proofs.Tests.{both, left, right}
@@ -48,3 +48,22 @@ unfolding within every tabulate concat
 within-concat w zero f h = refl
 within-concat w (suc k) f h =
     within-append w (f 0) (concat (tabulate k (λ j. f (suc j)))) ∙ both (h 0 (omega arith)) (within-concat w k (λ j. f (suc j)) (λ p l. h (suc p) (omega arith)))
+
+-- ---- a list that has a number above the limit, and which
+one-above : (w x : ℕ) (xs : List ℕ) → (within w xs ≡ false → (i : ℕ) × (w < getD xs i 0)) → (a : Bool) → leb x w ≡ a → (b : Bool) → within w xs ≡ b
+    → (a && b) ≡ false → (i : ℕ) × (w < getD (x ∷ xs) i 0)
+one-above w x xs r false p b q e = (0, leb-false x w p)
+one-above w x xs r true p true q e = let z : _≡_ {A = ℕ} 0 1 = cc in absurd (omega arith)
+one-above w x xs r true p false q e = let y = r q in (suc (y .0), y .1)
+
+pub within-not : (w : ℕ) (xs : List ℕ) → within w xs ≡ false → (i : ℕ) × (w < getD xs i 0)
+unfolding within every
+within-not w [] h = let z : _≡_ {A = ℕ} 0 1 = cc in absurd (omega arith)
+within-not w (x ∷ xs) h = one-above w x xs (λ q. within-not w xs q) (leb x w) refl (within w xs) refl h
+
+pub not-within : (w : ℕ) (xs : List ℕ) (i : ℕ) → w < getD xs i 0 → within w xs ≡ false
+not-within w xs i h = go (within w xs) refl
+  where
+    go : (t : Bool) → within w xs ≡ t → within w xs ≡ false
+    go false e = e
+    go true e = absurd (omega (arith, within-at w xs e i))

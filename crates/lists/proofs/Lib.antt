@@ -7,4 +7,5 @@ pub mod Tests
 pub mod Occurrences
 pub mod Reach
 pub mod Pages
+pub mod Blocks
 pub mod CountLaws

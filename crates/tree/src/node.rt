@@ -70,17 +70,6 @@ pub fn one_word(h: u32, s: u64) -> bool
     digits_of(s) <= 19
 }
 
-// Whether a tree of 2^h counts with sum s is one of eight counts of which each four are such a tree. A sum below 2^19 has 19 digits at most,
-// and so have the sums of both fours.
-pub fn fours_in_words(h: u32, s: u64) -> bool
-    ensures { λ r. ⌜ (r ≡ true → (h ≡ 3) × (digits s ≤ 19)) ⌝ }
-{
-    if h != 3 {
-        return false;
-    }
-    s < 524288
-}
-
 // Whether a tree of 2^h counts with sum s is one of eight counts that own 57 bits at most. A sum of 439 owns 58.
 pub fn eight_in_word(h: u32, s: u64) -> bool
     ensures { λ r. ⌜ (r ≡ true → (h ≡ 3) × (s < eightLimit)) ⌝ }

@@ -1,5 +1,5 @@
 -- Eight counts: all out of one word, or each four out of a word of their own. Assumes nothing.
-use mathlib.Core.Path.{_≡_, refl, sym, ap, _∙_, subst}
+use mathlib.Core.Path.{_≡_, refl, ap, _∙_}
 use mathlib.Core.Bool.{true}
 use mathlib.Core.List.{List}
 use Prim.Native.Nat.{ℕ, _+_, _-_, _≤_, _<_}
@@ -14,23 +14,20 @@ use Rattle.tree.specs.Code.Exact.{exact}
 use Rattle.tree.specs.Code.Node.{Lies, Rooted}
 use Rattle.tree.specs.declared.node.Split.{Split}
 use Rattle.tree.proofs.Rooting.{left-lies, right-lies}
-use Rattle.tree_word.proofs.Decoding.{Unfolded, unfolded, both-halves, height-written}
+use Rattle.tree_word.proofs.Decoding.{Unfolded, unfolded, both-halves}
 use Rattle.tree.proofs.OneWord.{fewer-digits, four-fits, eight-fits}
 use Rattle.tree_word.proofs.WordBits.{HighEnd, loaded, word-exact, word-counts}
 
 -- ---- all out of one word, where the table has their sum
-module _ {b : List ℕ} {a h s : ℕ} (e : h ≡ 3) (few : s < 256) (y : Lies b a h s) (x : exact h s (bits b) a ≡ true) (w : ℕ) (f : Front (bits b) a w) where
-  code : exact 3 s (bits b) a ≡ true
-  code = ap (λ (k : ℕ). exact k s (bits b) a) (sym e) ∙ x
-
+module _ {b : List ℕ} {a s : ℕ} (few : s < 256) (y : Lies b a 3 s) (x : exact 3 s (bits b) a ≡ true) (w : ℕ) (f : Front (bits b) a w) where
   held : HighEnd (bits b) a 3 s w
-  held = loaded w (subst (λ (k : ℕ). Lies b a k s) e y) (eight-fits s (omega arith)) f
+  held = loaded w y (eight-fits s (omega arith)) f
 
   pub eight-exact : exact 3 s (field 64 w) 0 ≡ true
-  eight-exact = word-exact held code
+  eight-exact = word-exact held x
 
-  pub eight-written : (o r : List ℕ) (i : ℕ) → r ≡ splice o i (counts 3 s (field 64 w) 0) → r ≡ splice o i (counts h s (bits b) a)
-  eight-written o r i q = height-written h s 3 (bits b) a o r i e (q ∙ ap (splice o i) (word-counts held code))
+  pub eight-written : (o r : List ℕ) (i : ℕ) → r ≡ splice o i (counts 3 s (field 64 w) 0) → r ≡ splice o i (counts 3 s (bits b) a)
+  eight-written o r i q = q ∙ ap (splice o i) (word-counts held x)
 
 -- ---- in two words
 -- the words v and w are each loaded where a half starts

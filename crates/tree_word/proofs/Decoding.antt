@@ -82,14 +82,6 @@ module _ {b : List ℕ} {a h s : ℕ} {r : Split} (n : Inner b a h s r) where
       (eo ∙ ap (λ (k : ℕ). splice m (i + half) (counts (h - 1) (s - r .left) b k)) (n .root .second-is (n .sound)))
       ∙ ap (λ (k : ℕ). splice l i (counts k s b a)) up
 
--- ---- a node of height k, as it was tested, and room for its counts from index i on
-pub record OfHeight (k : ℕ) (b : List ℕ) (a s : ℕ) (o : List ℕ) (i : ℕ) : Type 0 where
-  pub lies : Lies b a k s
-  pub code : exact k s (bits b) a ≡ true
-  pub room : i + 2 ^ k ≤ length o
-
-pub of-height : {h k : ℕ} {b : List ℕ} {a s : ℕ} {o : List ℕ} {i : ℕ} → h ≡ k → OfHeight h b a s o i → OfHeight k b a s o i
-of-height {h} {k} {b} {a} {s} {o} {i} e n = subst (λ (j : ℕ). OfHeight j b a s o i) e n
-
+-- ---- a node of height k, as it was tested
 pub height-written : (h s k : ℕ) (b : List ℕ) (a : ℕ) (o r : List ℕ) (i : ℕ) → h ≡ k → r ≡ splice o i (counts k s b a) → r ≡ splice o i (counts h s b a)
 height-written h s k b a o r i e f = f ∙ ap (λ (j : ℕ). splice o i (counts j s b a)) (sym e)

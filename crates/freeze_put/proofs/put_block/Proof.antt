@@ -5,13 +5,16 @@ use native.Mathlib.Nat.{mul-le-mul-left, mul-le-mul-right}
 use Rattle.image.proofs.PageLaws as L
 use Rattle.image_put.specs.Code.Writing.{Handed, Laid}
 use Rattle.image_put.specs.declared.Place.{Place}
-use Rattle.freeze_put.proofs.Blocks.{In, Sizes, blocks-few, counts-in, first-in, inside, sizes, window-long}
+use Rattle.lists.proofs.Blocks.{window-long}
+use Rattle.image.proofs.Blocks.{In, Sizes, counts-in, in-block, sizes}
+use Rattle.freeze_put.proofs.Blocks.{blocks-few, first-in}
 use borrow.Author.Needs.{needs}
 use mathlib.Core.List.{List}
 use mathlib.Core.Path.{_≡_}
 use Prim.Native.Nat.{ℕ, _+_, _-_, _*_, _≤_, _<_}
 use native.Mathlib.Omega.{arith}
 use lib.ListN.{length}
+use Rattle.lists.specs.Lists.{window}
 use Rattle.store.specs.Reading.{listIn}
 use Rattle.freeze_put.proofs.put_block.Statement.{statement}
 use Rattle.freeze_put.proofs.put_block.Tie as tie
@@ -99,7 +102,7 @@ module _ (c : tie.After-struct-known3 Inv-loop μ-loop) where
 
   within : In (top .before .before .power .result) (call top .args .b) (place .page)
   within =
-      inside (call top .args .b) (place .page) (sized top) (c .before .before .before .before .before .loop .inv .0)
+      in-block (call top .args .b) (place .page) (sized top) (c .before .before .before .before .before .loop .inv .0)
       (omega (arith, c .before .before .before .if1 .taken, c .before .before .before .before .before .before .before .before .smaller .ensures))
 
   abbrev handed : (first : List ℕ) → Laid (listIn (call top .args .s .now)) first (c .before .before .before .before .before .loop .out) (call top .args .r) place
@@ -111,7 +114,9 @@ module _ (c : tie.After-struct-known3 Inv-loop μ-loop) where
     more = omega (arith, c .before .before .before .if1 .taken, c .before .before .before .before .before .before .before .before .smaller .ensures);
     counts-are =
         counts-in (call top .args .r .e) (top .before .before .power .result) (call top .args .b) (place .page) (listIn (call top .args .s .now)) _
-        (top .before .before .power .ensures) within (c .before .before .before .before .before .before .unpack .ensures);
+        (top .before .before .power .ensures) within
+        (c .before .before .before .before .before .before .unpack .ensures
+        ∙ ap (λ (z : ℕ). window (listIn (call top .args .s .now)) z 256) {x = 64 * (4 * call top .args .b)} {y = 256 * call top .args .b} (omega arith));
     near = omega (arith, within .high);
   }
 

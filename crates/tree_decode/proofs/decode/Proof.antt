@@ -37,8 +37,8 @@ returns c =
     let a = small d .args in
     c .decode-word .ensures ∙ ap (splice (a .out .now) (a .from)) (word-counts (all-held d) (small d .pre .0 .2))
 
-low-node-requires : tie.Need-low-node-requires
-low-node-requires c κs = search needs
+low-tree-requires : tie.Need-low-tree-requires
+low-tree-requires c κs = search needs
 
 returns-2 : tie.Need-returns-2
 returns-2 c = search needs
@@ -57,7 +57,7 @@ decode-spec =
     load-requires
     decode-word-requires
     returns
-    low-node-requires
+    low-tree-requires
     returns-2
     decode-node-requires
     returns-3)

@@ -10,7 +10,7 @@ use Rattle.lists.specs.Lists.{splice}
 use Rattle.book.specs.Book.{bookOf}
 use Rattle.image.specs.Read.{eOf, listOf}
 use Rattle.image.proofs.Accepted.{accepted-only, length-list}
-use Rattle.image_page.proofs.AcceptedPage.{places}
+use Rattle.image_page.proofs.AcceptedPage.{page-room, places}
 use Rattle.book_out.proofs.OutLaws.{Sizes, all-put, none-put, put-long, read-four, read-long, read-more, sizes}
 use Rattle.book_out.proofs.put.put_book.Statement.{statement}
 use Rattle.book_out.proofs.put.put_book.Tie as tie
@@ -51,7 +51,7 @@ page-counts-requires : tie.Need-page-counts-requires Inv-loop μ-loop
 page-counts-requires c κs =
     let a = call (c .before .before) in
     let l = c .before .before in
-    ((a .pre .0, places (a .pre .1) (l .before .digits-of .ensures), a .pre .1 .e-is, omega (arith, a .pre .1 .pages-are)), (l .loop .inv .0, a .pre .4))
+    ((a .pre .0, places (a .pre .1) (l .before .digits-of .ensures), a .pre .1 .e-is, omega (arith, a .pre .1 .pages-are)), (l .loop .inv .0, a .pre .4, page-room _ (a .pre .0) (a .pre .1 .e-is)))
 
 -- page p was read
 module _ (c : tie.After-page-counts Inv-loop μ-loop) where

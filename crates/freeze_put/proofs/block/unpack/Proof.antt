@@ -1,28 +1,26 @@
 -- `freeze_put::block::unpack` meets its contract. Assumes nothing.
 use borrow.Author.Needs.{needs}
 use mathlib.Core.Path.{refl, ap, _∙_}
-use mathlib.Core.List.{List}
 use Prim.Native.Nat.{_<_}
 use lib.ListN.{length-replicate}
 use Rattle.tree_decode.proofs.Limits.{small-fits}
 use Rattle.pages.proofs.Coding.{lies}
 use Rattle.pages.proofs.SoundPage.{as-said, sum-small}
-use Rattle.store.proofs.Holds.{page-length}
 use Rattle.store.proofs.SoundFacts.{facts}
-use Rattle.freeze_put.proofs.Listing.{block-is, none-put, one-put, page-decoded, put-length}
+use Rattle.lists.proofs.Blocks.{block-is, none-put, one-put, put-length, row}
+use Rattle.freeze_put.proofs.Listing.{page-decoded}
 use mathlib.Core.Path.{_≡_}
 use Prim.Native.Nat.{ℕ, _+_, _-_, _*_, _≤_}
 use native.Mathlib.Omega.{arith}
 use lib.ListN.{length}
-use Rattle.lists.specs.Lists.{concat, splice, tabulate}
-use Rattle.store.specs.Plain.{page}
+use Rattle.lists.specs.Lists.{splice}
 use Rattle.store.specs.Reading.{listIn, pagesOf}
 use Rattle.freeze_put.proofs.block.unpack.Statement.{statement}
 use Rattle.freeze_put.proofs.block.unpack.Tie as tie
 
 abbrev Inv-loop : tie.InvT-loop
 Inv-loop s pages first list₀ some table j₀ list j =
-    (j ≤ some) × (length list ≡ length list₀) × (list ≡ splice list₀ 0 (concat (tabulate j (λ (i : ℕ). page (listIn s) (first + i)))))
+    (j ≤ some) × (length list ≡ length list₀) × (list ≡ splice list₀ 0 (row 64 (listIn s) first j))
 
 abbrev μ-loop : tie.MeasureT-loop
 μ-loop s pages first list₀ some table j₀ list j = some - j
@@ -37,7 +35,7 @@ put-sums-requires : tie.Need-put-sums-requires Inv-loop μ-loop
 put-sums-requires c κs = search needs
 
 loop-holds : tie.Need-loop-holds Inv-loop μ-loop
-loop-holds c = (omega arith, refl, none-put _ _)
+loop-holds c = let a = c .before .before .before .before .args in (omega arith, refl, none-put _ 64 (listIn (a .s .now)) (a .first))
 
 -- the page is one of the store
 module _ (c : tie.In-loop Inv-loop μ-loop) where
@@ -91,11 +89,9 @@ loop-again c =
     let n = c .before .before .before .before .before .before in
     let l = n .before .loop in
     let a = call n .args in
-    let f : ℕ → List ℕ = λ i. page (listIn (a .s .now)) (a .first + i) in
-    let long-f : (i : ℕ) → length (f i) ≡ 64 = λ i. page-length (listIn (a .s .now)) (a .first + i) in
-    let e = one-put (a .list .now) (l .list) _ f (l .j) long-f (omega (arith, short n, long n)) (l .inv .2)
+    let e = one-put (a .list .now) (l .list) _ 64 (listIn (a .s .now)) (a .first) (l .j) (omega (arith, short n, long n)) (l .inv .2)
     (c .decode .ensures ∙ ap (λ z. splice (l .list) (64 * l .j) z) (page-decoded (c .before .before .before .before .before .entry-of .ensures) (c .before .before .before .before .gather-at .ensures) .1)) in
-    (omega (arith, n .loop-test .taken), put-length (a .list .now) _ f (l .j + 1) long-f (omega (arith, short n, long n)) e, e)
+    (omega (arith, n .loop-test .taken), put-length (a .list .now) _ 64 (listIn (a .s .now)) (a .first) (l .j + 1) (omega (arith, short n, long n)) e, e)
 
 returns : tie.Need-returns Inv-loop μ-loop
 returns c =
@@ -103,7 +99,7 @@ returns c =
     let a = c .before .before .before .before .before .before in
     let k : l .j ≡ c .before .before .before .before .smaller .result = omega (arith, l .inv .0, c .loop-test .left) in
     let f = facts (a .args .s .now) (a .pre .0) in
-    block-is (listIn (a .args .s .now)) (a .args .list .now) (l .list) (a .args .pages) (a .args .first) (l .j)
+    block-is 64 4 (listIn (a .args .s .now)) (a .args .list .now) (l .list) (a .args .pages) (a .args .first) (l .j) refl
     (omega (arith, f .hours-are, f .hours-fit, a .pre .1)) (k ∙ c .before .before .before .before .smaller .ensures) (a .pre .3) (l .inv .2)
 
 pub unpack-spec : {M : Type 1} → statement M
