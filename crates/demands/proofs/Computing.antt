@@ -20,7 +20,7 @@ use Rattle.store.specs.Reading.{chainFrom, chainIn, codeIn, pageIn, read, readF
 use Rattle.store.specs.Settle.{pagewise, settled, settledByCells, shrunk, sizeTo}
 use Rattle.store.specs.Sound.{fine, onChains, sound, tests, within}
 use Rattle.coin_cost.specs.Cost.{cellsFor, gain, pageGain}
-use Rattle.image.specs.Calls.{lengthCall, put, putAfter, unwritten, writeCall}
+use Rattle.image.specs.Calls.{lengthCall, past, put, putAfter, unwritten, writeCall}
 use Rattle.image.specs.Check.{accepted, check, headed, wideRight}
 use Rattle.image.specs.Image.{bytesFor, code, header as imageHeader, headerIn, image, packed, page as imagePage, pageCode, pages, root, size, start}
 use Rattle.image.specs.Image.{table, wide}
@@ -29,7 +29,8 @@ use Rattle.image.specs.Read.{beforeOf, codeAt, eOf, lOf, listOf, nOf, pageOf, p
 use Rattle.freeze.specs.Freeze.{freezeCall}
 use Rattle.book.specs.Book.{bookOf, decimal, decimalByte, fourDigits, listOfBook}
 use Rattle.book_in.specs.FromBook.{fromCall}
-use Rattle.book_out.specs.ToBook.{past, putBook, toCall}
+use Rattle.book_out.specs.ToBook.{putBook, toCall}
+use Rattle.image_merge.specs.Merge.{mergeCall, mergeLists, sums}
 use Rattle.words.specs.End.{ofCheck, ofImage, ofStore}
 use Rattle.words.specs.Words.{minus, pair, wordOf}
 use Rattle.demands.specs.Demand3.{wordsOf}
@@ -68,6 +69,11 @@ the-runs = tt
 unfoldable pub the-book : Unit {0}
 unfolding the-image fromCall toCall past putBook decimal decimalByte listOfBook bookOf fourDigits
 the-book = tt
+
+-- two doors
+unfoldable pub the-merge : Unit {0}
+unfolding the-image mergeCall mergeLists past sums
+the-merge = tt
 
 -- a live store: its bytes, what they say, whether they are sound, how chains change; and freeze
 unfoldable pub the-store : Unit {0}

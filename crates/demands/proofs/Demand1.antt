@@ -24,12 +24,14 @@ use Rattle.freeze.specs.Freeze.{freezeCall}
 use Rattle.freeze.proofs.Freezing.{freeze-10, freeze-refused}
 use Rattle.image_busiest.proofs.AnswerLaws.{some-answer}
 use Rattle.image_match.proofs.AnswerLaws.{some-answer as some-match}
+use Rattle.image_merge.specs.Merge.{mergeCall}
+use Rattle.image_merge.proofs.MergeLaws.{merge-refused}
 use Rattle.book_in.specs.FromBook.{fromCall}
 use Rattle.book_in.proofs.FromLaws.{from-refused}
 use Rattle.book_out.specs.ToBook.{toCall}
 use Rattle.book_out.proofs.ToLaws.{to-refused}
 use Rattle.hourlog_c.specs.Public.{Ends, Fresh, Freeze, ImageBusiest, ImageCheck, ImageCount, ImageFromBcd, ImageLength, ImageMatch, ImageReach}
-use Rattle.hourlog_c.specs.Public.{ImageReading, ImageToBcd, ImageWrite, Live, PublicCall, Ten, beside, lent}
+use Rattle.hourlog_c.specs.Public.{ImageMerge, ImageReading, ImageToBcd, ImageWrite, Live, PublicCall, Ten, beside, lent}
 use Rattle.words.specs.End.{End, noRun, ofBag, ofImage, ofStore, ofStretch, refusal, theCells, theHours, theNumber, theRun, theSums}
 use Rattle.words.specs.ReadBack.{Reads}
 use Rattle.words.proofs.EndLaws.{image-refused, store-refused}
@@ -37,7 +39,7 @@ use Rattle.demands.specs.Reasons.{Unsound, Wins, reasons}
 use Rattle.demands.specs.Demand1.{Allowed, Bytes, Demand1, Given, Gives, Index, Refused, aNumber, cellsMoved, row}
 use Rattle.demands.proofs.Deciding.{Decided, gives-of, refuses-of, wins-of}
 use Rattle.demands.proofs.Refusals.{busiest-decided, check-decided, count-decided, freeze-decided, fresh-decided, from-decided, length-decided}
-use Rattle.demands.proofs.Refusals.{live-decided, match-decided, reach-decided, reading-decided, to-decided, write-decided}
+use Rattle.demands.proofs.Refusals.{live-decided, match-decided, merge-decided, reach-decided, reading-decided, to-decided, write-decided}
 
 -- ---- all calls
 -- what may stand in the place of refusal k
@@ -81,6 +83,7 @@ decided (ImageBusiest i k) a t b d =
     subst (Decides (ImageBusiest i k)) (sym (d .0 .2)) (busiest-decided (May (ImageBusiest i k)) i k (d .0 .0) (d .0 .1))
 decided (ImageFromBcd b e i) a t h d = subst (Decides (ImageFromBcd b e i)) (sym (d .0)) (from-decided (May (ImageFromBcd b e i)) b e i)
 decided (ImageToBcd i b) a t h d = subst (Decides (ImageToBcd i b)) (sym (d .0)) (to-decided (May (ImageToBcd i b)) i b)
+decided (ImageMerge f s e i) a t h d = subst (Decides (ImageMerge f s e i)) (sym (d .0)) (merge-decided (May (ImageMerge f s e i)) f s e i)
 decided (ImageMatch i q) a t b d = subst (Decides (ImageMatch i q)) (sym (d .0 .2)) (match-decided (May (ImageMatch i q)) i q (d .0 .0) (d .0 .1))
 
 module _ (c : PublicCall) where
@@ -122,6 +125,7 @@ some (ImageReach i p) = let r = may-reach i p in (ofImage (r .0), i ∷ [], ((r 
 some (ImageBusiest i k) = let r = some-answer i k in (ofStretch (r .0), i ∷ [], ((r .0, r .1, refl), refl))
 some (ImageFromBcd b e i) = (_, _, (refl, refl))
 some (ImageToBcd i b) = (_, _, (refl, refl))
+some (ImageMerge f s e i) = (_, _, (refl, refl))
 some (ImageMatch i q) = let r = some-match i q in (ofBag (r .0), i ∷ [], ((r .0, r .1, refl), refl))
 
 -- ---- what stays
@@ -144,6 +148,8 @@ keeps (ImageFromBcd b e i) k t d =
 keeps (ImageToBcd i b) k t d =
     d .1 ∙ ap (λ (z : List ℕ). i ∷ z ∷ []) (to-refused i b k (image-refused (toCall i b .reply) k .0 (sym (d .0))))
 keeps (ImageMatch i q) k t d = d .1
+keeps (ImageMerge f s e i) k t d =
+    d .1 ∙ ap (λ (z : List ℕ). f ∷ s ∷ z ∷ []) (merge-refused e f s i k (image-refused (mergeCall e f s i .reply) k .0 (sym (d .0))))
 
 -- a live call that gives a number
 number-keeps : (c : Call) (s : List ℕ) → row (Live c s) .gives ≡ aNumber → call c s .bytes ≡ s
@@ -193,6 +199,7 @@ question-keeps (ImageBusiest i k) a t q d = d .1
 question-keeps (ImageFromBcd b e i) a t q d = absurd (true≢false (sym q))
 question-keeps (ImageToBcd i b) a t q d = absurd (true≢false (sym q))
 question-keeps (ImageMatch i p) a t q d = d .1
+question-keeps (ImageMerge f s e i) a t q d = absurd (true≢false (sym q))
 
 -- ---- in words
 module _ (c : PublicCall) (w : ℕ) (t : List (List ℕ)) where

@@ -26,13 +26,14 @@ use Rattle.image.specs.Calls.{lengthCall, writeCall}
 use Rattle.image.specs.Check.{check}
 use Rattle.image.specs.Query.{count, reading}
 use Rattle.freeze.specs.Freeze.{freezeCall}
+use Rattle.image_merge.specs.Merge.{mergeCall}
 use Rattle.book_in.specs.FromBook.{fromCall}
 use Rattle.book_out.specs.ToBook.{toCall}
 use Rattle.words.specs.End.{End, ofCheck, ofImage, ofStore}
 use Rattle.words.specs.Words.{wordOf}
 use Rattle.hourlog_c.specs.Export.{Answers}
 use Rattle.hourlog_c.specs.Public.{Fresh, Freeze, ImageBusiest, ImageCheck, ImageCount, ImageFromBcd, ImageLength, ImageMatch, ImageReach}
-use Rattle.hourlog_c.specs.Public.{ImageReading, ImageToBcd, ImageWrite, Live, PublicCall, beside, lent}
+use Rattle.hourlog_c.specs.Public.{ImageMerge, ImageReading, ImageToBcd, ImageWrite, Live, PublicCall, beside, lent}
 use Rattle.demands.specs.Demand3.{Run, wordsOf}
 use Rattle.demands.proofs.Demand3.{demand-3}
 
@@ -240,6 +241,7 @@ ended (ImageBusiest i k) = unknown
 ended (ImageFromBcd b e i) = by (ofImage (fromCall e b i .reply)) (b ∷ fromCall e b i .bytes ∷ [])
 ended (ImageToBcd i b) = by (ofImage (toCall i b .reply)) (i ∷ toCall i b .bytes ∷ [])
 ended (ImageMatch i q) = unknown
+ended (ImageMerge f s e i) = by (ofImage (mergeCall e f s i .reply)) (f ∷ s ∷ mergeCall e f s i .bytes ∷ [])
 
 -- what a line says of it
 abbrev pub expected : ℕ → List (List ℕ) → Ended
@@ -261,6 +263,7 @@ ends-so (ImageBusiest i k) h v u a = absurd (true≢false (sym h))
 ends-so (ImageFromBcd b e i) h v u a = (a .word ∙ ap wordOf (a .ends .0), a .ends .1)
 ends-so (ImageToBcd i b) h v u a = (a .word ∙ ap wordOf (a .ends .0), a .ends .1)
 ends-so (ImageMatch i q) h v u a = absurd (true≢false (sym h))
+ends-so (ImageMerge f s e i) h v u a = (a .word ∙ ap wordOf (a .ends .0), a .ends .1)
 
 pub leaves : {c : PublicCall} {w : ℕ} {t : List (List ℕ)} → ended c ≡ expected w t → Leaves c w t
 leaves {c} {w} {t} e = record {

@@ -13,7 +13,7 @@ use Rattle.words.specs.End.{noRun, refusal, theCells, theHours, theNumber, theR
 use Rattle.words.specs.ReadBack.{busiestFirst, busiestSum, checkedHours, checkedTotal, matchedFirst, matchedHours, returned, taken}
 use Rattle.words.specs.Words.{wordOf}
 use Rattle.hourlog_c.specs.Public.{Fresh, Freeze, ImageBusiest, ImageCheck, ImageCount, ImageFromBcd, ImageLength, ImageMatch, ImageReach}
-use Rattle.hourlog_c.specs.Public.{ImageReading, ImageToBcd, ImageWrite, Live, lent}
+use Rattle.hourlog_c.specs.Public.{ImageMerge, ImageReading, ImageToBcd, ImageWrite, Live, lent}
 use Rattle.demands.proofs.ExampleForms.{binary, hex}
 use Rattle.demands.proofs.Computing.{the-code, the-words}
 
@@ -41,6 +41,7 @@ pub what-is-lent : (s i xs b d : List ℕ)
     ∷ ImageFromBcd b 2 i
     ∷ ImageToBcd i b
     ∷ ImageMatch i 1
+    ∷ ImageMerge i b 2 xs
     ∷ [])
     ≡ (s ∷ [])
     ∷ (s ∷ [])
@@ -63,6 +64,7 @@ pub what-is-lent : (s i xs b d : List ℕ)
     ∷ (b ∷ i ∷ [])
     ∷ (i ∷ b ∷ [])
     ∷ (i ∷ [])
+    ∷ (i ∷ b ∷ xs ∷ [])
     ∷ []
 what-is-lent s i xs b d = refl
 

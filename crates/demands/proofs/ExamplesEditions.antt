@@ -25,13 +25,13 @@ use Rattle.demands.proofs.Computing.{the-book, the-image, the-runs, the
 -- ---- 'Edition 2 has a 24-byte header: byte 0 is 2, bytes 1 to 7 as before, 8-15 S, 16-19 L, 20-23 zero. The writer uses it only when S is above
 -- 4,294,967,295'
 -- e = 2: 4,294,967,295 coins in one hour, and one coin more in the next
-abbrev last : List ℕ
+abbrev pub last : List ℕ
 last = hex "01 02 00 00 01 00 00 00 FF FF FF FF 80 00 00 00 00 00 00 00 FF FF FF FF FF FF FF FF FF FF FF FF 00 00 00 00"
 
 abbrev leastList : List ℕ
 leastList = 4294967295 ∷ 1 ∷ []
 
-abbrev least : List ℕ
+abbrev pub least : List ℕ
 least =
     hex "02 02 00 00 02 00 00 00 00 00 00 00 01 00 00 00 82 00 00 00 00 00 00 00 00 00 00 00"
     ++ hex "80 00 00 00 40 00 00 00 1F FF FF FF E0 00 00 00 00"
@@ -62,7 +62,7 @@ unfolding the-image
 addresses = (refl, refl)
 
 -- 'refusal 3 for images starts above 2^40 - 1': 257 hours of so many coins, and one coin more. 1 comes before it, 4 behind
-abbrev mostList : List ℕ
+abbrev pub mostList : List ℕ
 mostList = replicate 256 4294967295 ++ 255 ∷ []
 
 abbrev overList : List ℕ
@@ -136,7 +136,7 @@ unfolding the-book
 no-book = asking refl
 
 -- the image of 2^40 - 1 coins, which is too long to print: its header, and its answers
-abbrev most : List ℕ
+abbrev pub most : List ℕ
 most = image 8 mostList
 
 limits : Limits 8 mostList
@@ -152,7 +152,7 @@ counts : Counts mostList
 unfolding the-image
 counts = within-at 4294967295 mostList refl
 
-most-so : Is most mostList
+pub most-so : Is most mostList
 most-so = let w = is-accepted most 8 mostList limits counts refl in record { accepts = w .0; says = w .1 }
 
 pub header-of-most : take 24 most ≡ hex "02 08 00 00 01 01 00 00 FF FF FF FF FF 00 00 00 17 26 00 00 00 00 00 00"

@@ -26,6 +26,7 @@ pub mod Note5
 pub mod Note7
 pub mod Note8
 pub mod FirstEdition
+pub mod Note9
 pub mod ExampleForms
 pub mod ExampleSearches
 pub mod Computing
@@ -35,3 +36,4 @@ pub mod ExamplesStore
 pub mod ExamplesImage
 pub mod ExamplesEditions
 pub mod ExamplesNotes
+pub mod ExamplesMerge

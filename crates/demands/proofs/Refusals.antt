@@ -3,12 +3,14 @@ use mathlib.Core.Path.{_≡_, refl, sym, _∙_, subst}
 use mathlib.Core.Bool.{Bool, true, false, _&&_}
 use mathlib.Core.List.{List, [], _∷_, _++_}
 use mathlib.Core.Logic.{inl, inr, ⊎-elim}
-use Prim.Native.Nat.{ℕ, zero, suc, _-_, _*_, _/_, _^_, _≤_, _<_}
+use Prim.Native.Nat.{ℕ, zero, suc, _+_, _-_, _*_, _/_, _^_, _≤_, _<_}
 use native.Mathlib.Omega.{arith}
-use lib.ListN.{length, set}
+use lib.ListN.{length, getD, set}
 use lib.Dec.{leb}
-use borrow.Author.Tests.{leb-true}
+use borrow.Author.Tests.{le-leb, leb-true}
+use Rattle.lists.specs.Counts.{maxCount, within}
 use Rattle.lists.specs.Lists.{pick, sum}
+use Rattle.lists.proofs.CountLaws.{within-at, within-not}
 use Rattle.lists.proofs.Tests.{left, right}
 use Rattle.tree.specs.Read.{Found, damaged, found}
 use Rattle.store.specs.Limits.{maxTotal}
@@ -20,15 +22,15 @@ use Rattle.store.specs.Call.{Result, call, freshCall}
 use Rattle.store.proofs.Inserting.{sum-struck}
 use Rattle.store.proofs.SoundFacts.{facts}
 use Rattle.store.proofs.StepLaws.{Change, change-is, done, over, short}
-use Rattle.image.specs.Calls.{Result as ImageResult, lengthCall, put, putAfter, unwritten, writeCall}
+use Rattle.image.specs.Calls.{Result as ImageResult, lengthCall, past, put, putAfter, unwritten, writeCall}
 use Rattle.image.specs.Check.{accepted, check, headed}
-use Rattle.answers.specs.Image.{fails, holds, Reply, given, refused, told}
+use Rattle.answers.specs.Image.{Reply, Verdict, fails, given, holds, refused, told}
 use Rattle.image.specs.Image.{image}
 use Rattle.image.specs.Query.{count, ended, look, reading, readingAt, theCount, theReading}
 use Rattle.image.specs.Reach.{Reach, above-total, any-index, damage, header-wrong, smallest}
 use Rattle.image.specs.Read.{listOf, nOf, sOf}
-use Rattle.image.proofs.Accepted.{length-list}
-use Rattle.image.proofs.CheckLaws.{accepted-or, past-5}
+use Rattle.image.proofs.Accepted.{accepted-only, length-list}
+use Rattle.image.proofs.CheckLaws.{accepted-or, check-holds, past-5}
 use Rattle.freeze.specs.Freeze.{freezeCall}
 use Rattle.freeze.proofs.Freezing.{only-page-size}
 use Rattle.answers.specs.declared.image.Bag.{Bag}
@@ -36,15 +38,17 @@ use Rattle.answers.specs.declared.image.Stretch.{Stretch}
 use Rattle.image_busiest.specs.Busiest.{BusiestCall, no-such-run, not-accepted, the-run}
 use Rattle.image_match.specs.Match.{MatchCall, no-coins, none, not-accepted as no-image, the-run as the-hours}
 use Rattle.book.specs.Book.{bookOf, decimal, listOfBook}
+use Rattle.image_merge.specs.Merge.{mergeCall, mergeLists, sums}
+use Rattle.image_merge.proofs.MergeLaws.{count-no, counts-yes}
+use Rattle.image_merge.proofs.SumLaws.{get-sums, length-sums, sum-sums}
 use Rattle.book.proofs.BookLaws.{length-book, length-listed}
 use Rattle.book_in.specs.FromBook.{fromCall}
 use Rattle.book_in.proofs.FromLaws.{only-long}
 use Rattle.book_out.specs.ToBook.{putBook, toCall}
-use Rattle.book_out.proofs.ToLaws.{to-fails, to-past}
 use Rattle.hourlog_c.specs.Public.{Fresh, Freeze, ImageBusiest, ImageCheck, ImageCount, ImageFromBcd, ImageLength, ImageMatch, ImageReach}
-use Rattle.hourlog_c.specs.Public.{ImageReading, ImageToBcd, ImageWrite, Live}
+use Rattle.hourlog_c.specs.Public.{ImageMerge, ImageReading, ImageToBcd, ImageWrite, Live}
 use Rattle.words.specs.End.{End, ofBag, ofCheck, ofImage, ofStore, ofStretch, refusal, theNumber}
-use Rattle.demands.specs.Reasons.{Damage, NoHeader, NoImage, NoPageSize, OverImage, Reason, Short, TooWide, Unsound, _when_, plainReasons}
+use Rattle.demands.specs.Reasons.{Damage, NoHeader, NoImage, NoPageSize, OverImage, OverSums, Reason, Short, TooWide, Unsound, _when_, plainReasons}
 use Rattle.demands.specs.Reasons.{reasons}
 use Rattle.demands.specs.Demand1.{Kind, aNumber, cellsMoved, firstAndSum, hoursAndTotal, hoursOrNone, row}
 use Rattle.demands.proofs.ReasonTests.{Denies, at-most, below, book, changes, clauses, damage-exactly, header, narrow, not-above}
@@ -252,6 +256,20 @@ module _ (M : ℕ → End → Type 0) where
           (sym (only-long e b (leb-true 2 e (left (leb 2 e) (leb e 8) p)) (leb-true e 8 (right (leb 2 e) (leb e 8) p)) q))
           (where-false M aNumber (putting out i) _ _ _ long-test (put-refused out i 2) (λ _. put-given out i (length i)))
 
+  -- ---- 5 and 6 of an image that must be accepted
+  behind-check : (s out : List ℕ) (r : ImageResult) (rs : List Reason) → (accepted s ≡ true → Decided M aNumber rs (ofImage (r .reply)))
+      → Decided M aNumber (5 when NoHeader s ∷ 6 when NoImage s ∷ rs) (ofImage (past (check s) out r .reply))
+  unfolding past unwritten ofImage
+  behind-check s out r rs d =
+      ⊎-elim
+      (λ (q : accepted s ≡ true).
+      subst (λ (v : Verdict). Decided M aNumber (5 when NoHeader s ∷ 6 when NoImage s ∷ rs) (ofImage (past v out r .reply))) (sym (check-holds s q))
+      (past-check aNumber s rs _ q (d q)))
+      (λ (w : (j : ℕ) × (check s ≡ fails j)).
+      subst (λ (v : Verdict). Decided M aNumber (5 when NoHeader s ∷ 6 when NoImage s ∷ rs) (ofImage (past v out r .reply))) (sym (w .1))
+      (fails-decided aNumber s (w .0) rs (w .1)))
+      (accepted-or s)
+
   abbrev bookLeft : List ℕ → List ℕ → List Reason
   bookLeft s out = 15 when TooWide s ∷ 4 when (length out < 2 * nOf s) ∷ []
 
@@ -270,16 +288,56 @@ module _ (M : ℕ → End → Type 0) where
           )
 
   pub to-decided : (s out : List ℕ) → Decided M aNumber (reasons (ImageToBcd s out)) (ofImage (toCall s out .reply))
-  unfolding reasons ofImage told
-  to-decided s out =
-      ⊎-elim
-      (λ (q : accepted s ≡ true). past-check aNumber s _ _ q
-      (subst (λ (r : ImageResult). Decided M aNumber (bookLeft s out) (ofImage (r .reply))) (to-past s out q)
-      (book-decided s out)))
-      (λ (w : (j : ℕ) × (check s ≡ fails j)).
-      subst (λ (r : ImageResult). Decided M aNumber (reasons (ImageToBcd s out)) (ofImage (r .reply))) (to-fails s out (w .0) (w .1))
-      (fails-decided aNumber s (w .0) _ (w .1)))
-      (accepted-or s)
+  unfolding toCall reasons
+  to-decided s out = behind-check s out _ (bookLeft s out) (λ _. book-decided s out)
+
+  -- ---- two doors
+  abbrev doorsLeft : ℕ → List ℕ → List ℕ → List ℕ → List Reason
+  doorsLeft e xs ys out = 3 when OverSums xs ys ∷ 4 when (length out < length (image e (sums xs ys))) ∷ []
+
+  -- the counts first, then the total and the buffer, which are write's
+  sums-decided : (e : ℕ) (xs ys out : List ℕ) → 2 ≤ e → e ≤ 8 → length xs ≤ 65536 → length ys ≤ 65536
+      → Decided M aNumber (doorsLeft e xs ys out) (ofImage (mergeLists e xs ys out .reply))
+  unfolding lengthCall writeCall unwritten ofImage pick
+  sums-decided e xs ys out k l m n = go (within maxCount zs) refl
+    where
+      zs : List ℕ
+      zs = sums xs ys
+
+      i : List ℕ
+      i = image e zs
+
+      Doors : ImageResult → Type 0
+      Doors r = Decided M aNumber (doorsLeft e xs ys out) (ofImage (r .reply))
+
+      length-is : lengthCall e zs ≡ pick (leb (sum zs) (2 ^ 40 - 1)) (given (length i)) (refused 3)
+      length-is = rw (le-leb 2 e k, le-leb e 8 l, le-leb (length zs) 65536 (omega (arith, length-sums xs ys)))
+
+      total-test : within maxCount zs ≡ true → Denies (leb (sum zs) (2 ^ 40 - 1)) (OverSums xs ys)
+      total-test w =
+          let t = not-above (sum zs) (2 ^ 40 - 1) in (
+            λ r. let h = t .0 r in inr (omega (arith, sum-sums xs ys)),
+            λ r. ⊎-elim (λ (c : (j : ℕ) × (4294967295 < getD xs j 0 + getD ys j 0)). omega (arith, c .1, within-at maxCount zs w (c .0), get-sums xs ys (c .0)))
+                (λ (h : 2 ^ 40 - 1 < sum xs + sum ys). t .1 r (omega (arith, sum-sums xs ys))),
+          )
+
+      go : (b : Bool) → within maxCount zs ≡ b → Doors (mergeLists e xs ys out)
+      go false w =
+          subst Doors (sym (count-no e xs ys out w))
+          (fits-first M aNumber _ (let q = within-not maxCount zs w in inl (q .0, omega (arith, q .1, get-sums xs ys (q .0)))) refl)
+      go true w =
+          subst Doors (sym (counts-yes e xs ys out w))
+          (subst (λ (r : Reply). Decided M aNumber (doorsLeft e xs ys out) (putting out i r)) (sym length-is)
+          (where-false M aNumber (putting out i) _ _ _ (total-test w) (put-refused out i 3) (λ _. put-given out i (length i))))
+
+  pub merge-decided : (a b : List ℕ) (e : ℕ) (out : List ℕ) → Decided M aNumber (reasons (ImageMerge a b e out)) (ofImage (mergeCall e a b out .reply))
+  unfolding mergeCall reasons unwritten ofImage
+  merge-decided a b e out =
+      where-false M aNumber (λ (r : ImageResult). ofImage (r .reply)) _ _ _ (page-size e) refl (λ p.
+      behind-check a out _ _ (λ x.
+      behind-check b out _ _ (λ y.
+      sums-decided e (listOf a) (listOf b) out (leb-true 2 e (left (leb 2 e) (leb e 8) p)) (leb-true e 8 (right (leb 2 e) (leb e 8) p))
+      (accepted-only a x .limits .hours) (accepted-only b y .limits .hours))))
 
 -- ---- reach, which alone may answer otherwise
 pub reach-decided : (M : ℕ → End → Type 0) (s : List ℕ) (p : ℕ) → ((n : ℕ) → n ≤ nOf s → M 6 (theNumber n)) → (a : Reply) → Reach s p a

@@ -29,8 +29,9 @@ use Rattle.image_busiest.specs.Busiest.{BusiestCall}
 use Rattle.answers.specs.declared.image.Bag.{Bag}
 use Rattle.answers.specs.declared.image.Bag.the-variants.{Run as BagRun, None, Refused as NoBag}
 use Rattle.image_match.specs.Match.{MatchCall}
+use Rattle.image_merge.specs.Merge.{mergeCall}
 use Rattle.hourlog_c.specs.Public.{Ends, Fresh, Freeze, ImageBusiest, ImageCheck, ImageCount, ImageFromBcd, ImageLength, ImageMatch, ImageReach}
-use Rattle.hourlog_c.specs.Public.{ImageReading, ImageToBcd, ImageWrite, Live}
+use Rattle.hourlog_c.specs.Public.{ImageMerge, ImageReading, ImageToBcd, ImageWrite, Live}
 use Rattle.hourlog_c.specs.Public.{PublicCall, beside, lent}
 use Rattle.words.specs.End.{End, noRun, ofBag, ofCheck, ofImage, ofStore, ofStretch, refusal, theCells, theHours, theNumber, theRun, theSums}
 use Rattle.words.specs.ReadBack.{Reads, busiestFirst, busiestSum, checkedHours, checkedTotal, matchedFirst, matchedHours, returned, taken}
@@ -80,8 +81,8 @@ bytes-lent s h = (λ c. h, λ e out. h)
 
 pub anything-lent : (s t : List ℕ) (m n : ℕ) → Bytes (Fresh s m n) × Bytes (ImageLength s m) × Bytes (ImageWrite s m t) × Bytes (ImageCheck s)
     × Bytes (ImageCount s m) × Bytes (ImageReading s m) × Bytes (ImageReach s m) × Bytes (ImageBusiest s m) × Bytes (ImageFromBcd s m t)
-    × Bytes (ImageToBcd s t) × Bytes (ImageMatch s m)
-anything-lent s t m n = (tt, tt, tt, tt, tt, tt, tt, tt, tt, tt, tt)
+    × Bytes (ImageToBcd s t) × Bytes (ImageMatch s m) × Bytes (ImageMerge s t m s)
+anything-lent s t m n = (tt, tt, tt, tt, tt, tt, tt, tt, tt, tt, tt, tt)
 
 -- where no reason fits the call gives its result: one that turns all down is shut out
 pub gives-result : (c : PublicCall) (a : End) (t : List (List ℕ)) → Bytes c → Ends c a t → NoneFits (reasons c) → Gives (row c .gives) a
@@ -364,6 +365,13 @@ module _ (w : ℕ) (l : w < 2 ^ 63) (t : List (List ℕ)) where
   unfolding row
   freeze-word s out e a =
       image-number (freezeCall e s out .reply) w (sym (number (Freeze s e out) refl a) ∙ demand-1 .above (Freeze s e out) w t a l .ends .0)
+
+  -- document 02, note 9: 'It returns the new image's length in bytes'
+  pub merge-word : (f s out : List ℕ) (e : ℕ) → Answers (ImageMerge f s e out) w t → mergeCall e f s out .reply ≡ given w
+  unfolding row
+  merge-word f s out e a =
+      image-number (mergeCall e f s out .reply) w (sym (number (ImageMerge f s e out) refl a)
+      ∙ demand-1 .above (ImageMerge f s e out) w t a l .ends .0)
 
   -- 'check (returns N and S)'
   pub check-word : (s : List ℕ) → Answers (ImageCheck s) w t → check s ≡ holds (checkedHours w) (checkedTotal w)

@@ -8,3 +8,6 @@ same-slice e = cc
 
 pub same-second : {r s t : List ℕ} → _≡_ {A = List (List ℕ)} (r ∷ s ∷ []) (r ∷ t ∷ []) → s ≡ t
 same-second e = cc
+
+pub same-third : {q r s t : List ℕ} → _≡_ {A = List (List ℕ)} (q ∷ r ∷ s ∷ []) (q ∷ r ∷ t ∷ []) → s ≡ t
+same-third e = cc

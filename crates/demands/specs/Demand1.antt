@@ -10,7 +10,7 @@ use Rattle.image.specs.Read.{nOf}
 use Rattle.store.specs.Plain.{Append, Count, Day, Free, Insert, Reach, Reading, Set, Strike}
 use Rattle.hourlog_c.specs.Public.{Ends, Fresh, Freeze, ImageBusiest, ImageCheck, ImageCount, ImageFromBcd, ImageLength, ImageMatch, ImageReach}
 use Rattle.words.specs.End.{End}
-use Rattle.hourlog_c.specs.Public.{ImageReading, ImageToBcd, ImageWrite, Live}
+use Rattle.hourlog_c.specs.Public.{ImageMerge, ImageReading, ImageToBcd, ImageWrite, Live}
 use Rattle.hourlog_c.specs.Public.{PublicCall, lent}
 use Rattle.words.specs.End.{noRun, refusal, theCells, theHours, theNumber, theRun, theSums}
 use Rattle.words.specs.ReadBack.{Reads}
@@ -62,6 +62,7 @@ row (ImageBusiest i k) = record { gives = firstAndSum; question = true }
 row (ImageFromBcd b e i) = record { gives = aNumber; question = false }
 row (ImageToBcd i b) = record { gives = aNumber; question = false }
 row (ImageMatch i q) = record { gives = hoursOrNone; question = true }
+row (ImageMerge f s e i) = record { gives = aNumber; question = false }
 
 -- an answer that the call's reasons allow: the refusal of the first that fits, or a result of the call's kind
 abbrev pub Allowed : PublicCall → End → Type 0
@@ -93,6 +94,7 @@ Bytes (ImageBusiest i j) = Unit {0}
 Bytes (ImageFromBcd b e i) = Unit {0}
 Bytes (ImageToBcd i b) = Unit {0}
 Bytes (ImageMatch i q) = Unit {0}
+Bytes (ImageMerge f s e i) = Unit {0}
 
 -- C gets the word w, below zero as a signed number of 64 bits: minus the refusal of the first reason that fits, and nothing that was lent has
 -- changed

@@ -15,9 +15,10 @@ use Rattle.days.specs.Days.{ChangesWrong, dayEnd}
 use Rattle.store.specs.Items.{Items}
 use Rattle.store.specs.Plain.{Append, Call, Count, Day, Free, Insert, Plain, Reach, Reading, Set, Strike, need}
 use Rattle.store.specs.Reading.{listIn, read}
+use Rattle.image_merge.specs.Merge.{sums}
 use Rattle.book.specs.Book.{listOfBook}
 use Rattle.hourlog_c.specs.Public.{Fresh, Freeze, ImageBusiest, ImageCheck, ImageCount, ImageFromBcd, ImageLength, ImageMatch, ImageReach}
-use Rattle.hourlog_c.specs.Public.{ImageReading, ImageToBcd, ImageWrite, Live, PublicCall}
+use Rattle.hourlog_c.specs.Public.{ImageMerge, ImageReading, ImageToBcd, ImageWrite, Live, PublicCall}
 
 -- a refusal's number, and what is then the case
 pub record Reason : Type 1 where
@@ -71,6 +72,10 @@ NoPageSize e = (e < 2) ⊎ (8 < e)
 -- document 02, note 8: the total above an image's limit, 'refusal 3 for images starts above 2^40 - 1'
 abbrev pub OverImage : List ℕ → Type 0
 OverImage xs = 2 ^ 40 - 1 < sum xs
+
+-- document 02, note 9: of two lists, 'if a count passes 4,294,967,295 or the total its limit'
+abbrev pub OverSums : List ℕ → List ℕ → Type 0
+OverSums xs ys = ((i : ℕ) × (4294967295 < getD xs i 0 + getD ys i 0)) ⊎ (2 ^ 40 - 1 < sum xs + sum ys)
 
 -- an edition, and the bytes of its header: '0 is 1 (edition)'; 'Edition 2 has a 24-byte header: byte 0 is 2', '20-23 zero', and 'S not from 2^32 to
 -- 2^40 - 1' is wrong
@@ -167,3 +172,7 @@ reasons (ImageFromBcd b e i) =
 reasons (ImageToBcd i b) = 5 when NoHeader i ∷ 6 when NoImage i ∷ 15 when TooWide i ∷ 4 when (length b < 2 * nOf i) ∷ []
 -- note 7: 'It refuses with 17, after 5 and 6, a q of 0'
 reasons (ImageMatch i q) = 5 when NoHeader i ∷ 6 when NoImage i ∷ 17 when (q ≡ 0) ∷ []
+-- note 9: '1, then 5 and 6 of the first, the same of the second, then 3 if a count passes 4,294,967,295 or the total its limit, then 4'
+reasons (ImageMerge f s e i) =
+    1 when NoPageSize e ∷ 5 when NoHeader f ∷ 6 when NoImage f ∷ 5 when NoHeader s ∷ 6 when NoImage s ∷ 3 when OverSums (listOf f) (listOf s)
+    ∷ 4 when (length i < length (image e (sums (listOf f) (listOf s)))) ∷ []

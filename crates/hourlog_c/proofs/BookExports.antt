@@ -8,7 +8,7 @@ use lib.ListN.{length, drop}
 use lib.Dec.{leb}
 use Rattle.lists.specs.Lists.{pick}
 use Rattle.answers.specs.Image.{Reply, Verdict, fails, given, holds}
-use Rattle.image.specs.Calls.{Result, put, unwritten, writeCall}
+use Rattle.image.specs.Calls.{Result, past, put, unwritten, writeCall}
 use Rattle.image.specs.Check.{check}
 use Rattle.image.specs.Read.{listOf}
 use Rattle.image.proofs.Accepted.{accepted-only}
@@ -17,7 +17,7 @@ use Rattle.image.proofs.CheckLaws.{check-held}
 use Rattle.book.specs.Book.{bookOf, decimal, fourDigits, listOfBook}
 use Rattle.book.proofs.BookLaws.{length-book}
 use Rattle.book_in.specs.FromBook.{fromCall}
-use Rattle.book_out.specs.ToBook.{past, putBook, toCall}
+use Rattle.book_out.specs.ToBook.{putBook, toCall}
 use Rattle.hourlog_c.specs.Public.{ImageFromBcd, ImageToBcd}
 use Rattle.words.specs.End.{ofImage}
 use Rattle.words.specs.Words.{wordOf}
@@ -51,7 +51,7 @@ to-small : (s out : List ℕ) → Small (ofImage (toCall s out .reply))
 unfolding toCall past unwritten ofImage
 to-small s out = go (check s) refl (check-small s)
   where
-    go : (v : Verdict) → check s ≡ v → SmallVerdict v → Small (ofImage (past v (putBook (listOf s) out) out .reply))
+    go : (v : Verdict) → check s ≡ v → SmallVerdict v → Small (ofImage (past v out (putBook (listOf s) out) .reply))
     go (holds n t) q w = book-small (listOf s) out (accepted-only s (check-held s n t q) .limits .hours)
     go (fails k) q w = (w .0, omega (arith, w .1))
 

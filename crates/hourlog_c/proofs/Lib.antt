@@ -2,3 +2,4 @@
 pub mod RefusedTen
 pub mod Exports
 pub mod BookExports
+pub mod MergeExport

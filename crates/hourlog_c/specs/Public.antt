@@ -19,6 +19,7 @@ use Rattle.freeze.specs.Freeze.{freezeCall}
 use Rattle.answers.specs.declared.image.Stretch.{Stretch}
 use Rattle.book_in.specs.FromBook.{fromCall}
 use Rattle.book_out.specs.ToBook.{toCall}
+use Rattle.image_merge.specs.Merge.{mergeCall}
 use Rattle.answers.specs.declared.image.Bag.{Bag}
 use Rattle.words.specs.End.{End, ofBag, ofCheck, ofImage, ofStore, ofStretch, refusal}
 
@@ -37,6 +38,7 @@ pub data PublicCall : Type 0 where
   ImageFromBcd : (book : List ℕ) (e : ℕ) (image : List ℕ) → PublicCall
   ImageToBcd : (image book : List ℕ) → PublicCall
   ImageMatch : (image : List ℕ) (figure : ℕ) → PublicCall
+  ImageMerge : (first second : List ℕ) (e : ℕ) (image : List ℕ) → PublicCall
 
 -- what a live call is lent beside the store: day its list of changed days
 abbrev pub beside : Call → List (List ℕ)
@@ -65,6 +67,7 @@ lent (ImageBusiest i k) = i ∷ []
 lent (ImageFromBcd b e i) = b ∷ i ∷ []
 lent (ImageToBcd i b) = i ∷ b ∷ []
 lent (ImageMatch i q) = i ∷ []
+lent (ImageMerge f s e i) = f ∷ s ∷ i ∷ []
 
 -- The call may end in the answer a, and what it was lent is afterwards t. Reach alone may end in one of several answers; a call on runs of
 -- hours has one, though its definition speaks of all runs and computes none
@@ -82,6 +85,7 @@ Ends (ImageBusiest i k) a t = ((r : Stretch) × BusiestCall i k r × (a ≡ ofSt
 Ends (ImageFromBcd b e i) a t = (a ≡ ofImage (fromCall e b i .reply)) × (t ≡ b ∷ fromCall e b i .bytes ∷ [])
 Ends (ImageToBcd i b) a t = (a ≡ ofImage (toCall i b .reply)) × (t ≡ i ∷ toCall i b .bytes ∷ [])
 Ends (ImageMatch i q) a t = ((r : Bag) × MatchCall i q r × (a ≡ ofBag r)) × (t ≡ i ∷ [])
+Ends (ImageMerge f s e i) a t = (a ≡ ofImage (mergeCall e f s i .reply)) × (t ≡ f ∷ s ∷ mergeCall e f s i .bytes ∷ [])
 
 -- 'store, every other live call and freeze: 10, not sound', where a sound store is told clause by clause
 abbrev pub Ten : PublicCall → End → Type 0
@@ -98,3 +102,4 @@ Ten (ImageBusiest i k) a = Unit {0}
 Ten (ImageFromBcd b e i) a = Unit {0}
 Ten (ImageToBcd i b) a = Unit {0}
 Ten (ImageMatch i q) a = Unit {0}
+Ten (ImageMerge f s e i) a = Unit {0}

@@ -5,7 +5,7 @@ use words::of_image;
 use words::of_stretch;
 ghost use mathlib.Core.List.{[], _∷_};
 ghost use Rattle.hourlog_c.specs.Public.{Freeze, ImageBusiest, ImageCheck, ImageCount, ImageFromBcd, ImageLength, ImageMatch, ImageReach};
-ghost use Rattle.hourlog_c.specs.Public.{ImageReading, ImageToBcd, ImageWrite};
+ghost use Rattle.hourlog_c.specs.Public.{ImageMerge, ImageReading, ImageToBcd, ImageWrite};
 ghost use Rattle.hourlog_c.specs.Export.{Answers};
 
 #[no_mangle]
@@ -83,4 +83,12 @@ pub extern "C" fn hourlog_image_match(image: &[u8], figure: u64) -> u64
     ensures { λ r. ⌜ Answers (ImageMatch (now (image .entry)) figure) r (now (image .exit) ∷ []) ⌝ }
 {
     of_bag(image_match::matching(image, figure))
+}
+
+#[no_mangle]
+pub extern "C" fn hourlog_image_merge(first: &[u8], second: &[u8], e: u32, image: &mut [u8]) -> u64
+    ensures { λ r. ⌜ Answers (ImageMerge (now (first .entry)) (now (second .entry)) e (now (image .entry))) r
+        (now (first .exit) ∷ now (second .exit) ∷ now (image .exit) ∷ []) ⌝ }
+{
+    of_image(image_merge::merge(first, second, e, image))
 }

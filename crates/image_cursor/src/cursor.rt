@@ -39,7 +39,7 @@ pub fn read_page(s: &[u8], table: &[u8; 864], h: Head, i: u64, counts: &mut [u32
     }
     let w = reserve::digits_of(h.total);
     let p = (i >> h.e) as usize;
-    page_counts(s, table, h.table, h.code, w, h.e, p, counts);
+    page_counts(s, table, h.table, h.code, w, h.e, p, counts, 0);
 }
 
 // From hour i, whose page is in counts, n hours on: no further than to the first hour of the next page, which is then read.

@@ -163,10 +163,11 @@ module _ {s : List ℕ} {e p t a : ℕ} (n : Numbers s e p t a) where
       ap₂ (λ (y z : ℕ). within maxCount (counts y z (bits s) a)) (n .e-is) (n .sum-is)
       ∙ ap (λ (z : ℕ). within maxCount (counts (eOf s) (sumOf s p) (bits s) z)) (n .tree-is) ∙ n .page .few-each
 
-  pub room : (k : ℕ) → 256 ≤ k → 0 + 2 ^ e ≤ k
-  room k l = omega (arith, pow-mono {i = e} {j = 8} (omega (arith, n .page .e-high, n .e-is)))
-
-  pub decoded : (o o₁ : List ℕ) → o₁ ≡ splice o 0 (counts e t (bits s) a) → o₁ ≡ splice o 0 (page (eOf s) (listOf s) p)
-  decoded o o₁ q =
-      q ∙ ap (splice o 0) (ap₂ (λ (y z : ℕ). counts y z (bits s) a) (n .e-is) (n .sum-is)
+  pub decoded : (f : ℕ) (o o₁ : List ℕ) → o₁ ≡ splice o f (counts e t (bits s) a) → o₁ ≡ splice o f (page (eOf s) (listOf s) p)
+  decoded f o o₁ q =
+      q ∙ ap (splice o f) (ap₂ (λ (y z : ℕ). counts y z (bits s) a) (n .e-is) (n .sum-is)
       ∙ ap (counts (eOf s) (sumOf s p) (bits s)) (n .tree-is) ∙ n .page .counts-are)
+
+-- a page of 2^e counts has room in an array of 256
+pub page-room : (s : List ℕ) → accepted s ≡ true → {e : ℕ} → e ≡ eOf s → 0 + 2 ^ e ≤ 256
+page-room s a {e} q = omega (arith, pow-mono {i = e} {j = 8} (omega (arith, accepted-only s a .limits .e-high)))

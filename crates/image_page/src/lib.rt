@@ -6,7 +6,7 @@ use image::head::table_at;
 use tree_decode::decode;
 ghost use mathlib.Core.Bool.{true};
 ghost use mathlib.Core.Path.{_≡_};
-ghost use Prim.Native.Nat.{_<_};
+ghost use Prim.Native.Nat.{_+_, _^_, _≤_, _<_};
 ghost use lib.ListN.{length};
 ghost use Rattle.lists.specs.Lists.{splice};
 ghost use Rattle.sum_table.specs.Code.Sums.{Sums};
@@ -72,8 +72,8 @@ pub fn counts_of(s: &[u8], table: &[u8; 864], h: Head, p: usize, sum: u64, count
     decode(s, table, tree, h.e, sum, counts, 0);
 }
 
-// The same, where the sum is what the page's root is above the one before. What it needs of the header comes as plain numbers: it has several
-// callers, and a struct would be copied at each call, which takes as long as reading both roots.
+// The same into counts from index from on, where the sum is what the page's root is above the one before. What it needs of the header comes as
+// plain numbers: it has several callers, and a struct would be copied at each call, which takes as long as reading both roots.
 pub fn page_counts(
     s: &[u8],
     table: &[u8; 864],
@@ -83,12 +83,13 @@ pub fn page_counts(
     e: u32,
     p: usize,
     counts: &mut [u32; 256],
+    from: usize,
 )
     requires { ⌜ (accepted (now s) ≡ true) × Places (now s) entries code w × (e ≡ eOf (now s)) × (p < pagesOf (now s)) ⌝ }
-    requires { ⌜ (length (now counts) ≡ 256) × Sums (now table) ⌝ }
-    ensures { λ _. ⌜ now (counts .exit) ≡ splice (now (counts .entry)) 0 (page (eOf (now (s .entry))) (listOf (now (s .entry))) p) ⌝ }
+    requires { ⌜ (length (now counts) ≡ 256) × Sums (now table) × (from + 2 ^ e ≤ 256) ⌝ }
+    ensures { λ _. ⌜ now (counts .exit) ≡ splice (now (counts .entry)) from (page (eOf (now (s .entry))) (listOf (now (s .entry))) p) ⌝ }
 {
     let sum = known_root(s, entries, code, w, p) - known_before(s, entries, code, w, p);
     let tree = tree_of(s, entries, code, w, p);
-    decode(s, table, tree, e, sum, counts, 0);
+    decode(s, table, tree, e, sum, counts, from);
 }

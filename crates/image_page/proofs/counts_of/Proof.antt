@@ -1,7 +1,7 @@
 -- `image_page::counts_of` meets its contract. Assumes nothing.
 use native.Mathlib.Omega.{arith}
 use borrow.Author.Needs.{needs}
-use Rattle.image_page.proofs.AcceptedPage.{Numbers, accepted-page, decoded, places, room, counts-fit, tree-coded, tree-lies}
+use Rattle.image_page.proofs.AcceptedPage.{Numbers, accepted-page, decoded, page-room, places, counts-fit, tree-coded, tree-lies}
 use Rattle.image_page.proofs.counts_of.Statement.{statement}
 use Rattle.image_page.proofs.counts_of.Tie as tie
 
@@ -31,10 +31,10 @@ decode-requires c κs =
     let d = c .before in
     let n = numbers d in
     let p = call d .pre in
-    ((p .1 .0, tree-lies n, tree-coded n), (counts-fit n, p .0 .3, room n 256 (omega arith)))
+    ((p .1 .0, tree-lies n, tree-coded n), (counts-fit n, p .0 .3, page-room _ (call d .pre .0 .0) (n .e-is)))
 
 returns : tie.Need-returns
-returns c = decoded (numbers (c .before .before)) _ _ (c .decode .ensures)
+returns c = decoded (numbers (c .before .before)) 0 _ _ (c .decode .ensures)
 
 pub counts-of-spec : {M : Type 1} → statement M
 counts-of-spec = tie.close (tie.spec digits-of-requires tree-of-requires decode-requires returns)

@@ -2,7 +2,7 @@
 use Prim.Native.Nat.{_-_}
 use native.Mathlib.Omega.{arith}
 use borrow.Author.Needs.{needs}
-use Rattle.image_page.proofs.AcceptedPage.{Numbers, accepted-page, decoded, room, counts-fit, sum-read, tree-coded, tree-lies}
+use Rattle.image_page.proofs.AcceptedPage.{Numbers, accepted-page, decoded, counts-fit, sum-read, tree-coded, tree-lies}
 use Rattle.image_page.proofs.page_counts.Statement.{statement}
 use Rattle.image_page.proofs.page_counts.Tie as tie
 
@@ -43,10 +43,10 @@ decode-requires c κs =
     let d = c .before in
     let n = numbers d in
     let p = call d .pre in
-    ((p .1 .1, tree-lies n, tree-coded n), (counts-fit n, p .1 .0, room n 256 (omega arith)))
+    ((p .1 .1, tree-lies n, tree-coded n), (counts-fit n, p .1 .0, p .1 .2))
 
 returns : tie.Need-returns
-returns c = decoded (numbers (c .before .before)) _ _ (c .decode .ensures)
+returns c = decoded (numbers (c .before .before)) _ _ _ (c .decode .ensures)
 
 pub page-counts-spec : {M : Type 1} → statement M
 page-counts-spec =

@@ -1,7 +1,7 @@
 -- `image_cursor::cursor::read_page` meets its contract. Assumes nothing.
 use native.Mathlib.Omega.{arith}
 use borrow.Author.Needs.{needs}
-use Rattle.image_page.proofs.AcceptedPage.{places}
+use Rattle.image_page.proofs.AcceptedPage.{page-room, places}
 use Rattle.image_cursor.proofs.CursorLaws.{page-in, ready-end, ready-read, small}
 use Rattle.image_cursor.proofs.cursor.read_page.Statement.{statement}
 use Rattle.image_cursor.proofs.cursor.read_page.Tie as tie
@@ -27,7 +27,7 @@ page-counts-requires c κs =
     let d = c .before .before in
     let e = d .before in
     let a = e .before .before .before in
-    ((a .pre .0, places (a .pre .1) (d .digits-of .ensures), a .pre .1 .e-is, page-in _ (a .pre .1) (a .args .i) (e .if1 .left)), (a .pre .2, a .pre .3))
+    ((a .pre .0, places (a .pre .1) (d .digits-of .ensures), a .pre .1 .e-is, page-in _ (a .pre .1) (a .args .i) (e .if1 .left)), (a .pre .2, a .pre .3, page-room _ (a .pre .0) (a .pre .1 .e-is)))
 
 returns-2 : tie.Need-returns-2
 returns-2 c =
