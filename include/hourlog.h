@@ -18,7 +18,8 @@
  *
  * A pointer must be good for the length given with it; with length 0 it is not
  * followed and may be NULL.  Bytes may lie at any address, counts and changes at
- * one that is good for a uint32_t.  The two buffers of one call must not overlap.
+ * one that is good for a uint32_t.  The buffers of one call must not overlap; but
+ * the two images of a merge may be the same bytes.
  *
  * A 64-bit value handed to a uint32_t parameter is cut to its low 32 bits by C,
  * before the library sees it: test it first (hourlog_image_reach and
@@ -72,7 +73,7 @@
  * take the same few hundred instructions whatever its length, reach about twice
  * as many.  The busiest stretch, and a bag's match, take two to five times as
  * long as check where pages have 64 hours (e = 6), and up to six times where
- * they have four (e = 2).
+ * they have four (e = 2).  A merge takes three to six times as long as write.
  * Threads and interrupts: any number of calls may run at once, unless one of
  * them changes a buffer that another is lent.
  * Memory that fails: a store has no checksum, and damage can leave it sound
@@ -124,7 +125,7 @@ extern "C" {
 /* Of this header.  MAJOR rises where a call takes or answers something else
  * than before, MINOR where something is added.  For #if: 1000*MAJOR + MINOR. */
 #define HOURLOG_VERSION_MAJOR 2
-#define HOURLOG_VERSION_MINOR 3
+#define HOURLOG_VERSION_MINOR 4
 #define HOURLOG_VERSION (1000 * HOURLOG_VERSION_MAJOR + HOURLOG_VERSION_MINOR)
 
 /* Of the bytes: what byte 0 of a store, and of an image, says.  An image of up
@@ -230,15 +231,18 @@ typedef uint64_t hourlog_size;
  *
  * What to do at one:
  *   1, 2, 4, 7, 8, 9, 13, 17  The arguments do not fit: a matter for the program.
- *       At 4 the macros above say what length suffices, for freeze, for write
- *       and for books; for write hourlog_image_length says the exact one.
+ *       At 4 the macros above say what length suffices, for freeze, for write,
+ *       for books and for merge; for write hourlog_image_length says the exact
+ *       one.
  *   3   Nobody pays that much: look at the coin counter.  The refused hour is
  *       NOT logged: append it with the right count.  Of a list it says that no
- *       image holds so many coins: make two images of it.
+ *       image holds so many coins: make two images of it.  Of a merge it says
+ *       so of both logs together, or of one hour: keep the two images.
  *   5, 6  A laptop takes the image from the board again.  At 5 look at byte 0
  *       first: an edition that this header does not name was written by a later
  *       version, and the laptop needs that.  At 6, count and reading still answer
- *       for the hours whose path is whole.
+ *       for the hours whose path is whole.  Of a merge it is the second image
+ *       exactly if hourlog_image_check takes the first.
  *   10  These bytes are not a sound store, or len is not their length (as after
  *       an update of the firmware that changes P or C).  First try the other
  *       copy: it is the log if it is sound and you know it to be WHOLE (see WHEN
@@ -262,7 +266,8 @@ typedef uint64_t hourlog_size;
 #define HOURLOG_REFUSED_LIST 2      /* over 65,536 counts                      */
 #define HOURLOG_REFUSED_TOTAL 3     /* the total would pass its limit: store   */
                                     /* HOURLOG_TOTAL_MAX, list for an image    */
-                                    /* HOURLOG_IMAGE_TOTAL_MAX                 */
+                                    /* HOURLOG_IMAGE_TOTAL_MAX; merge: or an   */
+                                    /* hour's sum the limit of a count         */
 #define HOURLOG_REFUSED_BUFFER 4    /* output buffer too short: image or book  */
 #define HOURLOG_REFUSED_HEADER 5    /* image: header or byte length wrong      */
 #define HOURLOG_REFUSED_BODY 6      /* image: check, not the writer's bytes;   */
@@ -536,6 +541,28 @@ int64_t hourlog_image_from_bcd(const uint8_t *book, hourlog_size book_len, uint3
 HOURLOG_MUST_USE
 int64_t hourlog_image_to_bcd(const uint8_t *image, hourlog_size len,
                              uint8_t *book, hourlog_size book_len);
+
+/* ---- two coin doors ---------------------------------------------------- */
+
+/* Writes the image of a cabinet whose two doors are logged each by itself: of the
+ * hour-by-hour sums of two images that check accepts, pages of 2^e counts.  Answers
+ * its length in bytes.  Bytes of the buffer beyond the image are left unchanged.
+ * Hour i of both logs must be the same hour.  The longer log says how many hours
+ * there are, and the shorter one has 0 beyond its end: so the reading at every hour
+ * is the sum of the two readings, each held at its own total beyond its end.
+ * Both images may have any e and either edition; the new one has the edition that
+ * its total asks for, so two that are not wide may give a wide one.  The same bytes
+ * may be lent as both; the buffer must lie apart from them.  With hours the larger N,
+ * HOURLOG_IMAGE_LENGTH_MAX(hours, e) bytes suffice for it; if the totals of both
+ * together are at most HOURLOG_TOTAL_MAX, HOURLOG_NARROW_LENGTH_MAX(hours, e).
+ * Refuses: 1; 5, 6 of the first as check does; 5, 6 of the second; 3 (the sum of an
+ * hour is above 4,294,967,295, or the total above HOURLOG_IMAGE_TOTAL_MAX); 4. */
+HOURLOG_MUST_USE
+int64_t hourlog_image_merge(const uint8_t *first, hourlog_size first_len,
+                            const uint8_t *second, hourlog_size second_len, uint32_t e,
+                            uint8_t *image, hourlog_size image_len);
+
+/* ---- what is in an answer of an image ---------------------------------- */
 
 /* N, and the total, of an image that check accepted. */
 static inline uint32_t hourlog_checked_hours(int64_t answer)

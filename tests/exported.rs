@@ -52,4 +52,13 @@ extern "C" {
         book: *mut u8,
         book_len: usize,
     ) -> i64;
+    pub fn hourlog_image_merge(
+        first: *const u8,
+        first_len: usize,
+        second: *const u8,
+        second_len: usize,
+        e: u32,
+        image: *mut u8,
+        image_len: usize,
+    ) -> i64;
 }

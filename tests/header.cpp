@@ -307,6 +307,59 @@ static void worked_book()
     assert(hourlog_image_to_bcd(image.data(), static_cast<size_t>(wide), nullptr, 0) == -HOURLOG_REFUSED_DIGITS);
 }
 
+// The image of a list.
+static std::vector<uint8_t> image_of(const std::vector<uint32_t> &counts, uint32_t e)
+{
+    std::vector<uint8_t> image(image_length(counts, e));
+    assert(hourlog_image_write(counts.data(), counts.size(), e, image.data(), image.size()) == static_cast<int64_t>(image.size()));
+    return image;
+}
+
+// What a merge of two images answers, into a buffer of this length.
+static int64_t merge(const std::vector<uint8_t> &first, const std::vector<uint8_t> &second, uint32_t e, std::vector<uint8_t> &image)
+{
+    return hourlog_image_merge(first.data(), first.size(), second.data(), second.size(), e, image.data(), image.size());
+}
+
+// Two doors: the sums, the longer log's hours, the later bytes; the same bytes lent as both; each refusal before the next.
+static void two_doors()
+{
+    const std::vector<uint8_t> first = image_of({1, 0, 2, 0, 5}, 2), second = image_of({3, 4}, 8), sums = image_of({4, 4, 2, 0, 5}, 3);
+    std::vector<uint8_t> image(HOURLOG_NARROW_LENGTH_MAX(5, 3), 0x5A), none;
+    assert(merge(first, second, 3, image) == static_cast<int64_t>(sums.size()));
+    assert(std::vector<uint8_t>(image.begin(), image.begin() + static_cast<std::ptrdiff_t>(sums.size())) == sums);
+    for (size_t k = sums.size(); k < image.size(); k++) {
+        assert(image[k] == 0x5A);
+    }
+    const std::vector<uint8_t> twice = image_of({2, 0, 4, 0, 10}, 2);
+    std::vector<uint8_t> doubled(twice.size());
+    assert(merge(first, first, 2, doubled) == static_cast<int64_t>(twice.size()) && doubled == twice);
+
+    std::vector<uint8_t> five = first, six = first;
+    five[0] = 3;
+    six[8] ^= 1;
+    const std::vector<uint8_t> full = image_of({UINT32_MAX}, 2), one = image_of({1}, 2);
+    assert(merge(five, second, HOURLOG_E_MAX + 1, none) == -HOURLOG_REFUSED_PAGE_SIZE);
+    assert(merge(five, six, 2, none) == -HOURLOG_REFUSED_HEADER && merge(six, five, 2, none) == -HOURLOG_REFUSED_BODY);
+    assert(merge(full, five, 2, none) == -HOURLOG_REFUSED_HEADER && merge(full, six, 2, none) == -HOURLOG_REFUSED_BODY);
+    assert(merge(full, one, 2, none) == -HOURLOG_REFUSED_TOTAL);
+    image.resize(sums.size() - 1);
+    assert(merge(first, second, 3, image) == -HOURLOG_REFUSED_BUFFER);
+}
+
+// The figures for a merge's buffer suffice, and no less does where all hours are full.
+static void merging_fits()
+{
+    const std::vector<uint32_t> low(256, UINT32_MAX / 2), high(256, UINT32_MAX / 2 + 1), one{HOURLOG_TOTAL_MAX}, some{0, 0};
+    for (uint32_t e = HOURLOG_E_MIN; e <= HOURLOG_E_MAX; e++) {
+        std::vector<uint8_t> wide(HOURLOG_IMAGE_LENGTH_MAX(256, e)), narrow(HOURLOG_NARROW_LENGTH_MAX(2, e));
+        assert(merge(image_of(low, 6), image_of(high, 2), e, wide) == static_cast<int64_t>(wide.size()));
+        assert(wide[0] == HOURLOG_IMAGE_EDITION_WIDE);
+        assert(merge(image_of(one, 6), image_of(some, 2), e, narrow) == static_cast<int64_t>(narrow.size()));
+        assert(narrow[0] == HOURLOG_IMAGE_EDITION);
+    }
+}
+
 // With length 0 a pointer is not followed and may be NULL, in every call that takes one.
 static void null_with_length_0()
 {
@@ -327,8 +380,9 @@ static void null_with_length_0()
     assert(hourlog_image_busiest(nullptr, 0, 0) == -HOURLOG_REFUSED_HEADER);
     assert(hourlog_image_match(nullptr, 0, 0) == -HOURLOG_REFUSED_HEADER);
     assert(hourlog_image_to_bcd(nullptr, 0, nullptr, 0) == -HOURLOG_REFUSED_HEADER);
+    assert(hourlog_image_merge(nullptr, 0, nullptr, 0, 2, nullptr, 0) == -HOURLOG_REFUSED_HEADER);
 
-    // The calls with two buffers, either of them NULL and both. An image of no hours is its header.
+    // The calls with several buffers, any of them NULL and all. An image of no hours is its header.
     std::vector<uint8_t> store(HOURLOG_STORE_LENGTH(1, 2));
     assert(hourlog_fresh(store.data(), store.size(), 1, 2) == 0);
     assert(hourlog_day(store.data(), store.size(), 0, nullptr, 0) == -HOURLOG_REFUSED_HOUR);
@@ -344,6 +398,8 @@ static void null_with_length_0()
         assert(hourlog_image_from_bcd(nullptr, 0, e, image.data(), 16) == 16);
         assert(hourlog_image_from_bcd(nullptr, 0, e, nullptr, 0) == -HOURLOG_REFUSED_BUFFER);
         assert(hourlog_image_to_bcd(image.data(), 16, nullptr, 0) == 0);
+        assert(hourlog_image_merge(image.data(), 16, nullptr, 0, e, nullptr, 0) == -HOURLOG_REFUSED_HEADER);
+        assert(hourlog_image_merge(image.data(), 16, image.data(), 16, e, nullptr, 0) == -HOURLOG_REFUSED_BUFFER);
         assert(hourlog_image_write(nullptr, 0, e, nullptr, 0) == -HOURLOG_REFUSED_BUFFER);
         assert(hourlog_image_write(counts.data(), counts.size(), e, nullptr, 0) ==
                -HOURLOG_REFUSED_BUFFER);
@@ -370,6 +426,9 @@ static void lengths_above_32_bits()
     assert(hourlog_image_check(bytes, 16) == 0);
     assert(hourlog_image_check(bytes, 16 + more) == -HOURLOG_REFUSED_HEADER);
     assert(hourlog_image_reading(bytes, 16 + more, 0) == -HOURLOG_REFUSED_HEADER);
+    assert(hourlog_image_merge(bytes, 16 + more, bytes, 16, 2, nullptr, 0) == -HOURLOG_REFUSED_HEADER);
+    assert(hourlog_image_merge(bytes, 16, bytes, 16 + more, 2, nullptr, 0) == -HOURLOG_REFUSED_HEADER);
+    assert(hourlog_image_merge(bytes, 16, bytes, 16, 2, bytes + 16, 16 + more) == 16);
     assert(munmap(memory, 5 * more) == 0);
 }
 
@@ -405,6 +464,8 @@ int main()
     worked_wide_image();
     greatest_image();
     worked_book();
+    two_doors();
+    merging_fits();
     null_with_length_0();
     lengths_above_32_bits();
     std::vector<uint8_t> store(HOURLOG_STORE_LENGTH(1, 2));

@@ -5,13 +5,15 @@
  * was used.  Store and image are as large as they come; the image has coins in every
  * hour, the store in the 200 that it has logged (an emulated board takes long for
  * more), so that no recursion ends early.  The calls on an image are measured on one
- * of each edition.  Nothing here depends on a processor but that its stack grows
- * downwards: boards run it too (boards/run).
+ * of each edition; a merge adds that of the other door, which is of edition 1.
+ * Nothing here depends on a processor but that its stack grows downwards: boards run
+ * it too (boards/run).
  */
 #include "hourlog.h"
 
 #include <stdio.h>
 #include <stdlib.h>
+#include <string.h>
 
 #define PAINT 0xC5
 #define PAINTED 524288u
@@ -21,11 +23,14 @@
 static uint8_t store[HOURLOG_STORE_LENGTH(HOURLOG_PAGES_MAX, HOURLOG_CELLS_MAX)];
 static uint32_t counts[HOURLOG_IMAGE_HOURS_MAX];
 static uint8_t image[HOURLOG_IMAGE_LENGTH_MAX(HOURLOG_IMAGE_HOURS_MAX, IMAGE_E)];
+static uint8_t door[HOURLOG_NARROW_LENGTH_MAX(HOURLOG_IMAGE_HOURS_MAX, IMAGE_E)];
+static uint8_t merged[HOURLOG_IMAGE_LENGTH_MAX(HOURLOG_IMAGE_HOURS_MAX, HOURLOG_E_MIN)];
 static uint8_t book[HOURLOG_BOOK_LENGTH(HOURLOG_IMAGE_HOURS_MAX)];
-static size_t image_len;
+static size_t image_len, door_len;
 
 #define STORE store, sizeof store
 #define IMAGE image, image_len
+#define DOOR door, door_len
 #define LIST counts, HOURLOG_IMAGE_HOURS_MAX, IMAGE_E
 #define LAST (HOURLOG_IMAGE_HOURS_MAX - 1)
 
@@ -52,12 +57,21 @@ static int64_t image_busiest(void) { return hourlog_image_busiest(IMAGE, 1000); 
 static int64_t to_bcd(void) { return hourlog_image_to_bcd(IMAGE, book, sizeof book); }
 static int64_t from_bcd(void) { return hourlog_image_from_bcd(book, sizeof book, IMAGE_E, image, sizeof image); }
 
-/* Freeze at every page size: which one takes most is not said anywhere. */
+/* Freeze and merge at every page size: which one takes most is not said anywhere. */
 static int64_t freeze(void)
 {
     int64_t last = 0;
     for (uint32_t e = HOURLOG_E_MIN; e <= HOURLOG_E_MAX && !hourlog_is_refused(last); e++) {
         last = hourlog_freeze(STORE, e, image, sizeof image);
+    }
+    return last;
+}
+
+static int64_t merge(void)
+{
+    int64_t last = 0;
+    for (uint32_t e = HOURLOG_E_MIN; e <= HOURLOG_E_MAX && !hourlog_is_refused(last); e++) {
+        last = hourlog_image_merge(IMAGE, DOOR, e, merged, sizeof merged);
     }
     return last;
 }
@@ -92,6 +106,7 @@ static const struct measured of_image[] = {
     {"image reach", image_reach, HOURLOG_STACK},
     {"image busiest", image_busiest, HOURLOG_STACK},
     {"image match", image_match, HOURLOG_STACK},
+    {"image merge", merge, HOURLOG_STACK},
 };
 
 static const struct measured of_book[] = {
@@ -162,6 +177,8 @@ int main(int argc, char **argv)
     fill_store();
     int good = ALL_HOLD("bytes of stack: ", of_store);
     good &= fill_image(1000, HOURLOG_IMAGE_EDITION);
+    memcpy(door, image, image_len);
+    door_len = image_len;
     good &= ALL_HOLD(", ", of_image);
     good &= ALL_HOLD(", ", of_book);
     good &= fill_image(16000000, HOURLOG_IMAGE_EDITION_WIDE);

@@ -16,6 +16,7 @@
 
 #define ROUNDS 60u
 #define COUNTS_MAX 300u
+#define DOOR_MAX 250u
 #define MARGIN 16u
 #define BIG (HOURLOG_IMAGE_HOURS_MAX)
 
@@ -74,7 +75,8 @@ struct lent {
     size_t length;
 };
 
-static struct lent first, second;
+/* What the calls are lent; merge alone has a third one. */
+static struct lent first, second, third;
 static unsigned calls;
 
 /* A buffer in one half of the memory: `high` puts it at the memory's end, else it
@@ -101,7 +103,7 @@ static uint32_t checksum_of(struct lent l, uint32_t sum)
 
 static int64_t say(const char *call, uint64_t length, uint32_t x, uint32_t y, int64_t answer)
 {
-    uint32_t sum = checksum_of(second, checksum_of(first, 2166136261u));
+    uint32_t sum = checksum_of(third, checksum_of(second, checksum_of(first, 2166136261u)));
     printf("%u %s %08lx%08lx %lu %lu: %lld %08lx\n", ++calls, call, (unsigned long)(length >> 32),
            (unsigned long)(length & 0xFFFFFFFFu), (unsigned long)x, (unsigned long)y, (long long)answer, (unsigned long)sum);
     return answer;
@@ -368,6 +370,80 @@ static void book_round(unsigned round)
     }
 }
 
+/* A buffer at the memory's start, at its end, or in its middle. */
+static struct lent lend_at(unsigned place, size_t length, size_t off)
+{
+    return lend(length, place % 3 == 1, place % 3 == 2 ? LENT / 2 + off : off);
+}
+
+/* An image of up to 250 hours, so that full ones are within edition 2. */
+static size_t write_door(uint8_t *image, size_t room, unsigned round)
+{
+    static uint32_t counts[DOOR_MAX];
+    uint32_t n = below(DOOR_MAX + 1);
+    uint32_t e = 2 + below(7);
+    uint32_t shift = below(32);
+    for (uint32_t k = 0; k < n; k++) {
+        counts[k] = count_of(round, shift);
+    }
+    return (size_t)hourlog_image_write(counts, n, e, image, room);
+}
+
+static void copy(struct lent to, const uint8_t *from)
+{
+    for (size_t k = 0; k < to.length; k++) {
+        to.at[k] = from[k];
+    }
+}
+
+/* A merge of what is lent now, with other lengths, into less room, with any e, and of
+ * one image with itself. */
+static void merge_calls(uint32_t e, unsigned turn)
+{
+    uint64_t len = length_near(first.length);
+    uint64_t other = length_near(third.length);
+    uint64_t room = length_near(second.length);
+    uint32_t any_e = any();
+    if (room > second.length) {
+        room = second.length; /* a longer one would be written over its end */
+    }
+    int64_t bytes = say("merge", first.length, e, turn,
+                        hourlog_image_merge(first.at, first.length, third.at, third.length, e, second.at, room));
+    say("merge", len, e, 1, hourlog_image_merge(first.at, len, third.at, third.length, e, second.at, second.length));
+    say("merge", other, e, 2, hourlog_image_merge(first.at, first.length, third.at, other, e, second.at, second.length));
+    say("merge", len, any_e, 3, hourlog_image_merge(first.at, len, third.at, other, any_e, second.at, second.length));
+    say("merge", first.length, e, 4, hourlog_image_merge(first.at, first.length, first.at, first.length, e, second.at, room));
+    if (bytes > 0) {
+        uint64_t less = (uint64_t)bytes - 1;
+        say("merge", less, e, 5, hourlog_image_merge(first.at, first.length, third.at, third.length, e, second.at, less));
+    }
+}
+
+/* Two images merged, whole and damaged.  The first buffer and the third are lent to
+ * read, the second to write. */
+static void merge_round(unsigned round)
+{
+    static uint8_t door[2][HOURLOG_IMAGE_LENGTH_MAX(DOOR_MAX, 2)];
+    uint32_t e = 2 + round % 7;
+    size_t length = write_door(door[0], sizeof door[0], round);
+    first = lend_at(round, length, round % 4);
+    length = write_door(door[1], sizeof door[1], round % 8 == 1 ? round : round + 2);
+    third = lend_at(round + 1, length, round % 4);
+    second = lend_at(round + 2, HOURLOG_IMAGE_LENGTH_MAX(DOOR_MAX, e), round % 4);
+    for (unsigned turn = 0; turn < 5; turn++) {
+        copy(first, door[0]);
+        copy(third, door[1]);
+        if (turn == 2 || turn == 4) {
+            damage(first);
+        }
+        if (turn > 2) {
+            damage(third);
+        }
+        merge_calls(e, turn);
+    }
+    third = lend(0, 0, 0);
+}
+
 /* As many counts as an image holds, and one more. */
 static void longest_list(void)
 {
@@ -392,10 +468,12 @@ int main(int argc, char **argv)
 #ifdef STEP_OUTSIDE /* only to see that the guard is there */
     printf("read %d\n", (lent_from + (STEP_OUTSIDE))[0]);
 #endif
+    third = lend(0, 0, 0);
     for (unsigned round = 0; round < ROUNDS; round++) {
         store_round(round);
         image_round(round);
         book_round(round);
+        merge_round(round);
     }
     longest_list();
     return 0;

@@ -116,11 +116,36 @@ impl Library {
         self.done(Function::ImageToBook, book, word)
     }
 
-    fn lend(
+    pub fn image_merge(
+        &mut self,
+        first: &mut [u8],
+        second: &mut [u8],
+        e: u32,
+        image: &mut [u8],
+    ) -> i64 {
+        let (len, other, room) = (first.len(), second.len(), image.len());
+        let call = |at: [*mut u8; 3]| unsafe {
+            c::hourlog_image_merge(at[0], len, at[1], other, e, at[2], room)
+        };
+        let word = self.lend(Function::ImageMerge, [first, second, &mut *image], call);
+        self.done(Function::ImageMerge, image, word)
+    }
+
+    /// The same bytes lent as both images.
+    pub fn image_merge_same(&mut self, both: &mut [u8], e: u32, image: &mut [u8]) -> i64 {
+        let (len, room) = (both.len(), image.len());
+        let call = |at: [*mut u8; 2]| unsafe {
+            c::hourlog_image_merge(at[0], len, at[0], len, e, at[1], room)
+        };
+        let word = self.lend(Function::ImageMerge, [both, &mut *image], call);
+        self.done(Function::ImageMerge, image, word)
+    }
+
+    fn lend<const N: usize>(
         &mut self,
         function: Function,
-        buffers: [&mut [u8]; 2],
-        call: impl Fn([*mut u8; 2]) -> i64,
+        buffers: [&mut [u8]; N],
+        call: impl Fn([*mut u8; N]) -> i64,
     ) -> i64 {
         fence::calling(function);
         self.lender.lend(buffers, call)

@@ -23,11 +23,12 @@ pub enum Function {
     ImageMatch,
     ImageFromBook,
     ImageToBook,
+    ImageMerge,
 }
 
 impl Function {
     /// In the order of their declaration.
-    pub const ALL: [Function; 21] = [
+    pub const ALL: [Function; 22] = [
         Function::Fresh,
         Function::Append,
         Function::Set,
@@ -49,6 +50,7 @@ impl Function {
         Function::ImageMatch,
         Function::ImageFromBook,
         Function::ImageToBook,
+        Function::ImageMerge,
     ];
 
     pub fn all() -> impl Iterator<Item = Function> {
@@ -78,6 +80,7 @@ impl Function {
             Function::ImageMatch => &[5, 6, 17],
             Function::ImageFromBook => &[1, 2, 4, 14],
             Function::ImageToBook => &[4, 5, 6, 15],
+            Function::ImageMerge => &[1, 3, 4, 5, 6],
         }
     }
 }

@@ -78,34 +78,41 @@ impl Place {
     }
 }
 
-/// The places of a call's two buffers; most calls have one, and an empty one.
-struct Pair([Place; 2]);
+/// The most buffers that a call is lent: two images and one to write to.
+const BUFFERS: usize = 3;
 
-impl Pair {
-    fn lay(&mut self, buffers: &[&mut [u8]; 2]) -> [*mut u8; 2] {
-        let [first, second] = &mut self.0;
-        [first.lay(buffers[0]), second.lay(buffers[1])]
+/// The places of a call's buffers, on one side.
+struct Places([Place; BUFFERS]);
+
+impl Places {
+    fn lay<const N: usize>(&mut self, buffers: &[&mut [u8]; N]) -> [*mut u8; N] {
+        std::array::from_fn(|k| self.0[k].lay(buffers[k]))
     }
 
-    fn lay_short(&mut self, buffers: &[&mut [u8]; 2], short: Short) -> [*mut u8; 2] {
+    fn lay_short<const N: usize>(
+        &mut self,
+        buffers: &[&mut [u8]; N],
+        short: Short,
+    ) -> [*mut u8; N] {
         let mut at = self.lay(buffers);
         at[short.buffer] = self.0[short.buffer].lay_short(buffers[short.buffer], short);
         at
     }
 }
 
-const PAIRS: usize = if cfg!(feature = "heap") { 1 } else { 2 };
+const SIDES: usize = if cfg!(feature = "heap") { 1 } else { 2 };
 
 pub struct Lender {
-    pairs: [Pair; PAIRS],
+    places: [Places; SIDES],
     pub short: Option<Short>,
 }
 
 impl Default for Lender {
     fn default() -> Lender {
         let sides = [Side::Behind, Side::Before];
+        let on = |side| Places(std::array::from_fn(|_| Place::new(side)));
         Lender {
-            pairs: std::array::from_fn(|k| Pair([Place::new(sides[k]), Place::new(sides[k])])),
+            places: std::array::from_fn(|k| on(sides[k])),
             short: None,
         }
     }
@@ -114,14 +121,19 @@ impl Default for Lender {
 impl Lender {
     /// Makes a call on copies of its buffers in every place, and hands back
     /// what it left there and its answer, which must be the same everywhere.
-    pub fn lend(&mut self, buffers: [&mut [u8]; 2], call: impl Fn([*mut u8; 2]) -> i64) -> i64 {
+    pub fn lend<const N: usize>(
+        &mut self,
+        buffers: [&mut [u8]; N],
+        call: impl Fn([*mut u8; N]) -> i64,
+    ) -> i64 {
         if let Some(short) = self.short {
             return self.lend_short(&buffers, short, call);
         }
-        let places = self.pairs.each_mut().map(|pair| pair.lay(&buffers));
+        let places = self.places.each_mut().map(|places| places.lay(&buffers));
         let answers = places.map(&call);
-        let lengths = [buffers[0].len(), buffers[1].len()];
-        let left = places.map(|at| [bytes_at(at[0], lengths[0]), bytes_at(at[1], lengths[1])]);
+        let lengths = buffers.each_ref().map(|buffer| buffer.len());
+        let left =
+            places.map(|at| -> [&[u8]; N] { std::array::from_fn(|k| bytes_at(at[k], lengths[k])) });
         assert!(
             answers.iter().all(|word| *word == answers[0])
                 && left.iter().all(|bytes| *bytes == left[0]),
@@ -134,19 +146,19 @@ impl Lender {
     }
 
     /// The same where the side is guarded on which a buffer is too short.
-    fn lend_short(
+    fn lend_short<const N: usize>(
         &mut self,
-        buffers: &[&mut [u8]; 2],
+        buffers: &[&mut [u8]; N],
         short: Short,
-        call: impl Fn([*mut u8; 2]) -> i64,
+        call: impl Fn([*mut u8; N]) -> i64,
     ) -> i64 {
-        let guarding = |pair: &&mut Pair| pair.0[short.buffer].guards(short.side);
-        let pair = self
-            .pairs
+        let guarding = |places: &&mut Places| places.0[short.buffer].guards(short.side);
+        let places = self
+            .places
             .iter_mut()
             .find(guarding)
             .expect("both sides are guarded");
-        call(pair.lay_short(buffers, short))
+        call(places.lay_short(buffers, short))
     }
 }
 

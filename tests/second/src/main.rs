@@ -24,6 +24,8 @@ mod function;
 mod image;
 mod image_calls;
 mod lent;
+mod merge;
+mod merge_calls;
 mod outside;
 mod plain;
 mod program;

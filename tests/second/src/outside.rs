@@ -43,6 +43,7 @@ fn shorts_of(function: Function) -> Vec<Short> {
         Function::Day => &[1, 4],
         Function::ImageLength => &[4],
         Function::ImageWrite => &[4, 1],
+        Function::ImageMerge => &[1, 1, 1],
         _ => &[1],
     };
     let buffers = elements.iter().enumerate();
@@ -129,5 +130,9 @@ fn make(library: &mut Library, function: Function) -> i64 {
         Function::ImageMatch => library.image_match(&mut image, 8),
         Function::ImageFromBook => library.image_from_book(&mut book, E, &mut image),
         Function::ImageToBook => library.image_to_book(&mut image, &mut book),
+        Function::ImageMerge => {
+            let mut sums = image::image(&counts.map(|count| 2 * count), E).expect("a good list");
+            library.image_merge(&mut image.clone(), &mut image, E, &mut sums)
+        }
     }
 }

@@ -9,7 +9,7 @@ use crate::image_calls::allowed;
 use crate::refusal::Refusal;
 use crate::run::Run;
 use crate::suites::{self, Suite};
-use crate::{bag, book, busiest, days, forgotten};
+use crate::{bag, book, busiest, days, forgotten, merge};
 
 pub fn play() -> bool {
     check_latitude();
@@ -61,6 +61,7 @@ fn check_requests() {
     days::self_test();
     forgotten::self_test();
     bag::self_test();
+    merge::self_test();
 }
 
 /// Reach on an image that is not accepted has exactly document 01's latitude.

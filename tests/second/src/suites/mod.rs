@@ -10,6 +10,7 @@ mod image_faults;
 mod images;
 mod insert_strike;
 mod large;
+mod merges;
 mod sessions;
 mod store_damage;
 mod store_faults;
@@ -29,7 +30,7 @@ pub fn all() -> impl Iterator<Item = &'static Suite> {
 }
 
 /// The quick ones first.
-static ALL: [Suite; 16] = [
+static ALL: [Suite; 17] = [
     suite("document 01's examples", examples::play),
     suite("what more coins cost", coins::play),
     suite("named faults of images", image_faults::play),
@@ -39,6 +40,7 @@ static ALL: [Suite; 16] = [
     suite("books", books::play),
     suite("ticket walls", tickets::play),
     suite("named faults of edition 2", ticket_faults::play),
+    suite("two coin doors", merges::play),
     suite("days with a clock change", days::play),
     suite("insert and strike", insert_strike::play),
     suite("lists of calls on small stores", sessions::play),
