@@ -2,7 +2,7 @@
 //! through pointers, so that none can be inlined into the timing loop: the
 //! library cannot be.
 
-use rival::{books, image, moves, runs, store, Code, Fast, Straightforward};
+use rival::{books, image, merge, moves, runs, store, Code, Fast, Straightforward};
 
 // Not every call is measured.
 #[allow(dead_code)]
@@ -25,6 +25,7 @@ pub struct Contender {
     pub matched: fn(&[u8], u64) -> i64,
     pub from_book: fn(&[u8], u32, &mut [u8]) -> i64,
     pub to_book: fn(&[u8], &mut [u8]) -> i64,
+    pub merge: fn(&[u8], &[u8], u32, &mut [u8]) -> i64,
     pub insert: fn(&mut [u8], u32, u32) -> i64,
     pub strike: fn(&mut [u8], u32) -> i64,
 }
@@ -61,6 +62,7 @@ fn rival<C: Code>(name: &'static str) -> Contender {
         matched: runs::matched::<C>,
         from_book: books::to_image::<C>,
         to_book: books::from_image::<C>,
+        merge: merge::merge::<C>,
         insert: moves::insert::<C>,
         strike: moves::strike::<C>,
     }
@@ -100,6 +102,10 @@ fn library() -> Contender {
         to_book: |image, out| unsafe {
             let (book, room) = (out.as_mut_ptr(), out.len());
             c::hourlog_image_to_bcd(image.as_ptr(), image.len(), book, room)
+        },
+        merge: |a, b, e, out| unsafe {
+            let (image, room) = (out.as_mut_ptr(), out.len());
+            c::hourlog_image_merge(a.as_ptr(), a.len(), b.as_ptr(), b.len(), e, image, room)
         },
         insert: |store, hour, count| unsafe {
             c::hourlog_insert(store.as_mut_ptr(), store.len(), hour, count)

@@ -23,6 +23,8 @@ fn main() {
     for kind in Kind::COINS {
         measure_all(&contenders, kind.name(), tasks::over_coins(kind));
     }
+    let two_sizes = vec![tasks::over_two_sizes(Kind::Arcade)];
+    measure_all(&contenders, Kind::Arcade.name(), two_sizes);
     measure_all(&contenders, Kind::Tickets.name(), tasks::over_tickets());
     measure_all(&contenders, Kind::Rich.name(), tasks::over_rich_pages());
     for pages in [16, 64, 256, 1_024] {

@@ -52,8 +52,7 @@ struct Log {
 
 impl Log {
     fn new(seed: u64, counts: Vec<u32>) -> Log {
-        let mut image = vec![0; rival::image::length::<rival::Fast>(&counts, E) as usize];
-        rival::image::write::<rival::Fast>(&counts, E, &mut image);
+        let image = image_of(&counts, E);
         Log {
             seed,
             counts,
@@ -84,6 +83,12 @@ impl Log {
     }
 }
 
+fn image_of(counts: &[u32], e: u32) -> Vec<u8> {
+    let mut image = vec![0; rival::image::length::<rival::Fast>(counts, e) as usize];
+    rival::image::write::<rival::Fast>(counts, e, &mut image);
+    image
+}
+
 fn logs(kind: Kind, change: impl Fn(&mut Vec<u32>)) -> Vec<Log> {
     (0..INPUTS)
         .map(|seed| {
@@ -101,6 +106,11 @@ pub fn over_coins(kind: Kind) -> Vec<Task> {
     let mut tasks = over_images(kind);
     tasks.extend(books(kind));
     tasks
+}
+
+/// A merge of images whose pages have not the same size, nor that of the new one.
+pub fn over_two_sizes(kind: Kind) -> Task {
+    merging("merge of e = 4, 8", &logs(kind, |_| ()), 4, 8)
 }
 
 /// The same of edition 2, which no book's image has.
@@ -133,6 +143,7 @@ fn over_images(kind: Kind) -> Vec<Task> {
         whole("busiest year", &logs, |by, bytes| (by.busiest)(bytes, YEAR)).beside("check"),
     ];
     tasks.extend(matches(kind));
+    tasks.push(merging("merge", &logs, E, E));
     tasks
 }
 
@@ -350,6 +361,30 @@ fn writing(name: &'static str, logs: &[Log]) -> Task {
         }
     });
     over_hours(name, logs, inputs.collect())
+}
+
+/// Each log and the next one, at these page sizes, into a buffer that is not clear.
+fn merging(name: &'static str, logs: &[Log], first_e: u32, second_e: u32) -> Task {
+    let nexts = logs.iter().cycle().skip(1);
+    let inputs = logs.iter().zip(nexts).map(|(log, next)| {
+        let counts = log.counts.iter().zip(&next.counts);
+        let sums: Vec<u32> = counts.map(|(count, more)| count + more).collect();
+        let first = image_of(&log.counts, first_e);
+        let second = image_of(&next.counts, second_e);
+        merge(first, second, image_of(&sums, E))
+    });
+    over_hours(name, logs, inputs.collect())
+}
+
+fn merge(first: Vec<u8>, second: Vec<u8>, merged: Vec<u8>) -> Input {
+    let mut room = vec![0xFF; merged.len()];
+    rival::merge::merge::<rival::Straightforward>(&first, &second, E, &mut room);
+    assert!(room == merged, "the image of the sums");
+    room.fill(0xFF);
+    Input {
+        start: room,
+        work: Box::new(move |by, bytes| (by.merge)(&first, &second, E, bytes)),
+    }
 }
 
 fn whole(name: &'static str, logs: &[Log], work: fn(&Contender, &mut [u8]) -> i64) -> Task {

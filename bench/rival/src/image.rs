@@ -249,6 +249,17 @@ impl<'a> Image<'a> {
         1 << self.e
     }
 
+    /// All counts of an accepted image.
+    pub fn counts<C: Code>(&self) -> Vec<u32> {
+        let mut counts = vec![0; self.pages() << self.e];
+        for (p, part) in counts.chunks_exact_mut(1 << self.e).enumerate() {
+            let page = self.page::<C>(p).expect("an accepted image");
+            C::read(self.code, page.at, page.sum, part);
+        }
+        counts.truncate(self.hours);
+        counts
+    }
+
     /// The first page whose root is the figure or more, 1 ≤ figure ≤ S.
     #[inline(always)]
     fn page_of<C: Code>(&self, figure: u64) -> Result<usize, i64> {

@@ -17,6 +17,7 @@ mod fast;
 mod fields;
 mod header;
 pub mod image;
+pub mod merge;
 pub mod moves;
 mod refused;
 pub mod runs;
