@@ -68,3 +68,8 @@ changesWrong = 16
 -- note 7: 'a q of 0'
 abbrev pub bagEmpty : ℕ
 bagEmpty = 17
+
+-- note 10: 'a wrong store length, a header with byte 0, byte 1, bytes 10-11, P, C or N out of document 01's rules, or a list buffer shorter
+-- than P entries'
+abbrev pub notRepairable : ℕ
+notRepairable = 18

@@ -49,3 +49,6 @@ pub const CHANGES: u32 = 16;
 
 // note 7: a q of 0
 pub const BAG: u32 = 17;
+
+// note 10: not to be repaired
+pub const REPAIR: u32 = 18;

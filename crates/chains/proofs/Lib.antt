@@ -1,2 +1,3 @@
 -- Laws that the functions' proofs use.
 pub mod LinkSteps
+pub mod Gathering

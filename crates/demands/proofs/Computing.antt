@@ -26,6 +26,8 @@ use Rattle.image.specs.Image.{bytesFor, code, header as imageHeader, headerIn, 
 use Rattle.image.specs.Image.{table, wide}
 use Rattle.image.specs.Query.{beforePassing, count, ended as walkEnded, look, lookIn, pageFine, reading, readingAt, theCount, theReading}
 use Rattle.image.specs.Read.{beforeOf, codeAt, eOf, lOf, listOf, nOf, pageOf, pagesOf, rootOf, sOf, startOf, sumOf, treeAt, wideOf, widthOf}
+use Rattle.repair.specs.Repair.{behind, isKept, keepTests, keeps, keptChain, keptCounts, keptOf, lostPages, passed, repairCall, repairTests}
+use Rattle.repair.specs.Repair.{repairable, repaired, sieve, unused}
 use Rattle.freeze.specs.Freeze.{freezeCall}
 use Rattle.book.specs.Book.{bookOf, decimal, decimalByte, fourDigits, listOfBook}
 use Rattle.book_in.specs.FromBook.{fromCall}
@@ -81,3 +83,8 @@ unfolding the-plain-list the-image freshWord freshWords freshCall fits fresh cal
     takeCell giveCell times bytesOf header entry layAll layPages lay laidAt pageBytes pageCounts read readFor chainFrom chainIn codeIn pageIn
     spareIn sumIn sound fine tests within onChains freezeCall
 the-store = tt
+
+-- a store brought back to sound
+unfoldable pub the-repair : Unit {0}
+unfolding the-store repairCall repairable repairTests repaired lostPages sieve keptCounts keptChain isKept keptOf passed keeps keepTests behind unused
+the-repair = tt

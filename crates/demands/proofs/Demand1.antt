@@ -1,5 +1,5 @@
 -- Demand 1, proved. Assumes nothing.
-use mathlib.Core.Path.{_≡_, refl, sym, ap, _∙_, subst}
+use mathlib.Core.Path.{_≡_, refl, sym, ap, ap₂, _∙_, subst}
 use mathlib.Core.Bool.{Bool, true, false, true≢false}
 use mathlib.Core.List.{List, [], _∷_}
 use mathlib.Core.Logic.{_⊎_, inl, inr}
@@ -20,6 +20,8 @@ use Rattle.image.specs.Reach.{Reach, above-total, damage, header-wrong, smalles
 use Rattle.image.specs.Read.{listOf, sOf}
 use Rattle.answers.specs.Image.{Reply, given, refused}
 use Rattle.image.proofs.CallLaws.{write-refused}
+use Rattle.repair.specs.Repair.{repairCall}
+use Rattle.repair.proofs.CallLaws.{repair-refused}
 use Rattle.freeze.specs.Freeze.{freezeCall}
 use Rattle.freeze.proofs.Freezing.{freeze-10, freeze-refused}
 use Rattle.image_busiest.proofs.AnswerLaws.{some-answer}
@@ -31,7 +33,7 @@ use Rattle.book_in.proofs.FromLaws.{from-refused}
 use Rattle.book_out.specs.ToBook.{toCall}
 use Rattle.book_out.proofs.ToLaws.{to-refused}
 use Rattle.hourlog_c.specs.Public.{Ends, Fresh, Freeze, ImageBusiest, ImageCheck, ImageCount, ImageFromBcd, ImageLength, ImageMatch, ImageReach}
-use Rattle.hourlog_c.specs.Public.{ImageMerge, ImageReading, ImageToBcd, ImageWrite, Live, PublicCall, Ten, beside, lent}
+use Rattle.hourlog_c.specs.Public.{ImageMerge, ImageReading, ImageToBcd, ImageWrite, Live, PublicCall, Repair, Ten, beside, lent}
 use Rattle.words.specs.End.{End, noRun, ofBag, ofImage, ofStore, ofStretch, refusal, theCells, theHours, theNumber, theRun, theSums}
 use Rattle.words.specs.ReadBack.{Reads}
 use Rattle.words.proofs.EndLaws.{image-refused, store-refused}
@@ -39,7 +41,8 @@ use Rattle.demands.specs.Reasons.{Unsound, Wins, reasons}
 use Rattle.demands.specs.Demand1.{Allowed, Bytes, Demand1, Given, Gives, Index, Refused, aNumber, cellsMoved, row}
 use Rattle.demands.proofs.Deciding.{Decided, gives-of, refuses-of, wins-of}
 use Rattle.demands.proofs.Refusals.{busiest-decided, check-decided, count-decided, freeze-decided, fresh-decided, from-decided, length-decided}
-use Rattle.demands.proofs.Refusals.{live-decided, match-decided, merge-decided, reach-decided, reading-decided, to-decided, write-decided}
+use Rattle.demands.proofs.Refusals.{live-decided, match-decided, merge-decided, reach-decided, reading-decided, repair-decided, to-decided}
+use Rattle.demands.proofs.Refusals.{write-decided}
 
 -- ---- all calls
 -- what may stand in the place of refusal k
@@ -69,6 +72,7 @@ decided : (c : PublicCall) (a : End) (t : List (List ℕ)) → Bytes c ⊎ Ten c
 unfolding row
 decided (Fresh s P C) a t b d = subst (Decides (Fresh s P C)) (sym (d .0)) (fresh-decided (May (Fresh s P C)) s P C)
 decided (Live c s) a t b d = subst (Decides (Live c s)) (sym (d .0)) (live-decided (May (Live c s)) c s (live-10 c s a (d .0) b))
+decided (Repair s b) a t h d = subst (Decides (Repair s b)) (sym (d .0)) (repair-decided (May (Repair s b)) s b)
 decided (Freeze s e i) a t b d =
     subst (Decides (Freeze s e i)) (sym (d .0)) (freeze-decided (May (Freeze s e i)) s e i (freeze-no s e i a (d .0) b))
 decided (ImageLength xs e) a t b d = subst (Decides (ImageLength xs e)) (sym (d .0)) (length-decided (May (ImageLength xs e)) xs e)
@@ -115,6 +119,7 @@ may-reach s p = go (headed s) refl (decLe p (sOf s)) (accepted s) refl
 some : (c : PublicCall) → (a : End) × (t : List (List ℕ)) × Ends c a t
 some (Fresh s P C) = (_, _, (refl, refl))
 some (Live c s) = (_, _, (refl, refl))
+some (Repair s b) = (_, _, (refl, refl))
 some (Freeze s e i) = (_, _, (refl, refl))
 some (ImageLength xs e) = (_, _, (refl, refl))
 some (ImageWrite xs e i) = (_, _, (refl, refl))
@@ -133,6 +138,9 @@ keeps : (c : PublicCall) (k : ℕ) (t : List (List ℕ)) → Ends c (refusal k) 
 keeps (Fresh s P C) k t d =
     d .1 ∙ ap (λ (z : List ℕ). z ∷ []) (fresh-refused-keeps s P C k (store-refused (freshCall s P C .answer) k .0 (sym (d .0))))
 keeps (Live c s) k t d = d .1 ∙ ap (λ (z : List ℕ). z ∷ beside c) (refused-keeps c s k (store-refused (call c s .answer) k .0 (sym (d .0))))
+keeps (Repair s b) k t d =
+    let w = repair-refused s b k (store-refused (repairCall s b .answer) k .0 (sym (d .0))) in
+    d .1 ∙ ap₂ (λ (y z : List ℕ). y ∷ z ∷ []) (w .1) (w .2)
 keeps (Freeze s e i) k t d =
     d .1 ∙ ap (λ (z : List ℕ). s ∷ z ∷ []) (freeze-refused e s i k (image-refused (freezeCall e s i .reply) k .0 (sym (d .0))))
 keeps (ImageLength xs e) k t d = d .1
@@ -188,6 +196,7 @@ question-keeps : (c : PublicCall) (a : End) (t : List (List ℕ)) → row c .que
 unfolding row
 question-keeps (Fresh s P C) a t q d = absurd (true≢false (sym q))
 question-keeps (Live c s) a t q d = d .1 ∙ ap (λ (z : List ℕ). z ∷ beside c) (asked c s q)
+question-keeps (Repair s b) a t q d = absurd (true≢false (sym q))
 question-keeps (Freeze s e i) a t q d = absurd (true≢false (sym q))
 question-keeps (ImageLength xs e) a t q d = d .1
 question-keeps (ImageWrite xs e i) a t q d = absurd (true≢false (sym q))

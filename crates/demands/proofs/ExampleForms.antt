@@ -25,6 +25,7 @@ use Rattle.store.proofs.Whole.{call-good}
 use Rattle.image.specs.Calls.{lengthCall, writeCall}
 use Rattle.image.specs.Check.{check}
 use Rattle.image.specs.Query.{count, reading}
+use Rattle.repair.specs.Repair.{repairCall}
 use Rattle.freeze.specs.Freeze.{freezeCall}
 use Rattle.image_merge.specs.Merge.{mergeCall}
 use Rattle.book_in.specs.FromBook.{fromCall}
@@ -33,7 +34,7 @@ use Rattle.words.specs.End.{End, ofCheck, ofImage, ofStore}
 use Rattle.words.specs.Words.{wordOf}
 use Rattle.hourlog_c.specs.Export.{Answers}
 use Rattle.hourlog_c.specs.Public.{Fresh, Freeze, ImageBusiest, ImageCheck, ImageCount, ImageFromBcd, ImageLength, ImageMatch, ImageReach}
-use Rattle.hourlog_c.specs.Public.{ImageMerge, ImageReading, ImageToBcd, ImageWrite, Live, PublicCall, beside, lent}
+use Rattle.hourlog_c.specs.Public.{ImageMerge, ImageReading, ImageToBcd, ImageWrite, Live, PublicCall, Repair, beside, lent}
 use Rattle.demands.specs.Demand3.{Run, wordsOf}
 use Rattle.demands.proofs.Demand3.{demand-3}
 
@@ -230,6 +231,7 @@ unknown = record { computed = false; word = 0; slices = [] }
 unfoldable pub ended : PublicCall → Ended
 ended (Fresh s P C) = by (ofStore (freshCall s P C .answer)) (freshCall s P C .bytes ∷ [])
 ended (Live c s) = by (ofStore (call c s .answer)) (call c s .bytes ∷ beside c)
+ended (Repair s b) = by (ofStore (repairCall s b .answer)) (repairCall s b .bytes ∷ repairCall s b .list ∷ [])
 ended (Freeze s e i) = by (ofImage (freezeCall e s i .reply)) (s ∷ freezeCall e s i .bytes ∷ [])
 ended (ImageLength xs e) = by (ofImage (lengthCall e xs)) (xs ∷ [])
 ended (ImageWrite xs e i) = by (ofImage (writeCall e xs i .reply)) (xs ∷ writeCall e xs i .bytes ∷ [])
@@ -252,6 +254,7 @@ ends-so : (c : PublicCall) → ended c .computed ≡ true → (v : ℕ) (u : Lis
 unfolding ended
 ends-so (Fresh s P C) h v u a = (a .word ∙ ap wordOf (a .ends .0), a .ends .1)
 ends-so (Live c s) h v u a = (a .word ∙ ap wordOf (a .ends .0), a .ends .1)
+ends-so (Repair s b) h v u a = (a .word ∙ ap wordOf (a .ends .0), a .ends .1)
 ends-so (Freeze s e i) h v u a = (a .word ∙ ap wordOf (a .ends .0), a .ends .1)
 ends-so (ImageLength xs e) h v u a = (a .word ∙ ap wordOf (a .ends .0), a .ends .1)
 ends-so (ImageWrite xs e i) h v u a = (a .word ∙ ap wordOf (a .ends .0), a .ends .1)

@@ -13,11 +13,11 @@ use Rattle.words.specs.End.{noRun, refusal, theCells, theHours, theNumber, theR
 use Rattle.words.specs.ReadBack.{busiestFirst, busiestSum, checkedHours, checkedTotal, matchedFirst, matchedHours, returned, taken}
 use Rattle.words.specs.Words.{wordOf}
 use Rattle.hourlog_c.specs.Public.{Fresh, Freeze, ImageBusiest, ImageCheck, ImageCount, ImageFromBcd, ImageLength, ImageMatch, ImageReach}
-use Rattle.hourlog_c.specs.Public.{ImageMerge, ImageReading, ImageToBcd, ImageWrite, Live, lent}
+use Rattle.hourlog_c.specs.Public.{ImageMerge, ImageReading, ImageToBcd, ImageWrite, Live, Repair, lent}
 use Rattle.demands.proofs.ExampleForms.{binary, hex}
 use Rattle.demands.proofs.Computing.{the-code, the-words}
 
--- ---- the 21 calls, and what each is lent, to read or to change: a store s, an image i, a list of counts xs, a book b, changed days d
+-- ---- the 23 calls, and what each is lent, to read or to change: a store s, an image i, a list of numbers xs, a book b, changed days d
 pub what-is-lent : (s i xs b d : List ℕ)
     → map lent
     (Fresh s 1 1
@@ -30,6 +30,7 @@ pub what-is-lent : (s i xs b d : List ℕ)
     ∷ Live (Reach 0) s
     ∷ Live (Day 0 d) s
     ∷ Live Free s
+    ∷ Repair s xs
     ∷ Freeze s 2 i
     ∷ ImageLength xs 2
     ∷ ImageWrite xs 2 i
@@ -53,6 +54,7 @@ pub what-is-lent : (s i xs b d : List ℕ)
     ∷ (s ∷ [])
     ∷ (s ∷ d ∷ [])
     ∷ (s ∷ [])
+    ∷ (s ∷ xs ∷ [])
     ∷ (s ∷ i ∷ [])
     ∷ (xs ∷ [])
     ∷ (xs ∷ i ∷ [])
@@ -86,6 +88,7 @@ pub in-digits :
     ∷ noRun
     ∷ refusal 1
     ∷ refusal 17
+    ∷ refusal 18
     ∷ [])
     ≡ 4294967295
     ∷ 196610
@@ -101,6 +104,7 @@ pub in-digits :
     ∷ 0
     ∷ 18446744073709551615
     ∷ 18446744073709551599
+    ∷ 18446744073709551598
     ∷ []
 unfolding the-words
 in-digits = refl

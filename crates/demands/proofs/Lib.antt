@@ -27,6 +27,7 @@ pub mod Note7
 pub mod Note8
 pub mod FirstEdition
 pub mod Note9
+pub mod Note10
 pub mod ExampleForms
 pub mod ExampleSearches
 pub mod Computing
@@ -37,3 +38,4 @@ pub mod ExamplesImage
 pub mod ExamplesEditions
 pub mod ExamplesNotes
 pub mod ExamplesMerge
+pub mod ExamplesRepair

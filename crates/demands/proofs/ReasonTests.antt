@@ -1,5 +1,5 @@
 -- The tests of the definitions, held against the facts of the reasons. Assumes nothing.
-use mathlib.Core.Path.{_≡_, refl, sym, ap, _∙_}
+use mathlib.Core.Path.{_≡_, refl, sym, ap, ap₂, _∙_}
 use mathlib.Core.Bool.{Bool, true, false, _&&_, not, true≢false}
 use mathlib.Core.List.{List, [], _∷_, map}
 use mathlib.Core.Logic.{_⊎_, inl, inr, ⊎-elim, _↔_}
@@ -12,6 +12,7 @@ use lib.Dec.{eqb, leb, ltb}
 use borrow.Author.Tests.{eq-eqb, eqb-true, le-leb, le-ltb, leb-false, leb-true, lt-ltb, ltb-false, ltb-true, not-false, not-true}
 use Rattle.lists.specs.Counts.{maxCount}
 use Rattle.lists.specs.Lists.{every, part, pick}
+use Rattle.lists.proofs.Parts.{length-part}
 use Rattle.lists.proofs.Tests.{each, every-no, every-of, left, right}
 use Rattle.bits.specs.Bits.{bits}
 use Rattle.bits.specs.Numbers.{number, numberAt}
@@ -20,9 +21,13 @@ use Rattle.tree.specs.Read.{Found, damaged, found, later, leftAt, leftOf, right
 use Rattle.days.specs.Days.{ChangesWrong, changesFit}
 use Rattle.days.proofs.ListedDays.{wrong-exactly}
 use Rattle.store.specs.Fitting.{Fitting, fits}
+use Rattle.store.specs.Reading.{cellsOf, pagesOf}
+use Rattle.store.specs.Shape.{Shaped}
 use Rattle.store.specs.Sound.{sound}
 use Rattle.store.proofs.ItemLaws.{sound-items}
 use Rattle.store.proofs.LimitLaws.{fits-so, fitting}
+use Rattle.repair.specs.Repair.{repairable}
+use Rattle.repair.proofs.Restored.{repairs-shaped, shaped-repairs}
 use Rattle.image.specs.Check.{accepted, headTests, headed, wideRight}
 use Rattle.image.specs.Image.{bytesFor, edition, headerLength, maxTotal, narrowTotal, pages, size}
 use Rattle.image.specs.Query.{beforePassing, ended, look, lookIn, pageFine, pageTests, passing}
@@ -31,9 +36,9 @@ use Rattle.image.proofs.Accepted.{accepted-only, length-list}
 use Rattle.image.proofs.CheckLaws.{past-5}
 use Rattle.book.specs.Book.{decimal, decimalByte, fourDigits}
 use Rattle.book.proofs.BookLaws.{digits-of, four-at}
-use Rattle.demands.specs.Reasons.{Damage, Edition, Header, NoHeader, NoImage, NoPageSize, NotDecimal, PageDamage, Sized, TooWide, Unsound}
-use Rattle.demands.specs.Reasons.{WalkDamage, before-above, before-passing, below-before, first, root-above, root-passing, second, tree-passing}
-use Rattle.demands.specs.Reasons.{walk-damage}
+use Rattle.demands.specs.Reasons.{Damage, Edition, Header, NoHeader, NoImage, NoPageSize, NotDecimal, PageDamage, Repairable, Sized, TooWide}
+use Rattle.demands.specs.Reasons.{Unsound, WalkDamage, before-above, before-passing, below-before, first, root-above, root-passing, second}
+use Rattle.demands.specs.Reasons.{tree-passing, walk-damage}
 use Rattle.demands.proofs.Theorems.{accepted-if}
 
 -- a test that holds exactly where F does, and one that holds exactly where F does not
@@ -51,6 +56,10 @@ below a b = (ltb-true a b, λ e l. let m = ltb-false a b e in omega arith)
 
 pub not-above : (a b : ℕ) → Denies (leb a b) (b < a)
 not-above a b = (leb-false a b, λ e l. let m = leb-true a b e in omega arith)
+
+-- the bytes of a part
+part-at : (s : List ℕ) (a w k : ℕ) → k < w → getD (part s a w) k 0 ≡ getD s (a + k) 0
+part-at s a w k l = getD-take w (drop a s) k 0 l ∙ getD-drop a s k 0
 
 -- ---- a store: 'P, C or buffer length wrong'; 'not sound', where a store that is not does not meet the clauses
 fitting-sized : (s : List ℕ) (P C : ℕ) → Fitting s P C ↔ Sized s P C
@@ -76,6 +85,45 @@ sizes s P C = (
 
 pub clauses : (s : List ℕ) → (sound s ≡ false → Unsound s) → Denies (sound s) (Unsound s)
 clauses s h = (h, λ e n. n (sound-items s e))
+
+-- ---- a store to be repaired
+pair-of : (l : List ℕ) → length l ≡ 2 → l ≡ getD l 0 0 ∷ getD l 1 0 ∷ []
+pair-of [] e = absurd (omega (arith, e))
+pair-of (x ∷ []) e = absurd (omega (arith, e))
+pair-of (x ∷ y ∷ []) e = refl
+pair-of (x ∷ y ∷ z ∷ l) e = absurd (omega (arith, e))
+
+two-bytes : (s : List ℕ) (a x y : ℕ) → a + 2 ≤ length s → (part s a 2 ≡ x ∷ y ∷ []) ↔ ((getD s (a + 0) 0 ≡ x) × (getD s (a + 1) 0 ≡ y))
+two-bytes s a x y l =
+    let first = part-at s a 2 0 (omega arith) in
+    let second = part-at s a 2 1 (omega arith) in (
+      λ e. (sym first ∙ ap (λ (z : List ℕ). getD z 0 0) e, sym second ∙ ap (λ (z : List ℕ). getD z 1 0) e),
+      λ w. pair-of (part s a 2) (length-part s a 2 l) ∙ ap₂ (λ (u v : ℕ). u ∷ v ∷ []) (first ∙ w .0) (second ∙ w .1),
+    )
+
+shaped-repairable : (s : List ℕ) (n : ℕ) → (Shaped s × (pagesOf s ≤ n)) ↔ Repairable s n
+shaped-repairable s n = (
+  λ w. let h = w .0 in
+      let z = fitting-sized s (pagesOf s) (cellsOf s) .0 (h .fitting) in
+      let start = two-bytes s 0 1 0 (omega (arith, z .long, z .cells-low)) .0 (h .edition) in
+      let gap = two-bytes s 10 0 0 (omega (arith, z .long, z .cells-low)) .0 (h .gap) in
+      record { sized = z; byte-0 = start .0; byte-1 = start .1; byte-10 = gap .0; byte-11 = gap .1; hours = h .hours; list = w .1 },
+  λ w. let z = w .sized in (
+    record {
+      edition = two-bytes s 0 1 0 (omega (arith, z .long, z .cells-low)) .1 (w .byte-0, w .byte-1);
+      gap = two-bytes s 10 0 0 (omega (arith, z .long, z .cells-low)) .1 (w .byte-10, w .byte-11);
+      fitting = fitting-sized s (pagesOf s) (cellsOf s) .1 z;
+      hours = w .hours;
+    },
+    w .list,
+  ),
+)
+
+pub repairs : (s : List ℕ) (n : ℕ) → Denies (repairable s n) (Repairable s n → ⊥)
+repairs s n = (
+  λ e w. let h = shaped-repairable s n .1 w in true≢false (sym (shaped-repairs s n (h .0) (h .1)) ∙ e),
+  λ e f. f (shaped-repairable s n .0 (repairs-shaped s n e)),
+)
 
 -- ---- a list of changed days
 pub changes : (cs : List ℕ) → Tells (not (changesFit cs)) (ChangesWrong cs)
@@ -109,9 +157,6 @@ zero-number : (bs : List ℕ) → ((k : ℕ) → k < length bs → getD bs k 0 �
 unfolding number
 zero-number [] h = refl
 zero-number (b ∷ bs) h = omega (arith, h 0 (omega arith), zero-number bs (λ k l. h (suc k) (omega arith)))
-
-part-at : (s : List ℕ) (a w k : ℕ) → k < w → getD (part s a w) k 0 ≡ getD s (a + k) 0
-part-at s a w k l = getD-take w (drop a s) k 0 l ∙ getD-drop a s k 0
 
 last-zero : (s : List ℕ) → (numberAt s 20 4 ≡ 0) ↔ ((k : ℕ) → 20 ≤ k → k ≤ 23 → getD s k 0 ≡ 0)
 last-zero s = (

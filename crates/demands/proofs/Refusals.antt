@@ -31,6 +31,7 @@ use Rattle.image.specs.Reach.{Reach, above-total, any-index, damage, header-wro
 use Rattle.image.specs.Read.{listOf, nOf, sOf}
 use Rattle.image.proofs.Accepted.{accepted-only, length-list}
 use Rattle.image.proofs.CheckLaws.{accepted-or, check-holds, past-5}
+use Rattle.repair.specs.Repair.{Outcome as Repaired, repairCall}
 use Rattle.freeze.specs.Freeze.{freezeCall}
 use Rattle.freeze.proofs.Freezing.{only-page-size}
 use Rattle.answers.specs.declared.image.Bag.{Bag}
@@ -46,13 +47,13 @@ use Rattle.book_in.specs.FromBook.{fromCall}
 use Rattle.book_in.proofs.FromLaws.{only-long}
 use Rattle.book_out.specs.ToBook.{putBook, toCall}
 use Rattle.hourlog_c.specs.Public.{Fresh, Freeze, ImageBusiest, ImageCheck, ImageCount, ImageFromBcd, ImageLength, ImageMatch, ImageReach}
-use Rattle.hourlog_c.specs.Public.{ImageMerge, ImageReading, ImageToBcd, ImageWrite, Live}
+use Rattle.hourlog_c.specs.Public.{ImageMerge, ImageReading, ImageToBcd, ImageWrite, Live, Repair}
 use Rattle.words.specs.End.{End, ofBag, ofCheck, ofImage, ofStore, ofStretch, refusal, theNumber}
 use Rattle.demands.specs.Reasons.{Damage, NoHeader, NoImage, NoPageSize, OverImage, OverSums, Reason, Short, TooWide, Unsound, _when_, plainReasons}
 use Rattle.demands.specs.Reasons.{reasons}
 use Rattle.demands.specs.Demand1.{Kind, aNumber, cellsMoved, firstAndSum, hoursAndTotal, hoursOrNone, row}
 use Rattle.demands.proofs.ReasonTests.{Denies, at-most, below, book, changes, clauses, damage-exactly, header, narrow, not-above}
-use Rattle.demands.proofs.ReasonTests.{not-found, page-size, sizes, written}
+use Rattle.demands.proofs.ReasonTests.{not-found, page-size, repairs, sizes, written}
 use Rattle.demands.proofs.Deciding.{Decided, fits-first, none-left, passed, where-false, where-true}
 
 -- ---- the live calls
@@ -105,6 +106,11 @@ module _ (M : ℕ → End → Type 0) where
   unfolding freshCall reasons ofStore
   fresh-decided s P C =
       where-false M aNumber (λ (r : Result). ofStore (r .answer)) _ _ _ (sizes s P C) refl (λ _. none-left M aNumber _ refl)
+
+  pub repair-decided : (s b : List ℕ) → Decided M aNumber (reasons (Repair s b)) (ofStore (repairCall s b .answer))
+  unfolding repairCall reasons ofStore
+  repair-decided s b =
+      where-false M aNumber (λ (r : Repaired). ofStore (r .answer)) _ _ _ (repairs s (length b)) refl (λ _. none-left M aNumber _ refl)
 
   -- ---- the calls that make an image
   put-decided : (out i : List ℕ) → Decided M aNumber (4 when (length out < length i) ∷ []) (ofImage (put out i .reply))

@@ -22,6 +22,7 @@ use Rattle.answers.specs.Image.{Verdict, fails, holds, Reply, given, refused}
 use Rattle.image.specs.Query.{count, reading}
 use Rattle.image.specs.Reach.{Reach}
 use Rattle.image.specs.Read.{nOf, sOf}
+use Rattle.repair.specs.Repair.{repairCall}
 use Rattle.freeze.specs.Freeze.{freezeCall}
 use Rattle.answers.specs.declared.image.Stretch.{Stretch}
 use Rattle.answers.specs.declared.image.Stretch.the-variants.{Run, Refused as NoStretch}
@@ -31,7 +32,7 @@ use Rattle.answers.specs.declared.image.Bag.the-variants.{Run as BagRun, None, 
 use Rattle.image_match.specs.Match.{MatchCall}
 use Rattle.image_merge.specs.Merge.{mergeCall}
 use Rattle.hourlog_c.specs.Public.{Ends, Fresh, Freeze, ImageBusiest, ImageCheck, ImageCount, ImageFromBcd, ImageLength, ImageMatch, ImageReach}
-use Rattle.hourlog_c.specs.Public.{ImageMerge, ImageReading, ImageToBcd, ImageWrite, Live}
+use Rattle.hourlog_c.specs.Public.{ImageMerge, ImageReading, ImageToBcd, ImageWrite, Live, Repair}
 use Rattle.hourlog_c.specs.Public.{PublicCall, beside, lent}
 use Rattle.words.specs.End.{End, noRun, ofBag, ofCheck, ofImage, ofStore, ofStretch, refusal, theCells, theHours, theNumber, theRun, theSums}
 use Rattle.words.specs.ReadBack.{Reads, busiestFirst, busiestSum, checkedHours, checkedTotal, matchedFirst, matchedHours, returned, taken}
@@ -75,14 +76,14 @@ reach-six s p a t d w =
 pub only-reach : (c : PublicCall) (k n : ℕ) → Index c k n → (k ≡ 6) × ((i : List ℕ) × (p : ℕ) × (c ≡ ImageReach i p) × (n ≤ nOf i))
 only-reach c k n x = (x .3, (x .0, x .1, x .2, x .4))
 
--- what is asked of the lent: that a store is bytes, and nothing else
+-- what is asked of the lent: that a store that is to be sound is bytes, and nothing else
 pub bytes-lent : (s : List ℕ) → ((i : ℕ) → getD s i 0 < 256) → ((c : Call) → Bytes (Live c s)) × ((e : ℕ) (out : List ℕ) → Bytes (Freeze s e out))
 bytes-lent s h = (λ c. h, λ e out. h)
 
 pub anything-lent : (s t : List ℕ) (m n : ℕ) → Bytes (Fresh s m n) × Bytes (ImageLength s m) × Bytes (ImageWrite s m t) × Bytes (ImageCheck s)
     × Bytes (ImageCount s m) × Bytes (ImageReading s m) × Bytes (ImageReach s m) × Bytes (ImageBusiest s m) × Bytes (ImageFromBcd s m t)
-    × Bytes (ImageToBcd s t) × Bytes (ImageMatch s m) × Bytes (ImageMerge s t m s)
-anything-lent s t m n = (tt, tt, tt, tt, tt, tt, tt, tt, tt, tt, tt, tt)
+    × Bytes (ImageToBcd s t) × Bytes (ImageMatch s m) × Bytes (ImageMerge s t m s) × Bytes (Repair s t)
+anything-lent s t m n = (tt, tt, tt, tt, tt, tt, tt, tt, tt, tt, tt, tt, tt)
 
 -- where no reason fits the call gives its result: one that turns all down is shut out
 pub gives-result : (c : PublicCall) (a : End) (t : List (List ℕ)) → Bytes c → Ends c a t → NoneFits (reasons c) → Gives (row c .gives) a
@@ -348,6 +349,12 @@ module _ (w : ℕ) (l : w < 2 ^ 63) (t : List (List ℕ)) where
   unfolding row
   fresh-word s P C a =
       store-number (freshCall s P C .answer) w (sym (number (Fresh s P C) refl a) ∙ demand-1 .above (Fresh s P C) w t a l .ends .0)
+
+  -- document 02, note 10: 'The result is how many were listed'
+  pub repair-word : (s b : List ℕ) → Answers (Repair s b) w t → repairCall s b .answer ≡ answered w
+  unfolding row
+  repair-word s b a =
+      store-number (repairCall s b .answer) w (sym (number (Repair s b) refl a) ∙ demand-1 .above (Repair s b) w t a l .ends .0)
 
   -- 'Length, write and freeze return the image's length in bytes'
   pub length-word : (xs : List ℕ) (e : ℕ) → Answers (ImageLength xs e) w t → lengthCall e xs ≡ given w

@@ -11,3 +11,6 @@ same-second e = cc
 
 pub same-third : {q r s t : List ℕ} → _≡_ {A = List (List ℕ)} (q ∷ r ∷ s ∷ []) (q ∷ r ∷ t ∷ []) → s ≡ t
 same-third e = cc
+
+pub same-both : {r s t u : List ℕ} → _≡_ {A = List (List ℕ)} (r ∷ s ∷ []) (t ∷ u ∷ []) → (r ≡ t) × (s ≡ u)
+same-both e = (cc, cc)

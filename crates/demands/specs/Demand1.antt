@@ -10,7 +10,7 @@ use Rattle.image.specs.Read.{nOf}
 use Rattle.store.specs.Plain.{Append, Count, Day, Free, Insert, Reach, Reading, Set, Strike}
 use Rattle.hourlog_c.specs.Public.{Ends, Fresh, Freeze, ImageBusiest, ImageCheck, ImageCount, ImageFromBcd, ImageLength, ImageMatch, ImageReach}
 use Rattle.words.specs.End.{End}
-use Rattle.hourlog_c.specs.Public.{ImageMerge, ImageReading, ImageToBcd, ImageWrite, Live}
+use Rattle.hourlog_c.specs.Public.{ImageMerge, ImageReading, ImageToBcd, ImageWrite, Live, Repair}
 use Rattle.hourlog_c.specs.Public.{PublicCall, lent}
 use Rattle.words.specs.End.{noRun, refusal, theCells, theHours, theNumber, theRun, theSums}
 use Rattle.words.specs.ReadBack.{Reads}
@@ -51,6 +51,7 @@ row (Live (Reading i) s) = record { gives = aNumber; question = true }
 row (Live (Reach p) s) = record { gives = aNumber; question = true }
 row (Live (Day d changes) s) = record { gives = aNumber; question = true }
 row (Live Free s) = record { gives = aNumber; question = true }
+row (Repair s b) = record { gives = aNumber; question = false }
 row (Freeze s e i) = record { gives = aNumber; question = false }
 row (ImageLength xs e) = record { gives = aNumber; question = true }
 row (ImageWrite xs e i) = record { gives = aNumber; question = false }
@@ -79,10 +80,11 @@ Allowed c (refusal k) = Wins k (reasons c)
 abbrev pub Index : PublicCall → ℕ → ℕ → Type 0
 Index c k n = (i : List ℕ) × (p : ℕ) × (c ≡ ImageReach i p) × (k ≡ 6) × (n ≤ nOf i)
 
--- a store is lent as bytes
+-- a store that is to be sound is lent as bytes
 abbrev pub Bytes : PublicCall → Type 0
 Bytes (Fresh s P C) = Unit {0}
 Bytes (Live c s) = (i : ℕ) → getD s i 0 < 256
+Bytes (Repair s b) = Unit {0}
 Bytes (Freeze s e i) = (j : ℕ) → getD s j 0 < 256
 Bytes (ImageLength xs e) = Unit {0}
 Bytes (ImageWrite xs e i) = Unit {0}

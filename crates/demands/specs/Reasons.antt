@@ -14,11 +14,11 @@ use Rattle.image.specs.Read.{beforeOf, eOf, lOf, listOf, nOf, rootOf, sOf, star
 use Rattle.days.specs.Days.{ChangesWrong, dayEnd}
 use Rattle.store.specs.Items.{Items}
 use Rattle.store.specs.Plain.{Append, Call, Count, Day, Free, Insert, Plain, Reach, Reading, Set, Strike, need}
-use Rattle.store.specs.Reading.{listIn, read}
+use Rattle.store.specs.Reading.{cellsOf, hoursOf, listIn, pagesOf, read}
 use Rattle.image_merge.specs.Merge.{sums}
 use Rattle.book.specs.Book.{listOfBook}
 use Rattle.hourlog_c.specs.Public.{Fresh, Freeze, ImageBusiest, ImageCheck, ImageCount, ImageFromBcd, ImageLength, ImageMatch, ImageReach}
-use Rattle.hourlog_c.specs.Public.{ImageMerge, ImageReading, ImageToBcd, ImageWrite, Live, PublicCall}
+use Rattle.hourlog_c.specs.Public.{ImageMerge, ImageReading, ImageToBcd, ImageWrite, Live, PublicCall, Repair}
 
 -- a refusal's number, and what is then the case
 pub record Reason : Type 1 where
@@ -46,6 +46,17 @@ pub record Sized (s : List ℕ) (P C : ℕ) : Type 0 where
   pub cells-low : 1 ≤ C
   pub cells-high : C ≤ 1800
   pub long : length s ≡ 16 + 6 * P + 32 * C
+
+-- ---- of a store to be repaired and a list of n entries. Document 02, note 10: not 'a wrong store length, a header with byte 0, byte 1, bytes 10-11,
+-- P, C or N out of document 01's rules, or a list buffer shorter than P entries'
+pub record Repairable (s : List ℕ) (n : ℕ) : Type 0 where
+  pub sized : Sized s (pagesOf s) (cellsOf s)
+  pub byte-0 : getD s 0 0 ≡ 1
+  pub byte-1 : getD s 1 0 ≡ 0
+  pub byte-10 : getD s 10 0 ≡ 0
+  pub byte-11 : getD s 11 0 ≡ 0
+  pub hours : hoursOf s ≤ 64 * pagesOf s
+  pub list : pagesOf s ≤ n
 
 -- ---- of a store, and of the list that it holds
 -- 'not sound', the clauses of document 01 not being all met
@@ -155,6 +166,8 @@ unfoldable pub reasons : PublicCall → List Reason
 reasons (Fresh s P C) = 9 when (Sized s P C → ⊥) ∷ []
 -- 'store, every other live call and freeze'
 reasons (Live c s) = 10 when Unsound s ∷ plainReasons c (read s .plain)
+-- note 10: 'It never refuses with 10; its only refusal is 18'
+reasons (Repair s b) = 18 when (Repairable s (length b) → ⊥) ∷ []
 reasons (Freeze s e i) = 10 when Unsound s ∷ 1 when NoPageSize e ∷ 4 when (length i < length (image e (listIn s))) ∷ []
 reasons (ImageLength xs e) = 1 when NoPageSize e ∷ 2 when (65536 < length xs) ∷ 3 when OverImage xs ∷ []
 reasons (ImageWrite xs e i) =

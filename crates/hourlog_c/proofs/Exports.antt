@@ -1,10 +1,10 @@
 -- Every export keeps its promise, from what the function that it calls ensures. Assumes nothing.
-use mathlib.Core.Path.{_≡_, refl, sym, ap, _∙_, subst}
+use mathlib.Core.Path.{_≡_, refl, sym, ap, ap₂, _∙_, subst}
 use mathlib.Core.Bool.{Bool, true, false}
 use mathlib.Core.List.{List, [], _∷_}
 use Prim.Native.Nat.{ℕ, _<_}
 use native.Mathlib.Omega.{arith}
-use lib.ListN.{getD}
+use lib.ListN.{getD, length}
 use Rattle.lists.specs.Lists.{pick}
 use Rattle.store.specs.Plain.{Call}
 use Rattle.answers.specs.Store.{Answer, answered, changed, refused as turned}
@@ -19,6 +19,8 @@ use Rattle.answers.specs.Image.{Verdict, fails, holds, Reply, given, refused}
 use Rattle.image.specs.Query.{count, reading}
 use Rattle.image.specs.Reach.{Reach}
 use Rattle.image.proofs.Sizes.{Small as SmallReply, SmallVerdict, check-small, count-small, length-small, reach-small, reading-small, write-small}
+use Rattle.repair.specs.Repair.{Repairs, repairCall, repairable}
+use Rattle.repair.proofs.CallLaws.{call-no, call-yes, lost-few, repair-refused}
 use Rattle.freeze.specs.Freeze.{freezeCall}
 use Rattle.answers.specs.declared.image.Stretch.{Stretch}
 use Rattle.answers.specs.declared.image.Stretch.the-variants.{Run, Refused as NoStretch}
@@ -28,7 +30,8 @@ use Rattle.image_busiest.specs.Busiest.{BusiestCall}
 use Rattle.image_busiest.proofs.AnswerLaws.{Small as SmallStretch, small-answer}
 use Rattle.image_match.specs.Match.{MatchCall}
 use Rattle.image_match.proofs.AnswerLaws.{Small as SmallBag, small-answer as small-match}
-use Rattle.hourlog_c.specs.Public.{Ends, Fresh, Freeze, ImageBusiest, ImageCheck, ImageCount, ImageLength, ImageMatch, ImageReach, ImageReading, ImageWrite, Live}
+use Rattle.hourlog_c.specs.Public.{Ends, Fresh, Freeze, ImageBusiest, ImageCheck, ImageCount, ImageLength, ImageMatch, ImageReach, ImageReading}
+use Rattle.hourlog_c.specs.Public.{ImageWrite, Live, Repair}
 use Rattle.words.specs.End.{End}
 use Rattle.hourlog_c.specs.Public.{PublicCall, Ten, beside}
 use Rattle.words.specs.End.{ofBag, ofCheck, ofImage, ofStore, ofStretch}
@@ -36,6 +39,7 @@ use Rattle.words.specs.Words.{wordOf}
 use Rattle.words.specs.ReadBack.{Reads}
 use Rattle.hourlog_c.specs.Export.{Answers, Costs}
 use Rattle.hourlog_c.proofs.RefusedTen.{freeze-ten, live-ten}
+use Rattle.words.proofs.EndLaws.{store-refused}
 use Rattle.words.proofs.WordLaws.{Small, small-reads}
 
 -- a small answer, and its word
@@ -102,6 +106,23 @@ pub fresh-answers : (b t : List ℕ) (P C w : ℕ) (a : Answer) → w ≡ wordOf
 fresh-answers b t P C w a e d =
     answers (Fresh b P C) w (t ∷ []) (ofStore (freshCall b P C .answer)) (refl, ap (λ (z : List ℕ). z ∷ []) (d .bytes)) tt
     (small-store (freshCall b P C .answer) (fresh-small b P C)) (e ∙ ap (λ (z : Answer). wordOf (ofStore z)) (d .answer))
+
+-- ---- the repair
+repair-small : (s b : List ℕ) → SmallAnswer (repairCall s b .answer)
+repair-small s b = go (repairable s (length b)) refl
+  where
+    go : (r : Bool) → repairable s (length b) ≡ r → SmallAnswer (repairCall s b .answer)
+    go true e = rw (call-yes s b e) (omega (arith, lost-few s (length b) e))
+    go false e = rw (call-no s b e) (omega arith, omega arith)
+
+repair-ten : (s b : List ℕ) → Ten (Repair s b) (ofStore (repairCall s b .answer))
+repair-ten s b e =
+    let z : _≡_ {A = ℕ} 10 18 = repair-refused s b 10 (store-refused (repairCall s b .answer) 10 .0 e) .0 in omega arith
+
+pub repair-answers : (s b t d : List ℕ) (w : ℕ) (a : Answer) → w ≡ wordOf (ofStore a) → Repairs s b a t d → Answers (Repair s b) w (t ∷ d ∷ [])
+repair-answers s b t d w a e r =
+    answers (Repair s b) w (t ∷ d ∷ []) (ofStore (repairCall s b .answer)) (refl, ap₂ (λ (y z : List ℕ). y ∷ z ∷ []) (r .bytes) (r .list))
+    (repair-ten s b) (small-store (repairCall s b .answer) (repair-small s b)) (e ∙ ap (λ (z : Answer). wordOf (ofStore z)) (r .answer))
 
 -- ---- the image: what the code answers is r, which is to be the call's reply
 pub reply-word : (w : ℕ) (r q : Reply) → w ≡ wordOf (ofImage r) → r ≡ q → w ≡ wordOf (ofImage q)

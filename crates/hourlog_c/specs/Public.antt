@@ -15,6 +15,7 @@ use Rattle.image.specs.Query.{count, reading}
 use Rattle.image.specs.Reach.{Reach}
 use Rattle.image_busiest.specs.Busiest.{BusiestCall}
 use Rattle.image_match.specs.Match.{MatchCall}
+use Rattle.repair.specs.Repair.{repairCall}
 use Rattle.freeze.specs.Freeze.{freezeCall}
 use Rattle.answers.specs.declared.image.Stretch.{Stretch}
 use Rattle.book_in.specs.FromBook.{fromCall}
@@ -27,6 +28,7 @@ use Rattle.words.specs.End.{End, ofBag, ofCheck, ofImage, ofStore, ofStretch, r
 pub data PublicCall : Type 0 where
   Fresh : (store : List ℕ) (pages cells : ℕ) → PublicCall
   Live : (call : Call) (store : List ℕ) → PublicCall
+  Repair : (store list : List ℕ) → PublicCall
   Freeze : (store : List ℕ) (e : ℕ) (image : List ℕ) → PublicCall
   ImageLength : (counts : List ℕ) (e : ℕ) → PublicCall
   ImageWrite : (counts : List ℕ) (e : ℕ) (image : List ℕ) → PublicCall
@@ -56,6 +58,7 @@ beside Free = []
 abbrev pub lent : PublicCall → List (List ℕ)
 lent (Fresh s P C) = s ∷ []
 lent (Live c s) = s ∷ beside c
+lent (Repair s b) = s ∷ b ∷ []
 lent (Freeze s e i) = s ∷ i ∷ []
 lent (ImageLength xs e) = xs ∷ []
 lent (ImageWrite xs e i) = xs ∷ i ∷ []
@@ -74,6 +77,7 @@ lent (ImageMerge f s e i) = f ∷ s ∷ i ∷ []
 abbrev pub Ends : PublicCall → End → List (List ℕ) → Type 0
 Ends (Fresh s P C) a t = (a ≡ ofStore (freshCall s P C .answer)) × (t ≡ freshCall s P C .bytes ∷ [])
 Ends (Live c s) a t = (a ≡ ofStore (call c s .answer)) × (t ≡ call c s .bytes ∷ beside c)
+Ends (Repair s b) a t = (a ≡ ofStore (repairCall s b .answer)) × (t ≡ repairCall s b .bytes ∷ repairCall s b .list ∷ [])
 Ends (Freeze s e i) a t = (a ≡ ofImage (freezeCall e s i .reply)) × (t ≡ s ∷ freezeCall e s i .bytes ∷ [])
 Ends (ImageLength xs e) a t = (a ≡ ofImage (lengthCall e xs)) × (t ≡ xs ∷ [])
 Ends (ImageWrite xs e i) a t = (a ≡ ofImage (writeCall e xs i .reply)) × (t ≡ xs ∷ writeCall e xs i .bytes ∷ [])
@@ -87,10 +91,12 @@ Ends (ImageToBcd i b) a t = (a ≡ ofImage (toCall i b .reply)) × (t ≡ i ∷ 
 Ends (ImageMatch i q) a t = ((r : Bag) × MatchCall i q r × (a ≡ ofBag r)) × (t ≡ i ∷ [])
 Ends (ImageMerge f s e i) a t = (a ≡ ofImage (mergeCall e f s i .reply)) × (t ≡ f ∷ s ∷ mergeCall e f s i .bytes ∷ [])
 
--- 'store, every other live call and freeze: 10, not sound', where a sound store is told clause by clause
+-- 'store, every other live call and freeze: 10, not sound', where a sound store is told clause by clause; of the repair document 02 says, note 10,
+-- 'It never refuses with 10'
 abbrev pub Ten : PublicCall → End → Type 0
 Ten (Fresh s P C) a = Unit {0}
 Ten (Live c s) a = (a ≡ refusal notSound) ↔ (Items s → ⊥)
+Ten (Repair s b) a = a ≡ refusal notSound → ⊥
 Ten (Freeze s e i) a = (a ≡ refusal notSound) ↔ (Items s → ⊥)
 Ten (ImageLength xs e) a = Unit {0}
 Ten (ImageWrite xs e i) a = Unit {0}

@@ -4,7 +4,7 @@ ghost use mathlib.Core.List.{[], _∷_};
 ghost use Rattle.store.specs.Plain.{Append, Set, Insert, Strike, Count, Reading, Reach, Day, Free};
 ghost use Rattle.store.specs.Reading.{listIn};
 ghost use Rattle.coin_cost.specs.Cost.{gain};
-ghost use Rattle.hourlog_c.specs.Public.{Fresh, Live};
+ghost use Rattle.hourlog_c.specs.Public.{Fresh, Live, Repair};
 ghost use Rattle.hourlog_c.specs.Export.{Answers, Costs};
 
 #[no_mangle]
@@ -77,4 +77,11 @@ pub extern "C" fn hourlog_free(store: &[u8]) -> u64
     ensures { λ r. ⌜ Answers (Live Free (now (store .entry))) r (now (store .exit) ∷ []) ⌝ }
 {
     of_store(live::free(store))
+}
+
+#[no_mangle]
+pub extern "C" fn hourlog_repair(store: &mut [u8], lost: &mut [u32]) -> u64
+    ensures { λ r. ⌜ Answers (Repair (now (store .entry)) (now (lost .entry))) r (now (store .exit) ∷ now (lost .exit) ∷ []) ⌝ }
+{
+    of_store(live_repair::repair(store, lost))
 }

@@ -1,15 +1,13 @@
 -- The walk over the pages' chains, cell by cell: what is left to test where it stands, and the code gathered so far. Assumes nothing.
-use mathlib.Core.Path.{_≡_, refl, sym, ap, ap₂, _∙_}
+use mathlib.Core.Path.{_≡_, sym, ap, ap₂, _∙_}
 use mathlib.Core.Bool.{Bool, true, false, not}
-use mathlib.Core.List.{List, _++_, append-assoc, append-nil}
+use mathlib.Core.List.{List}
 use Prim.Native.Nat.{ℕ, suc, _+_, _-_, _*_, _≤_, _<_}
 use native.Mathlib.Numerals.{add-one}
 use native.Mathlib.Omega.{arith}
-use lib.ListN.{length, take, drop, set, replicate, length-append}
-use lib.Seq.{length-take-le, sets, take-at}
+use lib.ListN.{take, set, replicate}
 use borrow.Author.Tests.{eq-eqb, ne-eqb, not-false, not-true}
-use Rattle.lists.specs.Lists.{every, part, splice}
-use Rattle.lists.proofs.Parts.{length-part, sets-splice}
+use Rattle.lists.specs.Lists.{every}
 use Rattle.bits.specs.Bits.{bits}
 use Rattle.bits.specs.Numbers.{Number, numberAt}
 use Rattle.tree.proofs.Shape.{length-counts}
@@ -23,6 +21,7 @@ use Rattle.sound_page.specs.Code.Page.{pageFits}
 use Rattle.sound_free.specs.Code.Free.{freeFits}
 use Rattle.soundness.specs.Code.Chains.{chainsFit}
 use Rattle.sound_free.proofs.CellTest.{cellTest}
+use Rattle.chains.proofs.Gathering.{SoFar, gather-end}
 
 -- a page's tests are those of its gathered code
 tests-are : (s : List ℕ) (P N p : ℕ) → every (pageTests s P N p) ≡ pageFits (codeIn s (cellsFrom P) (chainIn s P p)) (sumIn s p) p N
@@ -38,10 +37,6 @@ unfoldable pub cellsOn : List ℕ → ℕ → ℕ → ℕ → ℕ → ℕ → Li
 cellsOn s P C N p n m a =
     let after : List ℕ → _ = λ m′. go-on (every (pageTests s P N p)) (checkPages s P C N (P - (p + 1)) (suc p) m′) in
     ends-well (and-then (walkMarks s (cellsFrom P) C n m a) after) (freeFits s (cellsFrom P) C)
-
--- ---- the code that is gathered so far: j cells of it, and n cells from the number c on are left
-abbrev pub SoFar : List ℕ → ℕ → ℕ → ℕ → ℕ → List ℕ → ℕ → Type 0
-SoFar s P p j n code c = codeIn s (cellsFrom P) (chainIn s P p) ≡ take (30 * j) code ++ codeIn s (cellsFrom P) (chainFrom s (cellsFrom P) n c)
 
 pub pages-start : (s : List ℕ) (h : Header) → HeadOf s h → chainsFit s ≡ pagesOn s (h .pages) (h .cells) (h .hours) 0 (replicate marksLength 0)
 unfolding chainsFit pagesOn
@@ -68,7 +63,7 @@ module _ (s : List ℕ) (P C N p : ℕ) (m : List ℕ) where
         ap (λ (i : ℕ). ends-well (checkPages s P C N i p m) (freeFits s (cellsFrom P) C)) {x = P - p} {y = suc (P - (p + 1))} (omega arith)
         ∙ ap₂ (λ (i b : ℕ). cellsOn s P C N p i m (b + 4)) cells-are (sym at)
 
-    pub gather-start : (code : List ℕ) → SoFar s P p 0 (k - 0) code (numberAt s (e + 4) 2)
+    pub gather-start : (code : List ℕ) → SoFar s (cellsFrom P) (codeIn s (cellsFrom P) (chainIn s P p)) k 0 code (e + 4)
     unfolding chainIn
     gather-start code = ap₂ (λ (i b : ℕ). codeIn s (cellsFrom P) (chainFrom s (cellsFrom P) i (numberAt s (b + 4) 2))) cells-are (sym at)
 
@@ -84,27 +79,11 @@ module _ (s : List ℕ) (P C N p : ℕ) (m : List ℕ) where
     unfolding cellsOn walkMarks go-on and-then ends-well
     cell-broken l e = sym (ap (λ (i : ℕ). cellsOn s P C N p i m a) (one l) ∙ rw (sym (n .is)) (rw e))
 
-    -- c starts at r: it is marked, and its code joins the rest
+    -- c starts at r: it is marked
     module _ (l : j < k) {r : ℕ} (at : r ≡ cellAt (cellsFrom P) c) where
       pub cell-next : cellTest C m c ≡ true → cellsOn s P C N p (k - j) m a ≡ cellsOn s P C N p (k - (j + 1)) (set m c 1) r
       unfolding cellsOn walkMarks go-on
       cell-next e = ap (λ (i : ℕ). cellsOn s P C N p i m a) (one l) ∙ rw (sym (n .is), at) (rw e)
-
-      pub gather-next : (code code′ : List ℕ) → 30 * j + 30 ≤ length code → r + 32 ≤ length s → code′ ≡ sets code (30 * j) (part s (r + 2) 30)
-          → SoFar s P p j (k - j) code (numberAt s a 2) → SoFar s P p (j + 1) (k - (j + 1)) code′ (numberAt s r 2)
-      unfolding chainFrom codeIn splice
-      gather-next code code′ lc ls e g =
-          let front : List ℕ = take (30 * j) code in
-          let b : List ℕ = part s (r + 2) 30 in
-          let lb : length b ≡ 30 = length-part s (r + 2) 30 (omega arith) in
-          let lf : length front ≡ 30 * j = length-take-le (30 * j) code (omega arith) in
-          let back : List ℕ = drop (30 * j + length b) code in
-          let rest : List ℕ = codeIn s (cellsFrom P) (chainFrom s (cellsFrom P) (k - (j + 1)) (numberAt s r 2)) in
-          let head : codeIn s (cellsFrom P) (chainFrom s (cellsFrom P) (k - j) (numberAt s a 2)) ≡ b ++ rest = rw (one l, sym (n .is), at) refl in
-          let new : take (30 * (j + 1)) code′ ≡ front ++ b =
-          ap (take (30 * (j + 1))) (e ∙ sets-splice b code (30 * j) (omega arith) ∙ sym (append-assoc front b back))
-          ∙ take-at (front ++ b) back (30 * (j + 1)) (length-append front b ∙ omega arith) in
-          g ∙ ap (λ (z : List ℕ). front ++ z) head ∙ sym (append-assoc front b rest) ∙ ap (λ (z : List ℕ). z ++ rest) (sym new)
 
     -- all are passed: the chain does not end
     pub page-open : k ≤ j → (c ≡ 0 → ⊥) → false ≡ cellsOn s P C N p (k - j) m a
@@ -113,18 +92,13 @@ module _ (s : List ℕ) (P C N p : ℕ) (m : List ℕ) where
 
     -- it ends, and t says whether the code is right
     module _ (l : k ≤ j) (all : j ≤ k) (h : c ≡ 0) {e sum : ℕ} (at : e ≡ entryAt p) (i : Number s e 4 sum) (code : List ℕ)
-        (g : SoFar s P p j (k - j) code (numberAt s a 2)) {t : Bool} (q : t ≡ pageFits (take (30 * k) code) sum p N) where
-      code-is : codeIn s (cellsFrom P) (chainIn s P p) ≡ take (30 * k) code
-      unfolding chainFrom codeIn
-      code-is =
-          let w : j ≡ k = omega arith in
-          g ∙ ap₂ (λ (i n : ℕ). take (30 * i) code ++ codeIn s (cellsFrom P) (chainFrom s (cellsFrom P) n (numberAt s a 2))) w (none l) ∙ append-nil (take (30 * k) code)
-
+        (g : SoFar s (cellsFrom P) (codeIn s (cellsFrom P) (chainIn s P p)) k j code a) {t : Bool} (q : t ≡ pageFits (take (30 * k) code) sum p N) where
       fits : every (pageTests s P N p) ≡ t
       unfolding sumIn
       fits =
           tests-are s P N p
-          ∙ sym (q ∙ ap₂ (λ (z : List ℕ) (n : ℕ). pageFits z n p N) (sym code-is) (i .is ∙ ap (λ (z : ℕ). numberAt s z 4) at))
+          ∙ sym (q ∙ ap₂ (λ (z : List ℕ) (n : ℕ). pageFits z n p N)
+          (gather-end s (cellsFrom P) (codeIn s (cellsFrom P) (chainIn s P p)) k j a code l all g) (i .is ∙ ap (λ (z : ℕ). numberAt s z 4) at))
 
       pub page-wrong : not t ≡ true → false ≡ cellsOn s P C N p (k - j) m a
       unfolding cellsOn walkMarks go-on and-then ends-well

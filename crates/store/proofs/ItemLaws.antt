@@ -38,14 +38,26 @@ use Rattle.store.proofs.TotalLaws.{total-all}
 use Rattle.store.proofs.Verdict.{Found, head-each, says-sound}
 use Rattle.store.proofs.Writes.{Chain, Linked}
 
-chain-long : (s : List ℕ) (P k c : ℕ) → length (chainFrom s (cellsFrom P) k c) ≡ k
+pub chain-long : (s : List ℕ) (P k c : ℕ) → length (chainFrom s (cellsFrom P) k c) ≡ k
 unfolding chainFrom
 chain-long s P zero c = refl
 chain-long s P (suc k) c = ap suc (chain-long s P k (numberAt s (cellAt (cellsFrom P) c) 2))
 
-page-long : (s : List ℕ) (P p : ℕ) → length (pageIn s P p) ≡ 64
+pub page-long : (s : List ℕ) (P p : ℕ) → length (pageIn s P p) ≡ 64
 unfolding pageIn pageCounts
 page-long s P p = length-counts 6 (sumIn s p) (bits (codeIn s (cellsFrom P) (chainIn s P p))) 0
+
+-- a page whose hours from N on are zero
+pub quiet-of : (s : List ℕ) (P N p : ℕ) → ((j : ℕ) → j < 64 → N ≤ 64 * p + j → getD (pageIn s P p) j 0 ≡ 0) → pageIn s P p ≡ quiet N p (pageIn s P p)
+unfolding pick
+quiet-of s P N p h =
+    let f : ℕ → ℕ = λ j. pick (ltb (64 * p + j) N) (getD (pageIn s P p) j 0) 0 in
+    ext-getD 0 (pageIn s P p) (tabulate 64 f) (page-long s P p ∙ sym (length-tabulate 64 f))
+    (λ j r. let q : j < 64 = omega (arith, page-long s P p) in go j q (decLe (64 * p + j + 1) N) ∙ sym (getD-tabulate 64 f j 0 q))
+  where
+    go : (j : ℕ) → j < 64 → Dec (64 * p + j + 1 ≤ N) → getD (pageIn s P p) j 0 ≡ pick (ltb (64 * p + j) N) (getD (pageIn s P p) j 0) 0
+    go j q (yes k) = rw (lt-ltb (64 * p + j) N (omega arith))
+    go j q (no k) = rw (le-ltb (64 * p + j) N (omega arith)) (h j q (omega arith))
 
 module _ (s : List ℕ) (bytes : (i : ℕ) → getD s i 0 < 256) where
   -- a chain of cells that runs to its end is linked
@@ -75,18 +87,6 @@ module _ (s : List ℕ) (bytes : (i : ℕ) → getD s i 0 < 256) where
     free-part : (d : ℕ) → occurrences d (spareIn s P) ≤ occurrences d (onAll s)
     free-part d = omega (arith, occurrences-append d (concat (tabulate P (chainIn s P))) (spareIn s P))
 
-    quiet-is : (p : ℕ) → p < P → pageIn s P p ≡ quiet (hoursOf s) p (pageIn s P p)
-    unfolding pick
-    quiet-is p l =
-        let f : ℕ → ℕ = λ j. pick (ltb (64 * p + j) (hoursOf s)) (getD (pageIn s P p) j 0) 0 in
-        ext-getD 0 (pageIn s P p) (tabulate 64 f) (page-long s P p ∙ sym (length-tabulate 64 f))
-        (λ j r. let q : j < 64 = omega (arith, page-long s P p) in go j q (decLe (64 * p + j + 1) (hoursOf s)) ∙ sym (getD-tabulate 64 f j 0 q))
-      where
-        go : (j : ℕ) → j < 64 → Dec (64 * p + j + 1 ≤ hoursOf s)
-            → getD (pageIn s P p) j 0 ≡ pick (ltb (64 * p + j) (hoursOf s)) (getD (pageIn s P p) j 0) 0
-        go j q (yes k) = rw (lt-ltb (64 * p + j) (hoursOf s) (omega arith))
-        go j q (no k) = rw (le-ltb (64 * p + j) (hoursOf s) (omega arith)) (i .beyond p j l q (omega arith))
-
     page-good : (p : ℕ) → p < P → PageGood s P C (hoursOf s) p
     unfolding pageTests chainIn
     page-good p l =
@@ -94,7 +94,7 @@ module _ (s : List ℕ) (bytes : (i : ℕ) → getD s i 0 < 256) where
         record {
           tests = (
             eq-eqb _ _ (page-long s P p),
-            (eq-eqb _ _ (i .page-sum p l), (same-eq _ _ (i .page-code p l), (same-eq _ _ (quiet-is p l), tt))),
+            (eq-eqb _ _ (i .page-sum p l), (same-eq _ _ (i .page-code p l), (same-eq _ _ (quiet-of s P (hoursOf s) p (λ j q k. i .beyond p j l q k)), tt))),
           );
           long = chain-long s P (cells (sumIn s p)) (firstIn s p);
           chain = j;

@@ -2,6 +2,7 @@
 -- numbers, limits, a page's code
 pub mod Numbers
 pub mod LimitLaws
+pub mod ShapeLaws
 pub mod PageCodeLaws
 pub mod Starred
 -- the model: its chains alone, a fresh store, one page that changes, and many

@@ -22,14 +22,14 @@ use Rattle.store.proofs.Holds.{holds-bytes}
 use Rattle.store.proofs.Chained.{good-chained}
 use Rattle.store.proofs.ReadBack.{read-is}
 
-within-all : (C : ℕ) (xs : List ℕ) → ((c : ℕ) → 1 ≤ occurrences c xs → (1 ≤ c) × (c ≤ C)) → within C xs ≡ true
+pub within-all : (C : ℕ) (xs : List ℕ) → ((c : ℕ) → 1 ≤ occurrences c xs → (1 ≤ c) × (c ≤ C)) → within C xs ≡ true
 unfolding within occurrences
 within-all C [] h = refl
 within-all C (x ∷ xs) h =
     let w = h x (omega (arith, one-same x)) in
     both (both (le-leb 1 x (w .0)) (le-leb x C (w .1))) (within-all C xs (λ c q. h c (omega arith)))
 
-all-within : (C : ℕ) (xs : List ℕ) → within C xs ≡ true → (c : ℕ) → 1 ≤ occurrences c xs → (1 ≤ c) × (c ≤ C)
+pub all-within : (C : ℕ) (xs : List ℕ) → within C xs ≡ true → (c : ℕ) → 1 ≤ occurrences c xs → (1 ≤ c) × (c ≤ C)
 unfolding within occurrences
 all-within C [] h c q = absurd (omega arith)
 all-within C (x ∷ xs) h c q =

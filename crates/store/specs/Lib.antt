@@ -8,8 +8,9 @@ pub mod Layout
 pub mod Fitting
 pub mod OneCell
 pub mod Settle
--- what bytes say, and when they are sound: computed, and clause by clause
+-- what bytes say, the shape that they must have, and when they are sound: computed, and clause by clause
 pub mod Reading
+pub mod Shape
 pub mod Sound
 pub mod Items
 -- the calls on bytes

@@ -5,13 +5,13 @@ use mathlib.Core.List.{List, [], _∷_, _++_}
 use Prim.Native.Nat.{ℕ, zero, suc, _+_, _*_}
 use lib.ListN.{length, getD, set}
 use lib.Dec.{leb, ltb, eqb}
-use Rattle.lists.specs.Lists.{every, part, pick, same, sum, tabulate}
+use Rattle.lists.specs.Lists.{every, pick, same, sum, tabulate}
 use Rattle.bits.specs.Numbers.{numberAt}
 use Rattle.store.specs.Layout.{cellAt, cellsFrom, entryAt, headerLength}
 use Rattle.store.specs.Limits.{maxCells, maxTotal, pageHours}
-use Rattle.store.specs.Fitting.{fitTests}
 use Rattle.store.specs.PageCode.{cells, pageBytes}
-use Rattle.store.specs.Reading.{cellsOf, chainIn, codeIn, hoursOf, pageIn, pagesOf, sumIn}
+use Rattle.store.specs.Shape.{shapeTests}
+use Rattle.store.specs.Reading.{chainIn, codeIn, pageIn, pagesOf, sumIn}
 
 -- a mark for each cell that a store may have, and one for 0, which is no cell
 abbrev pub marksLength : ℕ
@@ -66,10 +66,4 @@ ends-well broken f = false
 -- the header's fields, the length and the total
 unfoldable pub headTests : List ℕ → List Bool
 headTests s =
-    leb headerLength (length s)
-    ∷ same (part s 0 2) (1 ∷ 0 ∷ [])
-    ∷ same (part s 10 2) (0 ∷ 0 ∷ [])
-    ∷ fitTests s (pagesOf s) (cellsOf s)
-    ++ leb (hoursOf s) (pageHours * pagesOf s)
-    ∷ leb (sum (tabulate (pagesOf s) (sumIn s))) maxTotal
-    ∷ []
+    leb headerLength (length s) ∷ shapeTests s ++ leb (sum (tabulate (pagesOf s) (sumIn s))) maxTotal ∷ []

@@ -11,15 +11,16 @@ use lib.Seq.{length-sets}
 use lib.Dec.{eqb}
 use borrow.Author.Tests.{eqb-false, eqb-true, not-false, not-true}
 use Rattle.lists.specs.Lists.{part}
-use Rattle.bits.specs.Numbers.{numberAt}
 use Rattle.store.specs.PageCode.{pageRoom}
 use Rattle.store.specs.Layout.{cellAt, cellsFrom}
+use Rattle.store.specs.Reading.{chainIn, codeIn}
 use Rattle.store.specs.Code.Checked.{marksLength}
 use Rattle.sound_free.specs.Code.Free.{freeFits}
 use Rattle.soundness.specs.Code.Chains.{chainsFit}
 use Rattle.sound_head.proofs.HeadTest.{Bounds, bounds, headed}
-use Rattle.soundness.proofs.ChainTest.{SoFar, cell-broken, cell-next, cellsOn, gather-next, gather-start, page-next}
-use Rattle.soundness.proofs.ChainTest.{page-open, page-start, page-wrong, pages-end, pages-start, pagesOn}
+use Rattle.chains.proofs.Gathering.{SoFar, gather-next}
+use Rattle.soundness.proofs.ChainTest.{cell-broken, cell-next, cellsOn, gather-start, page-next, page-open, page-start, page-wrong, pages-end}
+use Rattle.soundness.proofs.ChainTest.{pages-start, pagesOn}
 use Rattle.sound_free.proofs.CellTest.{cell-range, good-cell, met-cell, no-cell}
 use borrow.Author.Needs.{needs}
 use Rattle.soundness.proofs.walk.chains_fit.Statement.{statement}
@@ -31,7 +32,8 @@ clash b p q = let z : _≡_ {A = ℕ} 0 1 = cc in omega arith
 abbrev Inv-loop : tie.InvT-loop
 Inv-loop s table pages cells hours base marks₀ code₀ ok₀ p entry sum k at₀ j₀ marks code ok at j =
     (j ≤ k) × (length marks ≡ marksLength) × (length code ≡ pageRoom) × (ok ≡ true) × (at + 2 ≤ length s)
-    × (chainsFit s ≡ cellsOn s pages cells hours p (k - j) marks at) × SoFar s pages p j (k - j) code (numberAt s at 2)
+    × (chainsFit s ≡ cellsOn s pages cells hours p (k - j) marks at)
+    × SoFar s (cellsFrom pages) (codeIn s (cellsFrom pages) (chainIn s pages p)) k j code at
 
 abbrev μ-loop : tie.MeasureT-loop
 μ-loop s table pages cells hours base marks₀ code₀ ok₀ p entry sum k at₀ j₀ marks code ok at j = k - j
@@ -61,7 +63,7 @@ known fine =
     (held (header-of fine), w .0, w .1, header-of fine .cells-from .ensures)
 
 of-requires : tie.Need-of-requires Inv-loop μ-loop Inv-pages μ-pages
-of-requires c κs = omega (arith, headed (c .before .args .s .now) (c .before .pre .0) .long)
+of-requires c κs = omega (arith, headed (c .before .args .s .now) (c .before .pre .0) .fitting .long)
 
 cells-from-requires : tie.Need-cells-from-requires Inv-loop μ-loop Inv-pages μ-pages
 cells-from-requires c κs = omega (arith, c .of .ensures .pages-small)
@@ -177,8 +179,7 @@ loop-again c =
       l .inv .3,
       omega arith,
       l .inv .5 ∙ cell-next _ _ _ _ p (l .marks) (k .result) (l .j) (d .ensures) (omega arith) at good,
-      gather-next _ _ (o .before .of .result .cells) (o .before .of .result .hours) p (l .marks) (k .result) (l .j) (d .ensures) (omega arith) at
-          (l .code) (b .last .0) room far (b .ensures) (l .inv .6),
+      gather-next s _ _ (k .result) (l .j) (d .ensures) (omega arith) at (l .code) (b .last .0) room far (b .ensures) (l .inv .6),
     )
 
 link-requires-2 : tie.Need-link-requires-2 Inv-loop μ-loop Inv-pages μ-pages

@@ -1,0 +1,5 @@
+-- Laws of the functions.
+pub mod WriteSteps
+pub mod Parts
+pub mod Written
+pub mod CallSteps

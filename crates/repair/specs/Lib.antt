@@ -1,0 +1,3 @@
+-- Definitions of the crate.
+pub mod Repair
+pub mod Clauses
