@@ -58,45 +58,6 @@ static int64_t must(int64_t answer)
 /* Stands in for the clock, in hours: it goes on while the board has no power. */
 static uint32_t now;
 
-/* Logs the hours that are over; 1 if all are logged.  A refused append has changed
- * nothing, and its coins go on waiting: the hour can be logged once the cause is
- * gone. */
-static int log_hours(void)
-{
-    int64_t answer = catch_up(now);
-    if (!hourlog_is_refused(answer)) {
-        return 1;
-    }
-    report("append", answer);
-    switch (hourlog_refusal(answer)) {
-    case HOURLOG_REFUSED_FULL:
-    case HOURLOG_REFUSED_CELLS:
-        puts("    -> save the log, and log this hour in a fresh store");
-        break;
-    case HOURLOG_REFUSED_TOTAL:
-        puts("    -> look at the coin counter: nobody pays that much");
-        break;
-    default: /* HOURLOG_REFUSED_UNSOUND, the only other one */
-        puts("    -> both copies are damaged: copy them away before a fresh start");
-        break;
-    }
-    return 0;
-}
-
-/* What the board does when power comes on.  (One in the field would copy both
- * copies away before a new log: they may be a damaged log and not the blank memory
- * of a first power-up.  The coin interrupt is let in at the end.) */
-static void switch_on(void)
-{
-    if (!power_up()) {
-        report("power-up, no log", hourlog_free(store(), STORE_LENGTH));
-        new_log(now);
-    }
-    report("power-up, hours logged", hourlog_hours(store()));
-    log_hours();
-    report("up to the clock, hours logged", hourlog_hours(store()));
-}
-
 /* On day 1 the clocks of this arcade were put back: it has 25 hours.  (Where the
  * laptop brings the list, it must survive power loss too: KEPT.) */
 static const uint32_t changes[] = {1, 25};
@@ -125,6 +86,88 @@ static struct moment moment_of(uint32_t hour)
         m.day++;
     }
     return m;
+}
+
+/* Names hours to the operator as the arcade's clock did. */
+static void tell_zero(uint32_t first, uint32_t last)
+{
+    struct moment from = moment_of(first), to = moment_of(last);
+    printf("    -> lost: hours %u to %u, from day %u, hour %u, to day %u, hour %u, now read 0\n",
+           (unsigned)first, (unsigned)last, (unsigned)from.day, (unsigned)from.of_day,
+           (unsigned)to.day, (unsigned)to.of_day);
+}
+
+/* Tells the operator which hours now read 0.  After a power-up too: what is lost is
+ * kept until it is told. */
+static void tell_lost(void)
+{
+    uint32_t hours = hourlog_hours(store()), pages = 0;
+    for (uint32_t page = 0; page < PAGES; page++) {
+        uint32_t first = page * HOURLOG_HOURS_A_PAGE, end = first + HOURLOG_HOURS_A_PAGE;
+        if (page_is_lost(page) && first < hours) {
+            tell_zero(first, (end < hours ? end : hours) - 1);
+        }
+        pages += (uint32_t)page_is_lost(page);
+    }
+    if (pages > 0) {
+        must(told());
+    }
+}
+
+/* Makes a log of what is left of two damaged copies; 0 if nothing is.  (One in the
+ * field would copy both away before: a laptop may make more of them.) */
+static int repaired(void)
+{
+    int64_t answer = repair_log();
+    report("repair, pages lost", answer);
+    if (hourlog_is_refused(answer)) {
+        return 0;
+    }
+    tell_lost();
+    return 1;
+}
+
+/* Logs the hours that are over; 1 if all are logged.  A refused append has changed
+ * nothing, and its coins go on waiting: the hour can be logged once the cause is
+ * gone. */
+static int log_hours(void)
+{
+    int64_t answer = catch_up(now);
+    if (!hourlog_is_refused(answer)) {
+        return 1;
+    }
+    report("append", answer);
+    switch (hourlog_refusal(answer)) {
+    case HOURLOG_REFUSED_FULL:
+    case HOURLOG_REFUSED_CELLS:
+        puts("    -> save the log, and log this hour in a fresh store");
+        break;
+    case HOURLOG_REFUSED_TOTAL:
+        puts("    -> look at the coin counter: nobody pays that much");
+        break;
+    default: /* HOURLOG_REFUSED_UNSOUND, the only other one */
+        puts("    -> both copies are damaged: copy them away, and repair");
+        return repaired() && log_hours();
+    }
+    return 0;
+}
+
+/* What the board does when power comes on: where there is no log, it may be a damaged
+ * one, or the blank memory of a first power-up, of which a repair makes nothing.
+ * (The coin interrupt is let in at the end.) */
+static void switch_on(void)
+{
+    if (power_up()) {
+        tell_lost();
+    } else {
+        report("power-up, no log", hourlog_free(store(), STORE_LENGTH));
+        if (!repaired()) {
+            new_log(now);
+        }
+    }
+    report("power-up, hours logged", hourlog_hours(store()));
+    log_hours();
+    report("up to the clock, hours logged", hourlog_hours(store()));
 }
 
 /* Stands in for the coin counter: shut at night, busiest in the evening. */
@@ -189,6 +232,18 @@ static void damaged_copy(void)
     kept.copies[kept.in_use & 1].store[8] ^= 1; /* the number of free cells */
     report("free cells, of the copy in use", hourlog_free(store(), STORE_LENGTH));
     report("log found, in the other copy", find_log());
+    report("hours logged", hourlog_hours(store()));
+    report("all coins", hourlog_total(store()));
+}
+
+/* Bits flip in both copies.  What is damaged in them is lost, and no more. */
+static void damaged_copies(void)
+{
+    report_cells("hour 100 set to 7", changed(hourlog_set(copy_of_store(), STORE_LENGTH, 100, 7)));
+    for (int k = 0; k < 2; k++) {
+        kept.copies[k].store[21] ^= 0x80; /* page 0's first cell */
+    }
+    log_hours();
     report("hours logged", hourlog_hours(store()));
     report("all coins", hourlog_total(store()));
 }
@@ -324,9 +379,7 @@ static void refusals_of_the_store(const char *path)
     save_and_start_over(path);
     now += 256; /* hours without coins need no cells: they fit until the log is full */
     log_hours();
-    kept.copies[0].store[8] ^= 1; /* the number of free cells */
-    kept.copies[1].store[8] ^= 1;
-    log_hours();
+    damaged_copies();
 }
 
 static void refusals_of_the_image(const char *path)

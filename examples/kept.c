@@ -26,9 +26,9 @@ static int is_sound(const struct copy *copy)
     return !hourlog_is_refused(hourlog_free(copy->store, STORE_LENGTH));
 }
 
-/* Makes the other copy the same as the log.  Few bytes differ, and no other is
- * written: memory that wears out lasts longer. */
-static void refresh(void)
+/* Copies the log over the other copy, to be changed there.  Few bytes differ, and no
+ * other is written: memory that wears out lasts longer. */
+static void copy_log(void)
 {
     const volatile uint8_t *const from = (const volatile uint8_t *)the_log();
     volatile uint8_t *const to = (volatile uint8_t *)the_other();
@@ -38,6 +38,12 @@ static void refresh(void)
             to[k] = from[k];
         }
     }
+}
+
+/* Makes the other copy the same as the log. */
+static void refresh(void)
+{
+    copy_log();
     kept.whole = 1;
 }
 
@@ -62,14 +68,15 @@ const uint8_t *store(void)
 }
 
 /* The log is looked at before, lest damage be copied over the last good one: that
- * takes about as long as the change.  Where there is none, both copies stay as they
- * are, and the change will be refused 10. */
+ * takes about as long as the change.  Where there is none, it is the damaged log
+ * itself, for the change will be refused 10; the other may be sound, and half a
+ * change. */
 uint8_t *copy_of_store(void)
 {
-    if (find_log()) {
-        refresh();
-        kept.whole = 0;
+    if (!find_log()) {
+        return the_log()->store;
     }
+    copy_log();
     return the_other()->store;
 }
 
@@ -84,6 +91,78 @@ int64_t changed(int64_t answer)
     }
     refresh();
     return answer;
+}
+
+/* ---- two damaged copies ------------------------------------------------------ */
+
+/* Whether a repair will not be refused 18.  It is asked here, for the repair is on a
+ * copy, and to make that costs the other one. */
+static int can_be_repaired(const struct copy *copy)
+{
+    const uint8_t *const header = copy->store;
+    return header[0] == HOURLOG_STORE_EDITION && header[1] == 0 && header[10] == 0 &&
+           header[11] == 0 && hourlog_pages(header) == PAGES &&
+           hourlog_cells(header) == CELLS &&
+           hourlog_hours(header) <= PAGES * HOURLOG_HOURS_A_PAGE;
+}
+
+/* Repairs a copy, and notes in it the pages that are lost. */
+static int64_t repair(struct copy *copy)
+{
+    static uint32_t listed[PAGES];
+    const int64_t answer = hourlog_repair(copy->store, STORE_LENGTH, listed, PAGES);
+    for (int64_t k = 0; k < answer; k++) {
+        volatile uint8_t *const eight = &copy->lost[listed[k] / 8];
+        *eight = (uint8_t)(*eight | 1u << listed[k] % 8);
+    }
+    return answer;
+}
+
+/* Both copies were tried, and neither is the log.  The writes in their order, and what
+ * a cut behind each leaves:
+ *   in_use, if the other alone can be repaired and is whole: two copies as before, of
+ *       one log, and no sound one;
+ *   whole, which becomes 0; the copy; its repair; the pages that it lost: the damaged
+ *       log, of which no byte is written, and beside it one that is not whole.  So
+ *       the next power-up finds no log, and does the same repair, to the same end;
+ *   in_use: the repaired log, with its lost pages, and the other not whole;
+ *   the copy, and whole: two repaired logs.  The next power-up does it too. */
+int64_t repair_log(void)
+{
+    if (find_log()) {
+        return 0;
+    }
+    if (kept.whole == 1 && !can_be_repaired(the_log()) && can_be_repaired(the_other())) {
+        kept.in_use ^= 1;
+    }
+    if (!can_be_repaired(the_log())) {
+        return -HOURLOG_REFUSED_REPAIR;
+    }
+    copy_log();
+    return changed(repair(the_other()));
+}
+
+int page_is_lost(uint32_t page)
+{
+    return the_log()->lost[page / 8] >> page % 8 & 1;
+}
+
+/* No page of a copy is lost any more, or none yet. */
+static void none_lost(struct copy *copy)
+{
+    for (size_t k = 0; k < sizeof copy->lost; k++) {
+        copy->lost[k] = 0;
+    }
+}
+
+int64_t told(void)
+{
+    if (!find_log()) {
+        return -HOURLOG_REFUSED_UNSOUND;
+    }
+    copy_log();
+    none_lost(the_other());
+    return changed(0);
 }
 
 /* ---- coins that wait -------------------------------------------------------- */
@@ -127,11 +206,13 @@ static void begin(uint32_t clock)
     }
 }
 
-void begin_hour(uint32_t clock)
+int begin_hour(uint32_t clock)
 {
-    if (find_log()) {
-        begin(clock);
+    if (!find_log()) {
+        return 0;
     }
+    begin(clock);
+    return 1;
 }
 
 /* The coins that wait for an append; 0 if the board slept through its hour. */
@@ -184,12 +265,14 @@ int power_up(void)
 static int64_t fresh(uint8_t *copy, uint32_t hour_0)
 {
     the_other()->hour_0 = hour_0;
+    none_lost(the_other());
     return hourlog_fresh(copy, STORE_LENGTH, PAGES, CELLS);
 }
 
 void new_log(uint32_t clock)
 {
     struct copy *const copy = the_other();
+    kept.whole = 0;
     for (int k = 0; k < 2; k++) {
         kept.waiting[k].append = 0;
         kept.waiting[k].coins = 0;

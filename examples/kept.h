@@ -35,6 +35,7 @@ struct copy {
     uint8_t store[STORE_LENGTH];
     volatile uint32_t next;   /* the number of its next append; the first was 1 */
     volatile uint32_t hour_0; /* when its hour 0 began, by the clock */
+    volatile uint8_t lost[(PAGES + 7) / 8]; /* a bit for each page: see page_is_lost */
 };
 
 /* The coins of an hour, which the append of this number logs.  (Not the hour's own
@@ -55,7 +56,8 @@ extern struct kept kept;
 
 /* At power-up, before the coin interrupt is let in: 1 if there is a log.  If not, the
  * board is new, or damaged: unless it is new, copy all that is kept away.  Then
- * new_log, which drops it.  Go on with catch_up, and let the interrupt in. */
+ * repair_log; and if that is refused, new_log, which drops it.  Tell of lost pages.
+ * Go on with catch_up, and let the interrupt in. */
 int power_up(void);
 void new_log(uint32_t clock);
 
@@ -64,8 +66,23 @@ void new_log(uint32_t clock);
 const uint8_t *store(void);
 int find_log(void);
 
-/* A change, of any kind: changed(hourlog_set(copy_of_store(), STORE_LENGTH, ..)).
- * The answer is handed on; if it is a refusal, the log is as it was. */
+/* Where there is no log: makes one of the damaged copy in use, with as many hours as
+ * it says.  Answers how many pages are lost.  Coins that wait go on waiting.  It
+ * takes the other copy's place, in which a page may be whole that is lost here: so
+ * copy both away before.  Refuses: 18, and both copies are as they were.
+ * It takes 4 bytes a page of other RAM, for the list. */
+int64_t repair_log(void);
+
+/* Whether a repair lost a page: its hours, from 64*page to 64*page + 63, now read 0 as
+ * far as they are logged.  It is kept until it is told, or a new log begins: tell the
+ * operator before the next hour is logged, and then call told, which answers as a
+ * change does. */
+int page_is_lost(uint32_t page);
+int64_t told(void);
+
+/* A change: changed(hourlog_set(copy_of_store(), STORE_LENGTH, ..)), and so for append,
+ * insert and strike.  The answer is handed on; if it is a refusal, the log is as it
+ * was. */
 uint8_t *copy_of_store(void);
 int64_t changed(int64_t answer);
 
@@ -73,8 +90,8 @@ int64_t changed(int64_t answer);
 void coins_fell(uint32_t n);
 
 /* At each full hour, or whenever it suits soon after: coins that fall from now on
- * are those of the hour that begins. */
-void begin_hour(uint32_t clock);
+ * are those of the hour that begins.  0 if there is no log: repair it first. */
+int begin_hour(uint32_t clock);
 
 /* Does so too, and logs all hours that are over: 0, or the refusal at which it
  * stopped.  The refused hour's coins go on waiting. */

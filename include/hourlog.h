@@ -17,9 +17,9 @@
  * call ever changes one that it is lent by a const pointer.
  *
  * A pointer must be good for the length given with it; with length 0 it is not
- * followed and may be NULL.  Bytes may lie at any address, counts and changes at
- * one that is good for a uint32_t.  The buffers of one call must not overlap; but
- * the two images of a merge may be the same bytes.
+ * followed and may be NULL.  Bytes may lie at any address, counts, changes and
+ * lost pages at one that is good for a uint32_t.  The buffers of one call must not
+ * overlap; but the two images of a merge may be the same bytes.
  *
  * A 64-bit value handed to a uint32_t parameter is cut to its low 32 bits by C,
  * before the library sees it: test it first (hourlog_image_reach and
@@ -68,7 +68,8 @@
  * more, by the coins of its page.  That is 13,000 to 27,000 for a change in a
  * store of 4 pages of which 3 have coins, and by that rule 2.5 to 5 million, a
  * fifth of a millisecond or more on a desktop, in one of 1,024.  An insert or
- * a strike costs as much again for each page from its hour on.  An image is
+ * a strike costs as much again for each page from its hour on.  A repair takes as
+ * long as a question to a sound store, twice as long at worst.  An image is
  * written and checked in time that grows with its hours; its count and reading
  * take the same few hundred instructions whatever its length, reach about twice
  * as many.  The busiest stretch, and a bag's match, take two to five times as
@@ -83,15 +84,22 @@
  *
  * examples/kept.c does what follows, and loses no coin wherever it is cut off:
  * start from it.
- * Two copies: a call is not atomic.  Cut off within fresh, append, set, insert
- * or strike, it may leave bytes that are not sound, or that are sound and hold
- * neither the old counts nor the new.  So keep two copies, and of your own a
+ * Two copies: a call is not atomic.  Cut off within fresh, append, set, insert,
+ * strike or repair, it may leave bytes that are not sound, or that are sound and
+ * hold neither the old counts nor the new.  So keep two copies, and of your own a
  * byte that says which is IN USE and one that says that the other is WHOLE,
  * which is to say the same.  For a change see that the copy in use is sound,
  * lest damage be copied over the last good log.  Let WHOLE be 0, copy the one
  * in use over the other and change that.  Unless it was refused, let it be the
  * one IN USE.  Copy this over the other, and let WHOLE be 1.  At power-up copy
  * so, too: the change may have been cut off.
+ * Two damaged copies: only where the one in use is not sound, and the other is
+ * not sound or not WHOLE, repair; and copy both away before, for the other may
+ * have pages that this one lost.  Let WHOLE be 0, copy the one in use over the
+ * other, repair that, note with it the pages that are listed, and let it be the
+ * one IN USE: then go on as behind a change.  Cut off before, the same bytes are
+ * repaired again.  If its header would be refused 18, leave both as they are; but
+ * if the other is WHOLE and its header would not, let that be IN USE first.
  * Coins: those that are not logged yet must survive as well, or the hour in
  * which power fails is logged without them.  Number the appends, and keep with
  * each copy the number of its next one.  Keep coins beside the number of the
@@ -125,7 +133,7 @@ extern "C" {
 /* Of this header.  MAJOR rises where a call takes or answers something else
  * than before, MINOR where something is added.  For #if: 1000*MAJOR + MINOR. */
 #define HOURLOG_VERSION_MAJOR 2
-#define HOURLOG_VERSION_MINOR 4
+#define HOURLOG_VERSION_MINOR 5
 #define HOURLOG_VERSION (1000 * HOURLOG_VERSION_MAJOR + HOURLOG_VERSION_MINOR)
 
 /* Of the bytes: what byte 0 of a store, and of an image, says.  An image of up
@@ -247,8 +255,9 @@ typedef uint64_t hourlog_size;
  *       an update of the firmware that changes P or C).  First try the other
  *       copy: it is the log if it is sound and you know it to be WHOLE (see WHEN
  *       POWER FAILS); sound alone it may be half a change.  Only where it is not,
- *       make a fresh store; and unless the board is new, copy both away before,
- *       for they may be a log that was damaged.
+ *       let hourlog_repair bring a copy of these bytes back to sound; unless the
+ *       board is new, copy both away before, for they may be a log that was
+ *       damaged.
  *   11, 12  The log takes no more, and the refused hour is NOT in it.  Save the
  *       log, by freeze or as it stands; make a fresh store, filled up to the
  *       hour of the day (see THE CLOCK); append the refused count to it.  At 12
@@ -261,6 +270,11 @@ typedef uint64_t hourlog_size;
  *   15  No old board could have held that hour: keep the image.
  *   16  The list of changes is not valid (see THE CLOCK): set it right.  The log
  *       is whole; with the empty list every day has 24 hours.
+ *   18  The header does not say what store this is, N is above 64*P, or the list
+ *       has not an entry for each page: see that len and n are right.  If they
+ *       are, the log is lost to the board: copy both copies away, for a laptop
+ *       may put the header right; make a fresh store, filled up to the hour of
+ *       the day (see THE CLOCK), and tell staff that it starts anew.
  */
 #define HOURLOG_REFUSED_PAGE_SIZE 1 /* e outside 2 to 8                        */
 #define HOURLOG_REFUSED_LIST 2      /* over 65,536 counts                      */
@@ -283,6 +297,8 @@ typedef uint64_t hourlog_size;
 #define HOURLOG_REFUSED_DIGITS 15   /* image to book: a count above 9999       */
 #define HOURLOG_REFUSED_CHANGES 16  /* day: the list of changes is wrong       */
 #define HOURLOG_REFUSED_BAG 17      /* match: a bag of no coins                */
+#define HOURLOG_REFUSED_REPAIR 18   /* repair: length or header of the store   */
+                                    /* wrong, or fewer than P entries          */
 
 /* 1 if the call was refused, else 0. */
 static inline int hourlog_is_refused(int64_t answer)
@@ -318,6 +334,7 @@ static inline const char *hourlog_refusal_text(int number)
     case HOURLOG_REFUSED_DIGITS: return "a count needs more than four digits";
     case HOURLOG_REFUSED_CHANGES: return "list of changed days is wrong";
     case HOURLOG_REFUSED_BAG: return "bag holds no coins";
+    case HOURLOG_REFUSED_REPAIR: return "store cannot be repaired";
     default: return "unknown refusal";
     }
 }
@@ -325,8 +342,8 @@ static inline const char *hourlog_refusal_text(int number)
 /* ---- the live store ---------------------------------------------------- */
 
 /*
- * Every store call but fresh first checks the whole store and refuses with 10
- * if it is not sound, or if len is not exactly its length.
+ * Every store call but fresh and repair first checks the whole store and refuses
+ * with 10 if it is not sound, or if len is not exactly its length.
  */
 
 /* Makes an empty store of P pages and C cells in a buffer of exactly
@@ -399,6 +416,34 @@ int64_t hourlog_free(const uint8_t *store, hourlog_size len);
 HOURLOG_MUST_USE
 int64_t hourlog_freeze(const uint8_t *store, hourlog_size len, uint32_t e,
                        uint8_t *image, hourlog_size image_len);
+
+/* Brings a store back to sound that the other calls refuse with 10.  A page is
+ * kept, page 0 first, if it is whole and runs over no cell of a page kept before
+ * it, its hours from N on are 0, and the total of the pages kept is within
+ * HOURLOG_TOTAL_MAX.  Each other page becomes zero, and its number is listed from
+ * the start of lost, the numbers rising; later entries are left unchanged.  All
+ * cells that no page keeps become free.  P, C and N stay.
+ * Answers how many pages are listed: 0 of a sound store, which keeps every count.
+ * n is the entries that lost has, P at least: HOURLOG_PAGES_MAX always suffice.
+ *
+ * Of a page p that is listed, the hours from 64*p to 64*p + 63, as far as they
+ * are below N, now read 0; none, if 64*p is N or above.  Tell staff which, by day
+ * and hour: take from h the hours of day 0, of day 1 and so on, each 24 or what
+ * the list of changes says, so that the days are those of hourlog_day.  Coins that
+ * fell in them are no longer in the log; a count that staff know can be set.  The
+ * log goes on; but freeze it first, so that what is left is safe.
+ *
+ * Repair only once both copies have been tried (see refusal 10), and a COPY of
+ * the bytes: what it clears is gone, and a laptop may make more of what was there.
+ * What it keeps is whole, which is not to say true: damage can leave a page whole
+ * with other counts, and that it does not see.  Nor does it see a wrong N: one too
+ * low costs each page with coins from there on, one too high makes hours of 0.  So
+ * hold N against the clock, in the bytes that were copied away too, before the
+ * next append.
+ * Refuses: 18 (len is not what P and C ask for; byte 0, byte 1, bytes 10 and 11, P,
+ * C or N are not those of a store; n is less than P), and never 10. */
+HOURLOG_MUST_USE
+int64_t hourlog_repair(uint8_t *store, hourlog_size len, uint32_t *lost, hourlog_size n);
 
 /* Cells taken, and cells given back, by an accepted append, set, insert or
  * strike. */

@@ -25,6 +25,7 @@ extern "C" {
         image: *mut u8,
         image_len: usize,
     ) -> i64;
+    pub fn hourlog_repair(store: *mut u8, len: usize, lost: *mut u32, n: usize) -> i64;
     pub fn hourlog_image_length(counts: *const u32, n: usize, e: u32) -> i64;
     pub fn hourlog_image_write(
         counts: *const u32,

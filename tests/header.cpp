@@ -1,7 +1,7 @@
 // The header as C++ sees it: it compiles, its constants are constants, its names
 // link without C++'s mangling, its numbers and texts are those of header_words.h, and what
-// it says of lengths, cells, NULL, the bytes of a store and those that a change writes is so
-// of the library. The stores and the wide image that docs/FORMAT.md works out are so too.
+// it says of lengths, cells, NULL, the bytes of a store, those that a change writes and what a
+// repair keeps is so of the library. The stores and the wide image that docs/FORMAT.md works out are so too.
 #include "header_words.h"
 
 #include <algorithm>
@@ -251,6 +251,48 @@ static void bytes_of_a_change()
     assert(hourlog_append(one.data(), one.size(), HOURLOG_TOTAL_MAX) == 8 && bytes_changed(none, one, 0) == 270);
 }
 
+// A store of three full pages of which the middle one is damaged: it alone is listed and reads 0, N stays, and the log goes on. A sound
+// store keeps its counts, and has its free chain sorted.
+static void repaired_store()
+{
+    std::vector<uint8_t> store = filled(3, 9, [](uint32_t hour) { return hour % 3; });
+    const std::vector<uint8_t> sound = store;
+    std::vector<uint32_t> lost(HOURLOG_PAGES_MAX, 77);
+    const std::vector<uint32_t> unwritten = lost;
+    const auto repair = [&](uint64_t n) { return hourlog_repair(store.data(), store.size(), lost.data(), n); };
+    assert(repair(3) == 0 && store == sound && lost == unwritten);
+    store[22] ^= 0x80;
+    assert(hourlog_free(store.data(), store.size()) == -HOURLOG_REFUSED_UNSOUND);
+    assert(repair(lost.size()) == 1 && lost[0] == 1);
+    assert(std::vector<uint32_t>(lost.begin() + 1, lost.end()) == std::vector<uint32_t>(lost.size() - 1, 77));
+    assert(hourlog_hours(store.data()) == 192 && hourlog_free(store.data(), store.size()) == 7);
+    for (uint32_t hour = 0; hour < 192; hour++) {
+        assert(hourlog_count(store.data(), store.size(), hour) == (hour / 64 == 1 ? 0 : hour % 3));
+    }
+    assert(hourlog_taken(hourlog_set(store.data(), store.size(), 64, 5)) == 1 && chain(store, 26) == std::vector<uint32_t>{2});
+    assert(hourlog_returned(hourlog_set(store.data(), store.size(), 64, 0)) == 1 && repair(3) == 0);
+    assert(chain(store, 6) == (std::vector<uint32_t>{2, 4, 5, 6, 7, 8, 9}));
+}
+
+// Each cause of 18 alone, of a store that repair takes; nothing changes.
+static void not_repaired()
+{
+    const std::vector<uint8_t> sound = filled(3, 9, [](uint32_t) { return 1u; });
+    std::vector<uint32_t> lost(3, 77);
+    for (const auto &wrong : {std::make_pair(0, 2), {1, 1}, {2, 2}, {3, 1}, {4, 8}, {5, 1}, {10, 1}, {11, 1}, {12, 193}, {13, 1}, {14, 1}, {15, 1}}) {
+        std::vector<uint8_t> store = sound;
+        store[static_cast<size_t>(wrong.first)] = static_cast<uint8_t>(wrong.second);
+        const std::vector<uint8_t> before = store;
+        assert(hourlog_repair(store.data(), store.size(), lost.data(), 3) == -HOURLOG_REFUSED_REPAIR && store == before);
+    }
+    std::vector<uint8_t> store = sound;
+    store.push_back(0);
+    assert(hourlog_repair(store.data(), store.size(), lost.data(), 3) == -HOURLOG_REFUSED_REPAIR);
+    assert(hourlog_repair(store.data(), store.size() - 2, lost.data(), 3) == -HOURLOG_REFUSED_REPAIR);
+    assert(hourlog_repair(store.data(), store.size() - 1, lost.data(), 2) == -HOURLOG_REFUSED_REPAIR);
+    assert(hourlog_repair(store.data(), store.size() - 1, lost.data(), 3) == 0 && lost == std::vector<uint32_t>(3, 77));
+}
+
 // docs/FORMAT.md's image of edition 2: e = 2, counts 4,294,967,295, 0, 2, 0, 5.
 static void worked_wide_image()
 {
@@ -373,6 +415,7 @@ static void null_with_length_0()
     assert(hourlog_reach(nullptr, 0, 0) == -HOURLOG_REFUSED_UNSOUND);
     assert(hourlog_day(nullptr, 0, 0, nullptr, 0) == -HOURLOG_REFUSED_UNSOUND);
     assert(hourlog_free(nullptr, 0) == -HOURLOG_REFUSED_UNSOUND);
+    assert(hourlog_repair(nullptr, 0, nullptr, 0) == -HOURLOG_REFUSED_REPAIR);
     assert(hourlog_image_check(nullptr, 0) == -HOURLOG_REFUSED_HEADER);
     assert(hourlog_image_count(nullptr, 0, 0) == -HOURLOG_REFUSED_HEADER);
     assert(hourlog_image_reading(nullptr, 0, 0) == -HOURLOG_REFUSED_HEADER);
@@ -386,6 +429,7 @@ static void null_with_length_0()
     std::vector<uint8_t> store(HOURLOG_STORE_LENGTH(1, 2));
     assert(hourlog_fresh(store.data(), store.size(), 1, 2) == 0);
     assert(hourlog_day(store.data(), store.size(), 0, nullptr, 0) == -HOURLOG_REFUSED_HOUR);
+    assert(hourlog_repair(store.data(), store.size(), nullptr, 0) == -HOURLOG_REFUSED_REPAIR);
     const std::vector<uint32_t> counts{1, 0, 2, 0, 5};
     for (uint32_t e = HOURLOG_E_MIN; e <= HOURLOG_E_MAX; e++) {
         std::vector<uint8_t> image(16);
@@ -420,6 +464,9 @@ static void lengths_above_32_bits()
     assert(hourlog_fresh(bytes, store, 1, 2) == 0 && hourlog_free(bytes, store) == 2);
     assert(hourlog_free(bytes, store + more) == -HOURLOG_REFUSED_UNSOUND);
     assert(hourlog_append(bytes, store + more, 1) == -HOURLOG_REFUSED_UNSOUND);
+    uint32_t *const lost = static_cast<uint32_t *>(memory) + 64;
+    assert(hourlog_repair(bytes, store + more, lost, 1) == -HOURLOG_REFUSED_REPAIR);
+    assert(hourlog_repair(bytes, store, lost, more) == 0);
     assert(hourlog_image_length(counts, more, 2) == -HOURLOG_REFUSED_LIST);
     assert(hourlog_image_write(counts, more, 2, nullptr, 0) == -HOURLOG_REFUSED_LIST);
     assert(hourlog_image_write(nullptr, 0, 2, bytes, 16 + more) == 16);
@@ -461,6 +508,8 @@ int main()
     worked_store();
     worked_chains();
     bytes_of_a_change();
+    repaired_store();
+    not_repaired();
     worked_wide_image();
     greatest_image();
     worked_book();

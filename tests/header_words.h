@@ -14,7 +14,7 @@
 
 static inline void limits(void)
 {
-    assert(HOURLOG_VERSION_MAJOR == 2 && HOURLOG_VERSION_MINOR == 4 && HOURLOG_VERSION == 2004);
+    assert(HOURLOG_VERSION_MAJOR == 2 && HOURLOG_VERSION_MINOR == 5 && HOURLOG_VERSION == 2005);
     assert(HOURLOG_STORE_EDITION == 1 && HOURLOG_IMAGE_EDITION == 1 && HOURLOG_IMAGE_EDITION_WIDE == 2);
     assert(HOURLOG_PAGES_MAX == 1024 && HOURLOG_CELLS_MAX == 1800);
     assert(HOURLOG_HOURS_A_PAGE == 64 && HOURLOG_CELLS_A_PAGE_MAX == 8);
@@ -106,6 +106,7 @@ static inline void refusals(void)
         {HOURLOG_REFUSED_DIGITS, "a count needs more than four digits"},
         {HOURLOG_REFUSED_CHANGES, "list of changed days is wrong"},
         {HOURLOG_REFUSED_BAG, "bag holds no coins"},
+        {HOURLOG_REFUSED_REPAIR, "store cannot be repaired"},
     };
     const int known = sizeof all / sizeof *all;
     for (int number = 0; number < known; number++) {

@@ -25,6 +25,7 @@ static uint32_t counts[HOURLOG_IMAGE_HOURS_MAX];
 static uint8_t image[HOURLOG_IMAGE_LENGTH_MAX(HOURLOG_IMAGE_HOURS_MAX, IMAGE_E)];
 static uint8_t door[HOURLOG_NARROW_LENGTH_MAX(HOURLOG_IMAGE_HOURS_MAX, IMAGE_E)];
 static uint8_t merged[HOURLOG_IMAGE_LENGTH_MAX(HOURLOG_IMAGE_HOURS_MAX, HOURLOG_E_MIN)];
+static uint32_t lost[HOURLOG_PAGES_MAX];
 static uint8_t book[HOURLOG_BOOK_LENGTH(HOURLOG_IMAGE_HOURS_MAX)];
 static size_t image_len, door_len;
 
@@ -46,6 +47,7 @@ static int64_t reach(void) { return hourlog_reach(STORE, 100); }
 static const uint32_t changes[] = {0, 25, 1, 23};
 static int64_t day(void) { return hourlog_day(STORE, 1, changes, 4); }
 static int64_t free_cells(void) { return hourlog_free(STORE); }
+static int64_t repair(void) { return hourlog_repair(STORE, lost, HOURLOG_PAGES_MAX); }
 static int64_t length(void) { return hourlog_image_length(LIST); }
 static int64_t write_image(void) { return hourlog_image_write(LIST, image, sizeof image); }
 static int64_t check(void) { return hourlog_image_check(IMAGE); }
@@ -94,6 +96,7 @@ static const struct measured of_store[] = {
     {"day", day, HOURLOG_STACK},
     {"free", free_cells, HOURLOG_STACK},
     {"freeze", freeze, HOURLOG_FREEZE_STACK},
+    {"repair", repair, HOURLOG_STACK},
     {"fresh", fresh, HOURLOG_STACK},
 };
 

@@ -75,7 +75,7 @@ struct lent {
     size_t length;
 };
 
-/* What the calls are lent; merge alone has a third one. */
+/* What the calls are lent; merge and repair alone have a third one. */
 static struct lent first, second, third;
 static unsigned calls;
 
@@ -197,6 +197,24 @@ static void fill(uint64_t length, uint32_t hours)
     say("appends", length, hours, 0, all);
 }
 
+/* Repairs of a store as it is now: with a list of an entry too few, with other
+ * lengths of both, with room for all pages, and once more.  The third buffer is the
+ * list, of which no more is written whatever its length is said to be; it takes the
+ * place of the second. */
+static void repair_calls(uint64_t length, uint32_t pages, unsigned round)
+{
+    third = lend(4 * pages, 1 - (int)(round % 2), 0);
+    uint32_t *lost = (uint32_t *)(void *)third.at;
+    uint64_t other = length_near(length);
+    uint64_t n = length_near(pages);
+    say("repair", length, pages - 1, 0, hourlog_repair(first.at, length, lost, pages - 1));
+    say("repair", other, pages, 1, hourlog_repair(first.at, other, lost, pages));
+    say("repair", length, (uint32_t)n, 2, hourlog_repair(first.at, length, lost, n));
+    say("repair", length, pages, 3, hourlog_repair(first.at, length, lost, pages));
+    say("free", length, 0, 1, hourlog_free(first.at, length));
+    third = lend(0, 0, 0);
+}
+
 static void store_round(unsigned round)
 {
     static uint8_t kept[HOURLOG_STORE_LENGTH(HOURLOG_PAGES_MAX, HOURLOG_CELLS_MAX)];
@@ -207,6 +225,7 @@ static void store_round(unsigned round)
     second = lend(HOURLOG_NARROW_LENGTH_MAX(64 * pages, 2) / (1 + round % 3), 1 - (int)(round % 2), round % 4);
 
     store_calls(length, 2); /* on bytes that are no store */
+    repair_calls(length, pages, round);
     uint32_t wrong = any();
     say("fresh", length, wrong, cells, hourlog_fresh(first.at, length, wrong, cells));
     say("fresh", length, pages, wrong, hourlog_fresh(first.at, length, pages, wrong));
@@ -227,6 +246,7 @@ static void store_round(unsigned round)
         }
         damage(first);
         store_calls(length, 4);
+        repair_calls(length, pages, round);
         for (size_t b = 0; b < length; b++) {
             first.at[b] = kept[b];
         }

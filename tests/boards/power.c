@@ -1,6 +1,7 @@
 /*
  * power.c - the log of examples/kept.c on a Cortex-M3 whose power fails: coins fall
- * by an interrupt, hours pass, staff set, insert and strike.
+ * by an interrupt, hours pass, staff set, insert and strike, copies are damaged and
+ * repaired.
  *
  * Power fails at the instruction that the host chose, by a timer whose interrupt
  * nothing here holds off.  All memory that survives then goes to the host, and comes
@@ -12,7 +13,7 @@
 
 #define EVENTS 400u
 
-enum { COINS, HOUR, SET, INSERT, STRIKE, OVER, FLIP, LOST, REFUSED };
+enum { COINS, HOUR, SET, INSERT, STRIKE, OVER, FLIP, RUIN, REPAIR, TOLD, LOST, REFUSED };
 
 static struct {
     uint32_t cut_after; /* in ticks; 0 at the very first start, before the host has spoken */
@@ -88,6 +89,12 @@ static void event(uint32_t what, uint32_t a, uint32_t b)
     hold_coins(before);
 }
 
+static void fault(void)
+{
+    event(REFUSED, 0, 0);
+    cut();
+}
+
 static void done(int64_t answer)
 {
     if (hourlog_is_refused(answer)) {
@@ -112,7 +119,7 @@ static uint32_t coin_state;
 
 static void some_fall(void)
 {
-    if (world.events < EVENTS - 4) {
+    if (world.events < EVENTS - 12) {
         const uint32_t n = below(&coin_state, 8) ? 1 : below(&coin_state, 300);
         event(COINS, n, 0);
         coins_fell(n);
@@ -139,6 +146,41 @@ static void let_coins_in(void)
 /* ---- hours and staff ---------------------------------------------------------- */
 
 static uint32_t state;
+
+/* Tells the operator which pages are lost.  Every other time nobody is there. */
+static void tell(void)
+{
+    uint32_t pages = 0;
+    for (uint32_t page = 0; page < PAGES; page++) {
+        pages |= (uint32_t)page_is_lost(page) << page;
+    }
+    if (pages != 0 && below(&state, 2)) {
+        event(TOLD, pages, hourlog_hours(store()));
+        done(told());
+    }
+}
+
+/* A board without a log must not change one. */
+static int64_t change_nothing(void)
+{
+    return changed(hourlog_set(copy_of_store(), STORE_LENGTH, 0, 1));
+}
+
+/* Makes a log of what is left of one; where nothing is, a new board makes a new log. */
+static void repair(void)
+{
+    event(REPAIR, 0, 0);
+    int64_t answer = repair_log();
+    if (hourlog_is_refused(answer) && !world.is_new) {
+        event(LOST, (uint32_t)hourlog_refusal(answer), (uint32_t)hourlog_refusal(change_nothing()));
+        cut();
+    } else if (hourlog_is_refused(answer)) {
+        new_log(world.clock);
+        answer = 0;
+    }
+    done(answer);
+    tell();
+}
 
 /* Logs the hours that are over; where the log is full, in a new one. */
 static void log_hours(void)
@@ -176,7 +218,7 @@ static void up_to_the_clock(uint32_t more)
     event(HOUR, world.clock, 0);
     fall_within_appends = (int)below(&state, 2);
     if (!fall_within_appends) {
-        begin_hour(world.clock);
+        (void)begin_hour(world.clock);
         hold_coins(before);
     }
     log_hours();
@@ -186,14 +228,12 @@ static void up_to_the_clock(uint32_t more)
 
 static void switch_on(void)
 {
-    event(HOUR, world.clock, 0);
-    if (!power_up()) {
-        if (!world.is_new) {
-            event(LOST, 0, 0);
-            cut();
-        }
-        new_log(world.clock);
+    if (power_up()) {
+        tell();
+    } else {
+        repair();
     }
+    event(HOUR, world.clock, 0);
     log_hours();
 }
 
@@ -233,15 +273,38 @@ static void flip(uint32_t copy)
     }
 }
 
+/* A bit of a page's first cell flips in both copies, if they are the same and whole:
+ * the page is lost.  No call may go on with either before it is repaired. */
+static void ruin(uint32_t page)
+{
+    for (size_t k = 0; k < sizeof kept.copies[0]; k++) {
+        if (((uint8_t *)&kept.copies[0])[k] != ((uint8_t *)&kept.copies[1])[k]) {
+            return;
+        }
+    }
+    event(RUIN, page, 0);
+    for (int k = 0; k < 2; k++) {
+        ((volatile uint8_t *)kept.copies[k].store)[21 + 6 * page] ^= 0x80;
+    }
+    done(0);
+    if (begin_hour(world.clock + 1) || hourlog_refusal(catch_up(world.clock)) != HOURLOG_REFUSED_UNSOUND ||
+        hourlog_refusal(change_nothing()) != HOURLOG_REFUSED_UNSOUND) {
+        fault();
+    }
+    repair();
+}
+
 static void live(void)
 {
     switch_on();
     let_coins_in();
-    while (world.events < EVENTS - 8) {
+    while (world.events < EVENTS - 16) {
         for (volatile uint32_t turns = below(&state, 5000); turns > 0; turns = turns - 1) {
         }
         if (below(&state, 8) == 0) {
             flip(below(&state, 2));
+        } else if (below(&state, 32) == 0) {
+            ruin(below(&state, PAGES));
         }
         if (below(&state, 2)) {
             up_to_the_clock(1);
@@ -274,12 +337,6 @@ void reset(void)
     state = world.seed;
     coin_state = ~world.seed;
     live();
-}
-
-static void fault(void)
-{
-    event(REFUSED, 0, 0);
-    cut();
 }
 
 __attribute__((section(".vectors"), used)) static void *const vectors[16 + 9] = {

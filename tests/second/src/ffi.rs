@@ -20,6 +20,8 @@ use exported as c;
 pub enum Spoilt {
     Answer,
     Byte,
+    /// Of a list that is lent to be written.
+    Entry,
 }
 
 #[derive(Clone, Copy)]
@@ -29,7 +31,7 @@ pub struct Fault {
 }
 
 /// The number of refusals, and 0 for an answer.
-pub const OUTCOMES: usize = 18;
+pub const OUTCOMES: usize = 19;
 
 #[derive(Default)]
 pub struct Library {
@@ -84,6 +86,18 @@ impl Library {
         let call = |at: [*mut u8; 2]| unsafe { c::hourlog_freeze(at[0], len, e, at[1], room) };
         let word = self.lend(Function::Freeze, [store, &mut *image], call);
         self.done(Function::Freeze, image, word)
+    }
+
+    /// Store and list are both lent to be written.
+    pub fn repair(&mut self, store: &mut [u8], lost: &mut [u32]) -> i64 {
+        let (len, n) = (store.len(), lost.len());
+        let call = |at: [*mut u8; 2]| unsafe { c::hourlog_repair(at[0], len, at[1].cast(), n) };
+        let word = self.lend(Function::Repair, [&mut *store, bytes_of(lost)], call);
+        let written = match self.fault {
+            Some(fault) if fault.spoilt == Spoilt::Entry => bytes_of(lost),
+            _ => store,
+        };
+        self.done(Function::Repair, written, word)
     }
 
     pub fn image_length(&mut self, counts: &mut [u32], e: u32) -> i64 {
@@ -176,12 +190,12 @@ impl Library {
                 self.fault = None;
                 word ^ (1 << 62)
             }
-            (Spoilt::Byte, Some(last)) => {
+            (Spoilt::Byte | Spoilt::Entry, Some(last)) => {
                 self.fault = None;
                 *last ^= 1;
                 word
             }
-            (Spoilt::Byte, None) => word,
+            (Spoilt::Byte | Spoilt::Entry, None) => word,
         }
     }
 }

@@ -13,6 +13,7 @@ pub enum Function {
     Day,
     Free,
     Freeze,
+    Repair,
     ImageLength,
     ImageWrite,
     ImageCheck,
@@ -28,7 +29,7 @@ pub enum Function {
 
 impl Function {
     /// In the order of their declaration.
-    pub const ALL: [Function; 22] = [
+    pub const ALL: [Function; 23] = [
         Function::Fresh,
         Function::Append,
         Function::Set,
@@ -40,6 +41,7 @@ impl Function {
         Function::Day,
         Function::Free,
         Function::Freeze,
+        Function::Repair,
         Function::ImageLength,
         Function::ImageWrite,
         Function::ImageCheck,
@@ -71,6 +73,7 @@ impl Function {
             Function::Reach => &[8, 10],
             Function::Free => &[10],
             Function::Freeze => &[1, 4, 10],
+            Function::Repair => &[18],
             Function::ImageLength => &[1, 2, 3],
             Function::ImageWrite => &[1, 2, 3, 4],
             Function::ImageCheck => &[5, 6],

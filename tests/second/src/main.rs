@@ -31,6 +31,8 @@ mod plain;
 mod program;
 mod random;
 mod refusal;
+mod repair;
+mod repair_calls;
 mod reserve;
 mod run;
 mod run_calls;

@@ -40,7 +40,7 @@ pub fn play() -> bool {
 fn shorts_of(function: Function) -> Vec<Short> {
     let elements: &[usize] = match function {
         Function::Freeze | Function::ImageFromBook | Function::ImageToBook => &[1, 1],
-        Function::Day => &[1, 4],
+        Function::Day | Function::Repair => &[1, 4],
         Function::ImageLength => &[4],
         Function::ImageWrite => &[4, 1],
         Function::ImageMerge => &[1, 1, 1],
@@ -97,8 +97,9 @@ pub fn step(numbers: &[&str]) -> bool {
 }
 
 /// A call that reads or writes the first and the last byte of each buffer. The
-/// live calls do so by their soundness check, an image's queries by asking for
-/// its last hour or by the full check.
+/// live calls do so by their soundness check, repair by losing the one page and
+/// clearing both cells, an image's queries by asking for its last hour or by the
+/// full check.
 fn make(library: &mut Library, function: Function) -> i64 {
     let counts = COUNTS.map(u64::from);
     let mut image = image::image(&counts, E).expect("a good list");
@@ -120,6 +121,10 @@ fn make(library: &mut Library, function: Function) -> i64 {
         Function::Day => library.day(&mut store, 0, &[3, 23, 4, 25]),
         Function::Free => library.free(&mut store),
         Function::Freeze => library.freeze(&mut store, E, &mut image),
+        Function::Repair => {
+            store[16] = 0;
+            library.repair(&mut store, &mut [0])
+        }
         Function::ImageLength => library.image_length(&mut COUNTS.clone(), E),
         Function::ImageWrite => library.image_write(&mut COUNTS.clone(), E, &mut image),
         Function::ImageCheck => library.image_check(&mut image),

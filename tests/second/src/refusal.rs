@@ -19,6 +19,7 @@ pub enum Refusal {
     NoBookCount = 15,
     Changes = 16,
     EmptyBag = 17,
+    NotRepairable = 18,
 }
 
 pub type Answer<T> = Result<T, Refusal>;

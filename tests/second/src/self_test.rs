@@ -9,7 +9,7 @@ use crate::image_calls::allowed;
 use crate::refusal::Refusal;
 use crate::run::Run;
 use crate::suites::{self, Suite};
-use crate::{bag, book, busiest, days, forgotten, merge};
+use crate::{bag, book, busiest, days, forgotten, merge, repair};
 
 pub fn play() -> bool {
     check_latitude();
@@ -38,14 +38,20 @@ fn faults_of(suite: &Suite) -> Vec<Fault> {
     let called = |function: &Function| clean.library.calls_of(*function) > 0;
     let mut faults = Vec::new();
     for function in Function::all().filter(called) {
-        for spoilt in [Spoilt::Answer, Spoilt::Byte] {
-            // Length is lent no bytes.
-            if (function, spoilt) != (Function::ImageLength, Spoilt::Byte) {
-                faults.push(Fault { function, spoilt });
-            }
+        for &spoilt in spoilt_of(function) {
+            faults.push(Fault { function, spoilt });
         }
     }
     faults
+}
+
+/// Length is lent no bytes to write, and repair alone a list.
+fn spoilt_of(function: Function) -> &'static [Spoilt] {
+    match function {
+        Function::ImageLength => &[Spoilt::Answer],
+        Function::Repair => &[Spoilt::Answer, Spoilt::Byte, Spoilt::Entry],
+        _ => &[Spoilt::Answer, Spoilt::Byte],
+    }
 }
 
 fn notices(suite: &Suite, fault: Fault) -> bool {
@@ -62,6 +68,7 @@ fn check_requests() {
     forgotten::self_test();
     bag::self_test();
     merge::self_test();
+    repair::self_test();
 }
 
 /// Reach on an image that is not accepted has exactly document 01's latitude.

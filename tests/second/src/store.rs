@@ -16,7 +16,7 @@ pub struct Page {
 }
 
 impl Page {
-    fn empty() -> Page {
+    pub fn empty() -> Page {
         Page {
             counts: vec![0; HOURS_A_PAGE],
             chain: Vec::new(),

@@ -27,16 +27,16 @@ pub fn fits(bytes: usize, pages: u64, cells: u64) -> bool {
 }
 
 /// The numbers of a store's header, once its fixed bytes and limits are right.
-struct Header {
-    pages: usize,
-    cells: usize,
+pub struct Header {
+    pub pages: usize,
+    pub cells: usize,
     first_free: usize,
     free_cells: usize,
-    hours: usize,
+    pub hours: usize,
 }
 
 impl Header {
-    fn read(bytes: &[u8]) -> Option<Header> {
+    pub fn read(bytes: &[u8]) -> Option<Header> {
         if bytes.len() < HEADER {
             return None;
         }
@@ -82,7 +82,7 @@ impl Header {
 
     /// A page whose chain has the length that its sum asks for and whose code
     /// is exactly the code of the counts it says.
-    fn page(&self, bytes: &[u8], p: usize) -> Option<Page> {
+    pub fn page(&self, bytes: &[u8], p: usize) -> Option<Page> {
         let entry = &bytes[HEADER + ENTRY * p..][..ENTRY];
         let sum = number(&entry[..4]);
         let chain = self.chain(bytes, number(&entry[4..]) as usize)?;

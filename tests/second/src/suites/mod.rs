@@ -11,6 +11,7 @@ mod images;
 mod insert_strike;
 mod large;
 mod merges;
+mod repairs;
 mod sessions;
 mod store_damage;
 mod store_faults;
@@ -30,7 +31,7 @@ pub fn all() -> impl Iterator<Item = &'static Suite> {
 }
 
 /// The quick ones first.
-static ALL: [Suite; 17] = [
+static ALL: [Suite; 18] = [
     suite("document 01's examples", examples::play),
     suite("what more coins cost", coins::play),
     suite("named faults of images", image_faults::play),
@@ -44,6 +45,7 @@ static ALL: [Suite; 17] = [
     suite("days with a clock change", days::play),
     suite("insert and strike", insert_strike::play),
     suite("lists of calls on small stores", sessions::play),
+    suite("stores brought back to sound", repairs::play),
     suite("images", images::play),
     suite("damaged images", image_damage::play),
     suite("lists of calls on the largest stores", large::play),

@@ -25,7 +25,7 @@ pub fn play(run: &mut Run) -> Outcome {
 }
 
 /// A small sound store, its chains running through its cells in any order.
-fn small_store(random: &mut Random) -> Store {
+pub fn small_store(random: &mut Random) -> Store {
     loop {
         let pages = random.between(1, 4) as usize;
         let cells = random.between(1, 14) as usize;
@@ -98,7 +98,7 @@ fn each_bit_and_length(run: &mut Run, seed: u64) -> Result<(), String> {
 
 /// Where a store's links stand: the first free cell, each page's first cell,
 /// each cell's next cell.
-fn links(store: &Store) -> Vec<usize> {
+pub fn links(store: &Store) -> Vec<usize> {
     let pages = store.pages.len();
     let firsts = (0..pages).map(|p| 16 + 6 * p + 4);
     let nexts = (0..store.cells).map(|cell| length(pages, cell));
@@ -162,7 +162,7 @@ fn damaged_largest(run: &mut Run, seed: u64) -> Result<(), String> {
     compare_all(&mut run.library, &bytes, &calls)
 }
 
-fn damage(store: &Store, bytes: &mut [u8], random: &mut Random) {
+pub fn damage(store: &Store, bytes: &mut [u8], random: &mut Random) {
     let any = random.below(bytes.len() as u64) as usize;
     let links = links(store);
     let (one, other) = (random.pick(&links), random.pick(&links));

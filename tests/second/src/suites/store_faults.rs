@@ -14,19 +14,19 @@ use crate::store_calls::{compare, same_word, Call};
 
 const FIRST_SEED: u64 = 5_000_000;
 const STORES: u64 = 40;
-const PAGES: usize = 4;
-const CELLS: usize = 24;
-const HOURS: usize = 140;
+pub const PAGES: usize = 4;
+pub const CELLS: usize = 24;
+pub const HOURS: usize = 140;
 
 /// A fault: what it is, and how it comes into a sound store.
-type Fault = (&'static str, fn(&mut Sample));
+pub type Fault = (&'static str, fn(&mut Sample));
 
 /// A sound store of known shape and its bytes, in which a fault is made.
 /// Page 0 has three cells or more, page 1 two, page 2 one hour with coins,
 /// page 3 none; four or more cells are free.
-struct Sample {
-    store: Store,
-    bytes: Vec<u8>,
+pub struct Sample {
+    pub store: Store,
+    pub bytes: Vec<u8>,
 }
 
 pub fn play(run: &mut Run) -> Outcome {
@@ -154,7 +154,7 @@ const STILL_SOUND: [Fault; 3] = [
 ];
 
 impl Sample {
-    fn new(seed: u64) -> Sample {
+    pub fn new(seed: u64) -> Sample {
         let mut random = Random::new(seed);
         let mut list = vec![0; HOURS];
         list[random.below(64) as usize] = random.between(70_000, 90_000);
@@ -170,16 +170,16 @@ impl Sample {
         Sample::of(store.expect("a cell for each page suffices"))
     }
 
-    fn of(store: Store) -> Sample {
+    pub fn of(store: Store) -> Sample {
         let bytes = store.bytes();
         Sample { store, bytes }
     }
 
-    fn chain(&self, page: usize) -> &[usize] {
+    pub fn chain(&self, page: usize) -> &[usize] {
         &self.store.pages[page].chain
     }
 
-    fn last(&self, page: usize) -> usize {
+    pub fn last(&self, page: usize) -> usize {
         *self.chain(page).last().expect("the page has cells")
     }
 
@@ -188,22 +188,28 @@ impl Sample {
     }
 
     /// Where a cell stands.
-    fn cell(&self, number: usize) -> usize {
+    pub fn cell(&self, number: usize) -> usize {
         length(self.store.pages.len(), number - 1)
     }
 
     /// Puts a number of two bytes.
-    fn put(&mut self, at: usize, value: usize) {
+    pub fn put(&mut self, at: usize, value: usize) {
         let value = u16::try_from(value).expect("two bytes hold it");
         self.bytes[at..at + 2].copy_from_slice(&value.to_le_bytes());
     }
 
-    fn link(&mut self, from: usize, to: usize) {
+    pub fn link(&mut self, from: usize, to: usize) {
         self.put(self.cell(from), to);
     }
 
+    /// Gives a page the entry of another one: its sum and its chain.
+    pub fn same_entry(&mut self, from: usize, to: usize) {
+        let [from, to] = [from, to].map(|page| 16 + 6 * page);
+        self.bytes.copy_within(from..from + 6, to);
+    }
+
     /// Turns a bit of a cell's code.
-    fn turn(&mut self, cell: usize, bit: usize) {
+    pub fn turn(&mut self, cell: usize, bit: usize) {
         let code = self.cell(cell) + 2;
         turn(&mut self.bytes, 8 * code + bit);
     }
@@ -278,7 +284,7 @@ fn fault_of_the_largest(library: &mut Library, (_, make): &Fault) -> Result<(), 
 }
 
 /// Stores that would be sound but for a P or C outside its limits.
-fn wrong_sizes() -> Vec<(&'static str, Vec<u8>)> {
+pub fn wrong_sizes() -> Vec<(&'static str, Vec<u8>)> {
     let sized = |pages, cells| Store::fresh(pages, cells).bytes();
     vec![
         ("no pages", sized(0, 3)),
