@@ -2,7 +2,7 @@
 //! through pointers, so that none can be inlined into the timing loop: the
 //! library cannot be.
 
-use rival::{books, image, merge, moves, runs, store, Code, Fast, Straightforward};
+use rival::{books, image, merge, moves, repair, runs, store, Code, Fast, Straightforward};
 
 // Not every call is measured.
 #[allow(dead_code)]
@@ -26,6 +26,8 @@ pub struct Contender {
     pub from_book: fn(&[u8], u32, &mut [u8]) -> i64,
     pub to_book: fn(&[u8], &mut [u8]) -> i64,
     pub merge: fn(&[u8], &[u8], u32, &mut [u8]) -> i64,
+    pub free: fn(&[u8]) -> i64,
+    pub repair: fn(&mut [u8], &mut [u32]) -> i64,
     pub insert: fn(&mut [u8], u32, u32) -> i64,
     pub strike: fn(&mut [u8], u32) -> i64,
 }
@@ -63,6 +65,8 @@ fn rival<C: Code>(name: &'static str) -> Contender {
         from_book: books::to_image::<C>,
         to_book: books::from_image::<C>,
         merge: merge::merge::<C>,
+        free: store::free::<C>,
+        repair: repair::repair::<C>,
         insert: moves::insert::<C>,
         strike: moves::strike::<C>,
     }
@@ -106,6 +110,11 @@ fn library() -> Contender {
         merge: |a, b, e, out| unsafe {
             let (image, room) = (out.as_mut_ptr(), out.len());
             c::hourlog_image_merge(a.as_ptr(), a.len(), b.as_ptr(), b.len(), e, image, room)
+        },
+        free: |store| unsafe { c::hourlog_free(store.as_ptr(), store.len()) },
+        repair: |store, lost| unsafe {
+            let (list, n) = (lost.as_mut_ptr(), lost.len());
+            c::hourlog_repair(store.as_mut_ptr(), store.len(), list, n)
         },
         insert: |store, hour, count| unsafe {
             c::hourlog_insert(store.as_mut_ptr(), store.len(), hour, count)

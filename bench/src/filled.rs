@@ -1,4 +1,5 @@
-//! A store that is filled at once: by appends it would take a minute.
+//! A store that is filled at once: by appends it would take a minute; and stores to
+//! repair.
 
 use crate::data::Random;
 use rival::{store, Code, Straightforward};
@@ -26,6 +27,28 @@ pub fn filled(pages: usize, left: usize, seed: u64) -> Vec<u8> {
     put(&mut bytes, 8, (cells + 1 - next) as u64, 2);
     put(&mut bytes, 12, (PAGE * pages - left) as u64, 4);
     assert!(store::free::<Straightforward>(&bytes) > 0, "a sound store");
+    bytes
+}
+
+/// The header of such a store, and noise behind it.
+pub fn noise(pages: usize, seed: u64) -> Vec<u8> {
+    let mut bytes = filled(pages, 0, seed);
+    let mut random = Random::new(77 + seed);
+    bytes[16..].fill_with(|| random.below(256) as u8);
+    bytes
+}
+
+/// A page of eight cells, and the entry of every other page like its own; but no
+/// hour is logged.
+pub fn one_chain(pages: usize, seed: u64) -> Vec<u8> {
+    let mut bytes = filled(pages, 0, seed);
+    let mut random = Random::new(78 + seed);
+    let counts = [(); PAGE].map(|()| 60_000_000 + random.below(1_000) as u32);
+    assert_eq!(fill_page(&mut bytes, pages, 0, &counts, 1), 9);
+    for page in 1..pages {
+        bytes.copy_within(16..22, 16 + 6 * page);
+    }
+    put(&mut bytes, 12, 0, 4);
     bytes
 }
 

@@ -2,7 +2,7 @@
 
 use crate::contender::Contender;
 use crate::data::{counts, in_order, questions, Kind, INPUTS};
-use crate::filled::filled;
+use crate::filled::{filled, noise, one_chain};
 
 const E: u32 = 6;
 const QUESTIONS: usize = 8_192;
@@ -293,6 +293,38 @@ pub fn moves(pages: usize) -> Vec<Task> {
             work: Box::new(|by, bytes| (by.strike)(bytes, 0)),
         }),
     ]
+}
+
+/// Repairs of a sound store, of noise behind a header that is right, and of the
+/// worst there is: all pages over one chain of eight cells, which is whole, so that
+/// each is judged to the last clause, and none is kept.
+pub fn repairs(pages: usize) -> Vec<Task> {
+    let repair = |name, start: fn(usize, u64) -> Vec<u8>| {
+        let task = over_stores(name, 1, |seed| repairing(start(pages, seed)));
+        task.beside("soundness check")
+    };
+    vec![
+        over_stores("soundness check", 1, |seed| Input {
+            start: filled(pages, 0, seed),
+            work: Box::new(|by, bytes| (by.free)(bytes)),
+        }),
+        repair("repair, sound store", |pages, seed| filled(pages, 0, seed)),
+        repair("repair, noise", noise),
+        repair("repair, one chain", one_chain),
+    ]
+}
+
+/// The numbers of the pages that are listed are part of the answer.
+fn repairing(start: Vec<u8>) -> Input {
+    Input {
+        start,
+        work: Box::new(|by, bytes| {
+            let mut lost = [0; 1_024];
+            let answer = (by.repair)(bytes, &mut lost);
+            let listed: u64 = lost.iter().map(|&page| u64::from(page)).sum();
+            answer + 2_048 * listed as i64
+        }),
+    }
 }
 
 fn over_stores(name: &'static str, calls: usize, input: impl Fn(u64) -> Input) -> Task {

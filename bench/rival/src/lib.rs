@@ -20,6 +20,7 @@ pub mod image;
 pub mod merge;
 pub mod moves;
 mod refused;
+pub mod repair;
 pub mod runs;
 mod sound;
 pub mod store;

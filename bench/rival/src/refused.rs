@@ -16,6 +16,7 @@ pub const STRETCH: i64 = -13;
 pub const NOT_DECIMAL: i64 = -14;
 pub const NO_BOOK_COUNT: i64 = -15;
 pub const EMPTY_BAG: i64 = -17;
+pub const NOT_REPAIRABLE: i64 = -18;
 
 /// The word of a call that may be refused on its way.
 pub fn word(answer: Result<i64, i64>) -> i64 {

@@ -5,13 +5,13 @@ use crate::fields::{all_zero, four, two};
 use crate::refused::UNSOUND;
 
 pub const MOST_PAGES: usize = 1_024;
-const MOST_CELLS: usize = 1_800;
+pub const MOST_CELLS: usize = 1_800;
 pub const MOST_TOTAL: u64 = 4_294_967_295;
 pub const PAGE: usize = 64;
 pub const HEIGHT: u32 = 6;
 
 const HEADER: usize = 16;
-const ENTRY: usize = 6;
+pub const ENTRY: usize = 6;
 pub const CELL: usize = 32;
 pub const CELL_CODE: usize = 30;
 /// Eight cells hold the code of any page.
@@ -33,7 +33,7 @@ pub fn cells_of<C: Code>(sum: u64) -> usize {
 #[derive(Clone, Copy)]
 pub struct Layout {
     pub pages: usize,
-    cells: usize,
+    pub cells: usize,
 }
 
 impl Layout {
@@ -88,7 +88,7 @@ pub fn sound<C: Code>(bytes: &[u8]) -> Result<Sound, i64> {
     })
 }
 
-fn header(bytes: &[u8]) -> Option<Layout> {
+pub fn header(bytes: &[u8]) -> Option<Layout> {
     if bytes.len() < HEADER || bytes[..2] != [1, 0] || bytes[10..12] != [0, 0] {
         return None;
     }
@@ -130,7 +130,7 @@ fn gather<C: Code>(
 }
 
 #[inline(always)]
-fn is_exact<C: Code>(code: &[u8; PAGE_CODE], sum: u64) -> bool {
+pub fn is_exact<C: Code>(code: &[u8; PAGE_CODE], sum: u64) -> bool {
     let used = C::reserve(HEIGHT, sum);
     let end = 8 * CELL_CODE * cells_of::<C>(sum);
     all_zero(code, used, end) && C::is_exact(code, 0, HEIGHT, sum)
@@ -138,7 +138,7 @@ fn is_exact<C: Code>(code: &[u8; PAGE_CODE], sum: u64) -> bool {
 
 /// Hours from N on are zero: all that a page has comes before.
 #[inline(always)]
-fn rest_is_zero<C: Code>(code: &[u8; PAGE_CODE], sum: u64, page: usize, hours: usize) -> bool {
+pub fn rest_is_zero<C: Code>(code: &[u8; PAGE_CODE], sum: u64, page: usize, hours: usize) -> bool {
     match hours.saturating_sub(PAGE * page) {
         0 => sum == 0,
         logged if logged >= PAGE => true,
