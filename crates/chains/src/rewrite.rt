@@ -9,7 +9,7 @@ use store::header::entry_at;
 use store::link::link;
 
 // A page that changes: its number, the cells that it has, those that it is to have, and its new sum.
-#[derive(Drop)]
+#[derive(Clone, Copy)]
 pub struct PageChange {
     pub page: usize,
     pub old: usize,

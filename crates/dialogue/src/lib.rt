@@ -10,7 +10,7 @@ use session_input::Gathered;
 
 // Where a session stands: how many bytes of the store's buffer are the store, how many bytes are held of the line that is begun, and how
 // many bytes of the output are to be written.
-#[derive(Drop)]
+#[derive(Clone, Copy)]
 pub struct Standing {
     pub used: usize,
     pub held: usize,

@@ -8,7 +8,7 @@ use bits::numbers::get4;
 
 // The header's fields e, N, S and L; how many pages there are, at which byte the table of their start bits stands, and where the code starts
 // among the bits of all the bytes.
-#[derive(Drop)]
+#[derive(Clone, Copy)]
 pub struct Head {
     pub e: u32,
     pub hours: u64,
@@ -35,7 +35,7 @@ impl Head {
 }
 
 // What bytes are by their header and length: an image, or refused 5.
-#[derive(Drop)]
+#[derive(Clone, Copy)]
 pub enum Opening {
     Image(Head),
     Wrong,
@@ -89,7 +89,7 @@ pub fn header_size(wide: bool) -> usize
 
 // What stands behind N in the header, where the editions differ: S, L, and the byte where the header ends and the table starts. Where it is
 // wrong, ok is false and the rest says nothing.
-#[derive(Drop)]
+#[derive(Clone, Copy)]
 struct Tail {
     ok: bool,
     total: u64,

@@ -8,7 +8,7 @@ use crate::head::{Head, table_at};
 use bits::numbers::get4;
 
 // A root that was read: its number, and where it ends in the code. Where it passes L, ok is false and the rest says nothing.
-#[derive(Drop)]
+#[derive(Clone, Copy)]
 pub struct Root {
     pub ok: bool,
     pub value: u64,
@@ -55,7 +55,7 @@ pub fn root_before(s: &[u8], h: Head, p: u64) -> Root
 
 // A page without damage in its roots, whose tree does not pass L: the root before it, its sum, and where its tree starts among the bits of
 // all the bytes. For another page ok is false and the rest says nothing.
-#[derive(Drop)]
+#[derive(Clone, Copy)]
 pub struct Page {
     pub ok: bool,
     pub before: u64,

@@ -15,7 +15,7 @@ use image_query::look;
 use lists::smaller;
 
 // A window on its way: its first hour and its sum; and the best of the windows so far, its first hour and its sum.
-#[derive(Drop)]
+#[derive(Clone, Copy)]
 pub struct Window {
     pub first: u64,
     pub sum: u64,

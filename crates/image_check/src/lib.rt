@@ -81,7 +81,7 @@ pub fn passes(s: &[u8], h: Head, widest: u64) -> bool
 }
 
 // The header of an image that the check accepts, or the number of the check's refusal.
-#[derive(Drop)]
+#[derive(Clone, Copy)]
 pub enum Access {
     Image(Head),
     Refused(u32),

@@ -8,7 +8,7 @@ use image::page::root_of;
 
 // Pages among which a figure is reached, lo to hi, with the root before the first and the root of the last. Where damage was met, ok is
 // false and the rest says nothing.
-#[derive(Drop)]
+#[derive(Clone, Copy)]
 pub struct Span {
     pub ok: bool,
     pub lo: u64,

@@ -8,7 +8,7 @@ use answers::refusal;
 use image::head::{Head, header_size, pages_of, size_of};
 
 // A plan of an image of pages of 2^e counts: how many counts and pages it has; of the first done pages the total, and the bits of the trees.
-#[derive(Drop)]
+#[derive(Clone, Copy)]
 pub struct Plan {
     pub e: u32,
     pub hours: u64,
@@ -19,7 +19,7 @@ pub struct Plan {
 }
 
 // A plan before its first page, or the number of a refusal.
-#[derive(Drop)]
+#[derive(Clone, Copy)]
 pub enum Started {
     Open(Plan),
     Refused(u32),
@@ -66,7 +66,7 @@ pub fn add_page(plan: Plan, sum: u64) -> Plan
 
 // An image of pages of 2^e counts: how many counts and pages it has, the total, at which byte the table of start bits stands, where the code
 // starts among the bits of all the bytes, and its bits.
-#[derive(Drop)]
+#[derive(Clone, Copy)]
 pub struct Layout {
     pub e: u32,
     pub hours: u64,
@@ -78,7 +78,7 @@ pub struct Layout {
 }
 
 // A layout, or the number of a refusal.
-#[derive(Drop)]
+#[derive(Clone, Copy)]
 pub enum Planned {
     Image(Layout),
     Refused(u32),

@@ -60,7 +60,7 @@ fn put_header(out: &mut [u8], r: Layout)
 }
 
 // The place of the next page: its number, where it starts in the code, and the sum of the counts before it.
-#[derive(Drop)]
+#[derive(Clone, Copy)]
 pub struct Place {
     pub page: usize,
     pub start: usize,

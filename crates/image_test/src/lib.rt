@@ -10,7 +10,7 @@ use image::page::root_of;
 use tree_narrow::nodes;
 
 // A page that was tested: where its code ends, and its root. Where it fails, ok is false and the rest says nothing.
-#[derive(Drop)]
+#[derive(Clone, Copy)]
 pub struct Tested {
     pub ok: bool,
     pub end: u64,

@@ -17,7 +17,7 @@ use store::link::link;
 use store::total::total;
 
 // A page, and what of a figure is left when the pages before it are passed.
-#[derive(Drop)]
+#[derive(Clone, Copy)]
 struct Spot {
     page: usize,
     rest: u64,

@@ -14,7 +14,7 @@ use image_page::{counts_of, page_root};
 use sum_marks::marks::mark;
 
 // The page at the front: its first hour, how many it has and their sum, and the stamp of its marks.
-#[derive(Drop)]
+#[derive(Clone, Copy)]
 pub struct FrontPage {
     pub first: u64,
     pub hours: usize,

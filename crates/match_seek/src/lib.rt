@@ -22,14 +22,14 @@ use sum_marks::marks::{any_carries, carries};
 use sum_marks::prefix::{Prefix, attempt};
 
 // The first hour of the runs that are tried, and how many coins more than before the page at the front are wanted where one of them ends.
-#[derive(Drop)]
+#[derive(Clone, Copy)]
 pub struct Aim {
     pub lo: u64,
     pub want: u64,
 }
 
 // What the search in a page comes to: the run's first hour and its hours, or that more is wanted than the page has.
-#[derive(Drop)]
+#[derive(Clone, Copy)]
 pub enum PageSearch {
     Matched(u64, u64),
     Beyond(Aim),

@@ -11,7 +11,7 @@ use store::header::entry_at;
 
 // A page that moves: its number, whether an hour is struck or inserted, the index from which its counts move, the count that comes in, and
 // the cells that it has and is to have.
-#[derive(Drop)]
+#[derive(Clone, Copy)]
 pub struct PageMove {
     pub page: usize,
     pub strike: bool,

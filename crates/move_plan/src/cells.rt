@@ -9,7 +9,7 @@ use store::cells::cells_of;
 use store::header::entry_at;
 
 // The cells that the pages which move have, and those that they are to have.
-#[derive(Drop)]
+#[derive(Clone, Copy)]
 pub struct Cells {
     pub had: usize,
     pub asked: usize,

@@ -4,7 +4,7 @@ ghost use Rattle.store.specs.Limits.{page_hours};
 ghost use Rattle.move_plan.specs.Code.Plan.{comes_to, near as near_of};
 
 // Whether the hour is struck or inserted, its page, its index in it, the count that is inserted, and the page behind the last that moves.
-#[derive(Drop)]
+#[derive(Clone, Copy)]
 pub struct Shift {
     pub strike: bool,
     pub first: usize,

@@ -9,7 +9,7 @@ use store::header::{cells_from, entry_at};
 use store::link::link;
 
 // Where the store's cells start, a page's sum, and how many cells the page has: worked out once and handed down.
-#[derive(Drop)]
+#[derive(Clone, Copy)]
 pub struct Entry {
     pub base: usize,
     pub sum: u64,

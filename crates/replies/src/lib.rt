@@ -15,7 +15,7 @@ use session_print::Reply;
 use store::header::Header;
 
 // The reply, and how many of the buffer's bytes are the store.
-#[derive(Drop)]
+#[derive(Clone, Copy)]
 pub struct Response {
     pub used: usize,
     pub reply: Reply,

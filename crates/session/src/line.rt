@@ -6,7 +6,7 @@ ghost use Rattle.session.specs.declared.number.Numeral.TheVariants.{Value};
 
 use crate::number::{Numeral, number};
 
-#[derive(Drop)]
+#[derive(Clone, Copy)]
 pub enum Command {
     Fresh(u32, u32),
     Append(u32),

@@ -6,7 +6,7 @@ ghost use Rattle.session_input.specs.Lines.{Gathers, ends, whole_commands};
 use session::{Command, parse};
 
 // What is gathered: so many bytes of a line, or a whole line.
-#[derive(Drop)]
+#[derive(Clone, Copy)]
 pub enum Gathered {
     More(usize),
     Whole(Command),

@@ -3,7 +3,7 @@ ghost use Rattle.std.specs.Prelude.{◌≡◌, [], ◌∷◌, ◌++◌, ◌+◌,
 ghost use Rattle.lists.specs.Lists.{splice};
 ghost use Rattle.session_print.specs.Printed.{decimal, Prints};
 
-#[derive(Drop)]
+#[derive(Clone, Copy)]
 pub enum Reply {
     Number(u64),
     Done,

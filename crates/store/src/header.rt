@@ -3,7 +3,7 @@ ghost use Rattle.std.specs.Prelude.{◌≡◌, ◌≤◌, ◌<◌, length};
 ghost use Rattle.store.specs.Layout.{cell_at, cells_start, entry_at, fresh as fresh_model, header_length};
 ghost use Rattle.store.specs.Code.Head.{HeadFor, HeadOf};
 
-#[derive(Drop)]
+#[derive(Clone, Copy)]
 pub struct Header {
     pub pages: usize,
     pub cells: usize,

@@ -7,7 +7,7 @@ ghost use Rattle.sum_marks.specs.Code.Prefix.{PrefixOf, Tried};
 use crate::marks::carries;
 
 // How many of a page's first counts, and their sum.
-#[derive(Drop)]
+#[derive(Clone, Copy)]
 pub struct Prefix {
     pub hours: usize,
     pub sum: u64,

@@ -12,7 +12,7 @@ ghost use Rattle.sum_table.specs.Code.Sums.{Sums, quarters};
 use entries::SUMS;
 
 // Eight counts, two bits each: the first four in one byte, the other four in another.
-#[derive(Drop)]
+#[derive(Clone, Copy)]
 pub struct Few {
     pub left: u8,
     pub right: u8,

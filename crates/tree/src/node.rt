@@ -9,7 +9,7 @@ use bits_field::front;
 use reserve::{digits_of, reserve_of};
 
 // A node that was read. Where its left sum is above its sum, ok is false and the rest says nothing.
-#[derive(Drop)]
+#[derive(Clone, Copy)]
 pub struct Split {
     pub ok: bool,
     pub left: u64,

@@ -8,7 +8,7 @@ use bits_word::low_bits;
 use reserve::digits_of;
 
 // Four counts that were read. Where they are no list's code, ok is false and the rest says nothing.
-#[derive(Drop)]
+#[derive(Clone, Copy)]
 pub struct Four {
     pub ok: bool,
     pub first: u64,

@@ -15,7 +15,7 @@ use tree_lowest::{low_within, one_load, zero_bits};
 
 // A node that was read: its left sum, where its halves start, and how many bits each owns. Where the node is damaged, ok is false and the
 // rest says nothing.
-#[derive(Drop)]
+#[derive(Clone, Copy)]
 pub struct Halves {
     pub ok: bool,
     pub left: u64,

@@ -8,7 +8,7 @@ use lists::either;
 use reserve::digits_of;
 
 // One of the two pairs of four counts: its sum and its left count, and the sum of the pair that is passed on the way to it.
-#[derive(Drop)]
+#[derive(Clone, Copy)]
 pub struct Pair {
     pub sum: u64,
     pub count: u64,
