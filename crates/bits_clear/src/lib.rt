@@ -1,4 +1,6 @@
 // Bits made 0, many at a time.
+#![tactic(auto)]
+
 ghost use Rattle.std.specs.Prelude.{◌≡◌, ◌+◌, ◌*◌, ◌^◌, ◌≤◌, ◌<◌, length, replicate};
 ghost use Rattle.lists.specs.Lists.{splice};
 ghost use Rattle.bits.specs.Bits.{bits};

@@ -1,5 +1,7 @@
 // Fields of up to 57 bits at any bit address of a slice of bytes: bit 0 is the high bit of byte 0, a field's high bit comes first.
 // A field of 57 bits lies in 8 bytes wherever it starts, so one load or store of 8 bytes serves: slices here have 8 bytes or more.
+#![tactic(auto)]
+
 pub mod front;
 
 ghost use Rattle.std.specs.Prelude.{◌≡◌, ◌+◌, ◌*◌, ◌^◌, ◌≤◌, ◌<◌, length, take, drop};

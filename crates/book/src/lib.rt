@@ -1,4 +1,6 @@
 // Books in packed decimal: whether bytes are one, and the counts that they say.
+#![tactic(auto)]
+
 ghost use Rattle.std.specs.Prelude.{◌≡◌, ◌+◌, ◌*◌, ◌-◌, ◌≤◌, ◌<◌, min, max, eqb, length, get_or};
 ghost use Rattle.lists.specs.Lists.{splice, sum, window};
 ghost use Rattle.book.specs.Book.{decimal, decimal_byte, list_of_book, unpacked_byte};

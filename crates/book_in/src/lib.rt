@@ -1,5 +1,7 @@
 // The image of a book in packed decimal. The book's list stands nowhere as one: its pages of 2^e counts are handed to the writer of images
 // one after another.
+#![tactic(auto)]
+
 mod plan;
 mod put;
 

@@ -1,5 +1,7 @@
 // The book of an accepted image, in packed decimal. The image's list stands nowhere as one: the check itself sees whether four digits hold
 // each count; then a page at a time is unpacked, and its digits are put into the book.
+#![tactic(auto)]
+
 mod put;
 
 ghost use Rattle.std.specs.Prelude.{true, ◌≡◌};

@@ -1,4 +1,6 @@
 // Counts packed into the bytes of a book.
+#![tactic(auto)]
+
 ghost use Rattle.std.specs.Prelude.{true, [], ◌∷◌, ◌≡◌, ◌+◌, ◌*◌, ◌≤◌, ◌<◌, length, take};
 ghost use Rattle.lists.specs.Lists.{splice};
 ghost use Rattle.book.specs.Book.{book_of, four_digits, packed_byte};

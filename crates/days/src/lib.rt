@@ -1,4 +1,6 @@
 // Days with a clock change, document 02's note 4. A list names days and gives their hours, by turns; every other day has 24.
+#![tactic(auto)]
+
 ghost use Rattle.std.specs.Prelude.{true, ◌≡◌};
 ghost use Rattle.days.specs.Days.{changes_fit, day_hours, day_start, is_change_day};
 

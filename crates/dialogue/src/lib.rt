@@ -1,4 +1,6 @@
 // A session between a read and a write: a chunk of the input goes in, the lines to write come out.
+#![tactic(auto)]
+
 ghost use Rattle.std.specs.Prelude.{List, [], ◌∷◌, ◌≡◌, ℕ, ◌+◌, ◌*◌, ◌≤◌, length};
 ghost use Rattle.dialogue.specs.Dialogue.{start as first};
 ghost use Rattle.dialogue.specs.Feed.{Closes, Feeds, stand};

@@ -1,5 +1,7 @@
 // The frozen image of a live store's list. The list stands nowhere as one: its pages of 2^e counts are handed to the writer of images by
 // blocks of 256 hours, four pages of the store.
+#![tactic(auto)]
+
 ghost use Rattle.std.specs.Prelude.{true, ◌≡◌};
 ghost use Rattle.store.specs.Reading.{list_in};
 ghost use Rattle.store.specs.Sound.{sound};

@@ -1,6 +1,8 @@
 // The plan of the image of a sound store's list. No count is decoded for it. Where the image's pages are smaller than the store's, their
 // sums stand in the code of each page of the store. A page of another image ends with a page of the store, or behind the last: its sum is
 // what the reading at its end is above that at its start, and the latter is the total of the pages that the plan has.
+#![tactic(auto)]
+
 mod parts;
 
 ghost use Rattle.std.specs.Prelude.{true, ◌≡◌, ◌+◌, ◌*◌, ◌^◌, ◌≤◌, ◌<◌};

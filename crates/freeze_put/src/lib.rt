@@ -1,4 +1,6 @@
 // The image of a sound store's list, put into a buffer that has room for it.
+#![tactic(auto)]
+
 mod block;
 
 ghost use Rattle.std.specs.Prelude.{true, ◌≡◌, ◌+◌, ◌-◌, ◌*◌, ◌^◌, min};

@@ -1,4 +1,6 @@
 // The session program: reads standard input a chunk at a time, and writes the replies to the lines that end in a chunk before it reads on.
+#![tactic(auto)]
+
 ghost use Rattle.std.specs.Prelude.{◌≤◌, length};
 
 use libc::{STDERR_FILENO, STDIN_FILENO, STDOUT_FILENO};

@@ -1,1 +1,2 @@
 // An image read back is its list: laws alone, in proofs/.
+#![tactic(auto)]

@@ -1,5 +1,7 @@
 // The hours of an accepted image in blocks of 256, which whole pages of every size make: hour i of two images stands at the same place of their
 // blocks, whatever their pages. Behind the list's end a block has zeros.
+#![tactic(auto)]
+
 ghost use Rattle.std.specs.Prelude.{true, ◌≡◌, ◌*◌, ◌≤◌, replicate};
 ghost use Rattle.lists.specs.Lists.{window};
 ghost use Rattle.sum_table.specs.Code.Sums.{Sums};

@@ -1,4 +1,6 @@
 // The busiest stretch of an image: the run of so many hours that holds the most coins.
+#![tactic(auto)]
+
 mod window;
 
 ghost use Rattle.std.specs.Prelude.{true, ◌≡◌};

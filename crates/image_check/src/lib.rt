@@ -1,4 +1,6 @@
 // The check of an image: whether bytes are the writer's; and an image opened that the check accepts.
+#![tactic(auto)]
+
 ghost use Rattle.std.specs.Prelude.{◌&&◌, ◌≡◌, ◌+◌, ◌-◌, ◌*◌, ◌≤◌};
 ghost use Rattle.lists.specs.Counts.{max_count, within};
 ghost use Rattle.bits.specs.Bits.{bits};

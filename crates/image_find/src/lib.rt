@@ -1,4 +1,6 @@
 // The search for the page of an image in which a figure is reached.
+#![tactic(auto)]
+
 ghost use Rattle.std.specs.Prelude.{false, ◌≡◌, ◌≤◌, ◌<◌};
 ghost use Rattle.image.specs.Code.Head.{Opened};
 ghost use Rattle.image_find.specs.Code.Span.{Narrowable, Between, Narrowed, Hit};

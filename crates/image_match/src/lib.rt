@@ -1,4 +1,6 @@
 // The hours of a bag: a run of hours of an image with a given sum.
+#![tactic(auto)]
+
 mod find;
 
 ghost use Rattle.std.specs.Prelude.{true, ◌≡◌};

@@ -1,5 +1,7 @@
 // The image of the hour-by-hour sums of two images. The sums stand nowhere as one list: block by block of 256 hours they are added, once for
 // the plan and once for the bytes.
+#![tactic(auto)]
+
 mod block;
 mod plan;
 mod put;

@@ -1,5 +1,7 @@
 // The counts of a page of an image that the full check has accepted, and its root. Nothing is tested here: a caller checks once, reads the
 // header once, and then goes page by page over one lent array.
+#![tactic(auto)]
+
 ghost use Rattle.std.specs.Prelude.{true, ◌≡◌, ◌+◌, ◌^◌, ◌≤◌, ◌<◌, length};
 ghost use Rattle.lists.specs.Lists.{splice};
 ghost use Rattle.sum_table.specs.Code.Sums.{Sums};

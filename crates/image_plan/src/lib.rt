@@ -1,5 +1,7 @@
 // What an image will be, from the sums of its pages: a caller adds these to a plan, which gives the layout or a refusal before a byte is
 // written. `image_put` then takes the counts of one page after another.
+#![tactic(auto)]
+
 ghost use Rattle.std.specs.Prelude.{◌≡◌, ◌+◌, length};
 ghost use Rattle.image.specs.Image.{image};
 ghost use Rattle.image_plan.specs.Code.Planning.{Awaits, Begun, Drafted, Laying, Planned as PlannedOf, Whole};

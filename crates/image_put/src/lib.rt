@@ -1,6 +1,8 @@
 // The parts of an image, put into a buffer that has room for it: the header, then page by page, then the zeros behind the code. For callers
 // that have their counts page by page and nowhere as a list: whoever hands over the pages of a list gets the image of that list (`Laid` of
 // specs/Code/Writing.antt).
+#![tactic(auto)]
+
 ghost use Rattle.std.specs.Prelude.{true, false, ◌≡◌, ◌+◌, ◌≤◌, length};
 ghost use Rattle.lists.specs.Lists.{splice};
 ghost use Rattle.image.specs.Image.{header, header_length, image, wide};

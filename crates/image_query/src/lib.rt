@@ -1,4 +1,6 @@
 // Count and reading of an image: each tests only its path.
+#![tactic(auto)]
+
 ghost use Rattle.std.specs.Prelude.{◌≡◌, ◌/◌, ◌^◌, ◌≤◌, ◌<◌};
 ghost use Rattle.tree_walk.specs.Code.Answers.{walk_answer as walked};
 ghost use Rattle.image.specs.Query.{ended, look as looked, count as counted, reading as read};

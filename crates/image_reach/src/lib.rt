@@ -1,4 +1,6 @@
 // Reach: the least index whose reading is a figure or more.
+#![tactic(auto)]
+
 ghost use Rattle.std.specs.Prelude.{◌≤◌};
 ghost use Rattle.image.specs.Reach.{Reach};
 ghost use Rattle.image.specs.Code.Head.{Opened};

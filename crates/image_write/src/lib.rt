@@ -1,4 +1,6 @@
 // Writing a frozen image of a list: its length, and its bytes into a buffer. Every refusal is tested before a byte is written.
+#![tactic(auto)]
+
 mod plan;
 mod put;
 

@@ -1,4 +1,6 @@
 // Lists of numbers: the definitions and laws that the other crates share, and four choices between two numbers.
+#![tactic(auto)]
+
 ghost use Rattle.std.specs.Prelude.{◌≡◌, ◌-◌, min, max};
 ghost use Rattle.lists.specs.Lists.{pick};
 

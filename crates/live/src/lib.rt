@@ -1,4 +1,6 @@
 // The live calls on a store's bytes. Each turns a store that is not sound down first, and then answers as the store's list does.
+#![tactic(auto)]
+
 ghost use Rattle.store.specs.Plain.{Append, Count, Day, Free, Insert, Reach, Reading, Set, Strike};
 ghost use Rattle.store.specs.Call.{Called};
 ghost use Rattle.store.specs.Reading.{list_in};

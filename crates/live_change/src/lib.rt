@@ -1,4 +1,6 @@
 // Append and set, on a sound store.
+#![tactic(auto)]
+
 ghost use Rattle.std.specs.Prelude.{true, ◌≡◌};
 ghost use Rattle.store.specs.Plain.{Append, Set};
 ghost use Rattle.store.specs.Sound.{sound};

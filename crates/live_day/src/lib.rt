@@ -1,4 +1,6 @@
 // The day's sum of a sound store, answered as its list does.
+#![tactic(auto)]
+
 ghost use Rattle.std.specs.Prelude.{true, ◌≡◌};
 ghost use Rattle.store.specs.Plain.{Day};
 ghost use Rattle.store.specs.Sound.{sound};

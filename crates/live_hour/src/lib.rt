@@ -1,4 +1,6 @@
 // The change of one hour's count.
+#![tactic(auto)]
+
 ghost use Rattle.std.specs.Prelude.{◌≡◌, ◌+◌, max};
 ghost use Rattle.store.specs.Reading.{hours_in};
 ghost use Rattle.store.specs.Code.Hours.{Asked, Changes};

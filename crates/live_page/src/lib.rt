@@ -1,4 +1,6 @@
 // Questions to one page of a sound store.
+#![tactic(auto)]
+
 ghost use Rattle.std.specs.Prelude.{true, ◌≡◌, ◌+◌, ◌≤◌, ◌<◌};
 ghost use Rattle.lists.specs.Lists.{reached, sum};
 ghost use Rattle.store.specs.Limits.{page_hours};

@@ -1,4 +1,6 @@
 // Questions to a sound store: a count, a reading, the free cells.
+#![tactic(auto)]
+
 ghost use Rattle.std.specs.Prelude.{true, ◌≡◌, ◌≤◌, ◌<◌, get_or};
 ghost use Rattle.lists.specs.Lists.{reading as reading_at};
 ghost use Rattle.store.specs.Plain.{Count, Free, Reading};

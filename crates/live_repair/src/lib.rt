@@ -1,4 +1,6 @@
 // A store brought back to sound.
+#![tactic(auto)]
+
 mod write;
 
 ghost use Rattle.std.specs.Prelude.{◌≡◌};

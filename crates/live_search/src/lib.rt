@@ -1,4 +1,6 @@
 // The prefix-sum search in a sound store: first over the page sums, then in the page's tree.
+#![tactic(auto)]
+
 ghost use Rattle.std.specs.Prelude.{true, ◌≡◌, ◌≤◌, ◌<◌};
 ghost use Rattle.lists.specs.Lists.{reached, sum};
 ghost use Rattle.store.specs.Plain.{Reach};

@@ -1,4 +1,6 @@
 // The page at the front, where runs may end: its sum by its root, and its counts read and their sums marked.
+#![tactic(auto)]
+
 ghost use Rattle.std.specs.Prelude.{true, ◌≡◌, ◌%◌, ◌^◌, ◌<◌, length};
 ghost use Rattle.lists.specs.Lists.{reading};
 ghost use Rattle.sum_table.specs.Code.Sums.{Sums};

@@ -2,6 +2,8 @@
 // where the coins since the log's start are q more than before lo. That is looked up in the marks of the page at the front, which nearly always
 // say that no run from hour lo on ends there: so the jumps nearly always go the same way, as a processor foretells them. Each end has a page in
 // hand.
+#![tactic(auto)]
+
 ghost use Rattle.std.specs.Prelude.{true, ◌≡◌, ◌+◌, ◌-◌, ◌%◌, ◌^◌, ◌≤◌, ◌<◌, length};
 ghost use Rattle.sum_table.specs.Code.Sums.{Sums};
 ghost use Rattle.image.specs.Check.{accepted};

@@ -1,4 +1,6 @@
 // The 64 counts of a page when the hours behind one move by one place: a count comes in, and one leaves.
+#![tactic(auto)]
+
 ghost use Rattle.std.specs.Prelude.{◌≡◌, ◌<◌, length};
 ghost use Rattle.store.specs.Limits.{page_hours};
 ghost use Rattle.move_counts.specs.Code.Turned.{leaving_index, pulled, pushed, turned};

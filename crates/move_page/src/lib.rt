@@ -1,4 +1,6 @@
 // One page of a store whose hours move by one place: read, turned and written again, with the cells that it is to have.
+#![tactic(auto)]
+
 ghost use Rattle.sum_table.specs.Code.Sums.{Sums};
 ghost use Rattle.move_page.specs.Code.Move.{Movable, Moved};
 

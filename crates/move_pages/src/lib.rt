@@ -1,5 +1,7 @@
 // The pages that move, in two passes, the lowest page first: in the first pass those that do not grow, so that every page that shrinks has given
 // its cells back before a page of the late pass takes some.
+#![tactic(auto)]
+
 ghost use Rattle.std.specs.Prelude.{◌≡◌, ◌+◌, ◌≤◌, ◌<◌, leb, ltb, length};
 ghost use Rattle.lists.specs.Lists.{pick};
 ghost use Rattle.store.specs.Reading.{list_in};

@@ -1,4 +1,6 @@
 // Which pages of a store that is to be repaired are kept.
+#![tactic(auto)]
+
 mod chain;
 mod page;
 

@@ -1,5 +1,7 @@
 // What a command of the session program prints, and what it does to the store: the answers of calls, and a fresh store. The store is the
 // first bytes of a buffer.
+#![tactic(auto)]
+
 ghost use Rattle.std.specs.Prelude.{◌&&◌, ◌≡◌, ◌≤◌, length, leb};
 ghost use Rattle.lists.specs.Lists.{pick};
 ghost use Rattle.answers.specs.Store.{told};

@@ -1,4 +1,6 @@
 // The reserve R(2^h, s) of a tree of 2^h counts with sum s, in bits, for h to 8 and sums below 2^40.
+#![tactic(auto)]
+
 ghost use Rattle.std.specs.Prelude.{◌≡◌, ◌+◌, ◌%◌, ◌^◌, ◌≤◌, ◌<◌, min};
 ghost use Rattle.reserve.specs.Reserve.{digits, reserve};
 ghost use Rattle.reserve.specs.Code.Formula.{Bounded, one_formula};

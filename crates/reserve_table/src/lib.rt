@@ -1,4 +1,6 @@
 // A table of small reserves, R(2^h, s) for h to 7 and s to 63: for code that works out many of them, as the check of a whole image does.
+#![tactic(auto)]
+
 mod entries;
 
 ghost use Rattle.std.specs.Prelude.{◌≡◌, ◌≤◌, ◌<◌};

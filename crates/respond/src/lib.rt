@@ -1,4 +1,6 @@
 // Answers a command of the session program.
+#![tactic(auto)]
+
 ghost use Rattle.std.specs.Prelude.{◌≤◌, length};
 ghost use Rattle.replies.specs.Code.Respond.{Responds};
 

@@ -1,4 +1,6 @@
 // The lines of the session program: what a line asks.
+#![tactic(auto)]
+
 mod line;
 mod number;
 

@@ -1,5 +1,7 @@
 // Lines from the input's bytes. A buffer with room for more than 40 bytes is enough for lines of any length: a longer line is cut, and is
 // still over 40 bytes.
+#![tactic(auto)]
+
 ghost use Rattle.std.specs.Prelude.{◌≡◌, take};
 ghost use Rattle.session_input.specs.Lines.{Gathers, ends, whole_commands};
 

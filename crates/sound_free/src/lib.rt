@@ -1,4 +1,6 @@
 // The free chain, and that every cell was met.
+#![tactic(auto)]
+
 ghost use Rattle.std.specs.Prelude.{◌≡◌, ◌+◌, ◌*◌, ◌≤◌, ◌<◌, length, replicate};
 ghost use Rattle.lists.specs.Lists.{part, same};
 ghost use Rattle.store.specs.Layout.{header_length};

@@ -1,4 +1,6 @@
 // The header of a store.
+#![tactic(auto)]
+
 ghost use Rattle.std.specs.Prelude.{◌≡◌};
 ghost use Rattle.lists.specs.Lists.{every};
 ghost use Rattle.store.specs.Shape.{shape_tests};

@@ -1,4 +1,6 @@
 // The tests of a page's code, which was gathered from its cells.
+#![tactic(auto)]
+
 ghost use Rattle.std.specs.Prelude.{true, ◌≡◌, ◌*◌, take};
 ghost use Rattle.lists.specs.Lists.{same};
 ghost use Rattle.bits.specs.Bits.{bits};

@@ -1,4 +1,6 @@
 // The soundness check of the live store.
+#![tactic(auto)]
+
 mod walk;
 
 ghost use Rattle.std.specs.Prelude.{◌≡◌};

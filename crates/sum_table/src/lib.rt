@@ -1,5 +1,7 @@
 // A table of small sums: their binary digits, what trees of 4 to 32 counts with such a sum reserve, and the eight counts of codes with two
 // coins at most. For code that decodes many counts: a look-up takes a fraction of the steps of working these out, and has no jump.
+#![tactic(auto)]
+
 mod entries;
 
 ghost use Rattle.std.specs.Prelude.{◌≡◌, true, ◌++◌, ◌*◌, ◌^◌, ◌≤◌, ◌<◌};

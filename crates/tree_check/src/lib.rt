@@ -1,4 +1,6 @@
 // The check of a tree: whether bits are the code of some list.
+#![tactic(auto)]
+
 mod eight;
 
 ghost use Rattle.std.specs.Prelude.{◌≡◌, ◌+◌, ◌≤◌};

@@ -1,6 +1,8 @@
 // The counts of a tree that is some list's code. A recursion in which h falls, one level a call. It ends where one load has all the bits of 16
 // counts or more, or else at eights: out of one load where the table has their sum, else each four out of one, or, where that does not fit a
 // word, each two. It reads over `&&[u8]` and writes into one array of 256, both by a thin pointer.
+#![tactic(auto)]
+
 ghost use Rattle.std.specs.Prelude.{true, ◌≡◌, ◌+◌, ◌≤◌, ◌<◌, ◌^◌, length};
 ghost use Rattle.lists.specs.Counts.{max_count, within};
 ghost use Rattle.lists.specs.Lists.{splice};

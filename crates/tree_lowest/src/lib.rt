@@ -1,4 +1,6 @@
 // The check of a tree at its lowest: zeros, and two or four counts out of one load.
+#![tactic(auto)]
+
 mod four;
 
 ghost use Rattle.std.specs.Prelude.{true, false, [], ◌∷◌, ◌≡◌, ◌+◌, ◌*◌, ◌≤◌, ◌<◌, ◌^◌, length};

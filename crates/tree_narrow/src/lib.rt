@@ -1,5 +1,7 @@
 // The check of a tree with a limit for its counts: whether bits are the code of some list that has no count above it. A node of no more
 // coins than the limit is the plain check's; so each count is looked at where the check has it at hand, and no page is unpacked for it.
+#![tactic(auto)]
+
 ghost use Rattle.std.specs.Prelude.{false, ◌≡◌, ◌+◌, ◌≤◌};
 ghost use Rattle.bits.specs.Bits.{bits};
 ghost use Rattle.reserve.specs.Reserve.{reserve as reserved};

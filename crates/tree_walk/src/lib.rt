@@ -2,6 +2,8 @@
 // prefix sum. It ends at eight counts or four, whose bits come out of one load, or at one count where these do not fit a word. It answers one
 // number, so that nothing is handed up through memory. It goes over `&&[u8]`, a thin pointer: the compiler then makes the call that a
 // function ends with a jump, which it does not where a slice is handed on (docs/BENCHMARK.md).
+#![tactic(auto)]
+
 mod by_index;
 mod damage;
 pub mod pairs;

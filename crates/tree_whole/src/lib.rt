@@ -1,4 +1,6 @@
 // A tree of 16 counts or more whose bits one word has.
+#![tactic(auto)]
+
 mod sparse;
 
 ghost use Rattle.std.specs.Prelude.{true, ◌≡◌, ◌+◌, ◌≤◌, ◌^◌, length};

@@ -1,5 +1,7 @@
 // Four or eight counts out of the bits of one word, at whose high end their tree stands. What small sums need is looked up in a table that is
 // lent.
+#![tactic(auto)]
+
 ghost use Rattle.std.specs.Prelude.{true, ◌≡◌, ◌+◌, ◌≤◌, ◌<◌, length, replicate};
 ghost use Rattle.lists.specs.Lists.{splice};
 ghost use Rattle.bits.specs.Bits.{field};

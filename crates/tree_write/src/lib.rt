@@ -1,5 +1,7 @@
 // The code of a tree of counts, written into bits. The bits are made 0 first and each field is then added to them, so that left-over bits
 // need no thought and no reserve but a left half's is worked out.
+#![tactic(auto)]
+
 ghost use Rattle.std.specs.Prelude.{◌≡◌, ◌+◌, ◌≤◌, ◌^◌, get_or};
 ghost use Rattle.lists.specs.Lists.{splice, sum, window};
 ghost use Rattle.bits.specs.Bits.{bits};

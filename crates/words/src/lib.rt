@@ -1,4 +1,6 @@
 // Answers as words of 64 bits.
+#![tactic(auto)]
+
 ghost use Rattle.std.specs.Prelude.{◌≡◌, ◌<◌};
 ghost use Rattle.answers.specs.Store.{told};
 ghost use Rattle.answers.specs.Image.{told as replied, ruled};

@@ -1,0 +1,8 @@
+-- `bits_field::front::load` meets its contract. Assumes nothing.
+use Rattle.bits_field.proofs.Leading.{front-is}
+use borrow.Author.Rules.{rules}
+use Rattle.bits_field.proofs.front.load.Goals as goal
+
+pub returns : goal.returns
+returns c =
+    front-is c.args.s.now c.smaller-o.result c.args.at c.load8.result c.smaller-o.ensures c.requires.2 c.load8.ensures

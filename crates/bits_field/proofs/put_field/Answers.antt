@@ -1,0 +1,26 @@
+-- `bits_field::put_field` meets its contract. Assumes nothing.
+use Rattle.lists.specs.Lists.{splice}
+use Prim.Native.Nat.{◌*◌}
+use mathlib.Core.Path.{◌≡◌, ◌∙◌, ap}
+use Prim.Native.Nat.{ℕ}
+use Rattle.bits.specs.Bits.{bits, field}
+use Rattle.bits.proofs.Words.{empty-put}
+use native.Mathlib.Omega.{arith}
+use Rattle.bits.proofs.Words.{put_is}
+use borrow.Author.Rules.{rules}
+use Rattle.bits_field.proofs.put_field.Goals as goal
+
+pub returns-then-width-eq0 : goal.returns-then-width-eq0
+returns-then-width-eq0 c =
+    let a = c.args in
+    let e : a.width ≡ 0 = omega arith in
+    empty-put (bits a.out.now) a.at a.width a.v e
+
+pub returns : goal.returns
+returns c =
+    let a = c.args in
+    let p = c.place-o in
+    let w = c.load8-w in
+    c.store8.ensures
+    ∙ ap (λ (x : ℕ). splice (bits a.out.now) (8 * p.result) (field 64 x)) c.with_field.ensures
+    ∙ put_is a.out.now p.result a.at a.width w.result a.v p.ensures.0 p.ensures.1 p.ensures.2 w.ensures c.requires.v_bound

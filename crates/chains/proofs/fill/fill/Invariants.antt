@@ -1,0 +1,17 @@
+-- `chains::fill::fill` meets its contract. Assumes nothing.
+use mathlib.Core.Path.{◌≡◌, refl, sym, ap, ◌∙◌}
+use Prim.Native.Nat.{ℕ, ◌+◌, ◌-◌, ◌*◌, ◌≤◌}
+use native.Mathlib.Omega.{arith}
+use lib.ListN.{length, drop}
+use lib.Seq.{sets}
+use Rattle.lists.specs.Lists.{part}
+use Rattle.store.specs.Code.Links.{Steps, filled}
+use Rattle.store.proofs.Filling.{fill-next, fill-again, fill_done}
+use Rattle.chains.proofs.fill.fill.Given as goal
+
+abbrev pub invariant-loop-j : goal.invariant-loop-j
+invariant-loop-j l =
+    (l.j ≤ l.n) × (length l.s ≡ length l.initial.s) × (Steps l.s l.base l.at (l.n - l.j)) × (filled l.initial.s l.base l.e l.n l.code ≡ filled l.s l.base l.at (l.n - l.j) (drop (30 * l.j) l.code))
+
+abbrev pub decreases-loop-j : goal.decreases-loop-j
+decreases-loop-j l = l.n - l.j

@@ -1,0 +1,8 @@
+-- `dialogue::answer` meets its contract. Assumes nothing.
+use Rattle.dialogue.proofs.FeedLaws.{answers}
+use borrow.Author.Rules.{rules}
+use Rattle.dialogue.proofs.answer.Goals as goal
+
+pub returns : goal.returns
+returns c =
+    answers c.requires.said_in_bounds c.respond-response.ensures c.print-said.ensures

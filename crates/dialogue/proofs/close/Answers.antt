@@ -1,0 +1,14 @@
+-- `dialogue::close` meets its contract. Assumes nothing.
+use Rattle.dialogue.proofs.FeedLaws.{close-none, close-whole}
+use borrow.Author.Rules.{rules}
+use Rattle.dialogue.proofs.close.Goals as goal
+
+pub returns-in_default : goal.returns-in_default
+returns-in_default c =
+    let a = c.args in
+    close-none a.place a.store.now a.line.now _ c.finish.ensures _ c.in_default.is
+
+pub returns : goal.returns
+returns c =
+    let a = c.args in
+    close-whole a.place a.store.now a.line.now _ c.finish.ensures c.in-Whole.is c.answer-there.ensures

@@ -1,0 +1,120 @@
+-- `freeze_plan::add_pages` meets its contract. Assumes nothing.
+use Prim.Native.Nat.{ℕ}
+use native.Mathlib.Nat.{mul-le-mul_left}
+use lib.Pow.{pow_pos}
+use Rattle.pages.proofs.Prefix.{reading-none}
+use Rattle.pages.proofs.SoundPage.{sum-small}
+use Rattle.store.proofs.SoundFacts.{facts}
+use Rattle.image_plan.specs.declared.Plan.{Plan}
+use Rattle.freeze_plan.specs.Code.Steps.{Ending}
+use Rattle.freeze_plan.proofs.PageEnds.{ahead, all-next, behind, end-in, last-page, power-low, reading-fits, total-fits}
+use borrow.Author.Rules.{rules}
+use mathlib.Core.Path.{◌≡◌}
+use Prim.Native.Nat.{◌+◌, ◌-◌, ◌*◌, ◌^◌, ◌≤◌, ◌<◌}
+use native.Mathlib.Omega.{arith}
+use Rattle.lists.specs.Lists.{reading}
+use Rattle.store.specs.Reading.{list_in, page_count_of}
+use Rattle.image_plan.specs.Code.Planning.{Drafted}
+use Rattle.freeze_plan.proofs.add_pages.Goals as goal
+
+pub power-m-requires : goal.power-m-requires
+power-m-requires c = omega (arith, c.requires.2.e-high)
+
+one-le : (d : ℕ) → 1 ≤ d + 1
+one-le d = omega arith
+
+pub loop-p-init : goal.loop-p-init
+loop-p-init c = (
+  omega arith,
+  reading-none (list_in c.args.s.now),
+  c.requires.2,
+  λ (l : c.args.plan.done < c.args.plan.pages).
+      omega (arith, mul-le-mul_left (2 ^ c.args.e) (one-le c.args.plan.done), pow_pos c.args.e),
+)
+
+-- the page is one of the store
+module _ (c : goal.In-loop-p) where
+  abbrev next : Plan
+  next = c.loop-p.next
+
+  abbrev p : ℕ
+  p = c.loop-p.p
+
+  inside : p < page_count_of c.args.s.now
+  inside = omega (arith, c.loop-p-test.true, c.requires.1)
+
+  few : p < 1024
+  few = omega (arith, inside, (facts c.args.s.now c.requires.0).pages-high)
+
+pub entry_of-own-requires : goal.entry_of-own-requires
+entry_of-own-requires c = (c.requires.0, inside c)
+
+pub overflow_add-all : goal.overflow_add-all
+overflow_add-all c =
+    omega (arith, c.loop-p.invariant.1, reading-fits c.args.s.now c.requires.0 (64 * p c.before.before), sum-small c.entry_of-own.ensures)
+
+pub overflow_add-p : goal.overflow_add-p
+overflow_add-p c = omega (arith, few c.before.before)
+
+pub overflow_mul-p : goal.overflow_mul-p
+overflow_mul-p c = omega (arith, few c.before.before)
+
+pub nonzero_div-p : goal.nonzero_div-p
+nonzero_div-p c =
+    (power-low c.args.e _ c.power-m.ensures c.requires.2.e-high).0
+
+pub add_within-next-requires : goal.add_within-next-requires
+add_within-next-requires c =
+    let e = end-in c.args.e c.power-m.result (p c.before.before.before) c.smaller-end.result (next c.before.before.before).pages c.power-m.ensures c.smaller-end.ensures in (
+      record {
+        is-sound = c.requires.0;
+        entry-is = c.entry_of-own.ensures;
+        drafted = c.loop-p.invariant.2;
+        ahead = c.loop-p.invariant.3;
+        end-one = e.0;
+        end-in = e.1;
+      },
+      all-next c.loop-p.all c.entry_of-own.ensures c.loop-p.invariant.1,
+    )
+
+pub overflow_add-p-in-loop-p : goal.overflow_add-p-in-loop-p
+overflow_add-p-in-loop-p c = omega (arith, few c.before.before.before.before)
+
+pub loop-p-smaller : goal.loop-p-smaller
+loop-p-smaller c = omega (arith, c.loop-p-test.true)
+
+pub loop-p-preserved : goal.loop-p-preserved
+loop-p-preserved c =
+    let d = c.add_within-next in (
+      omega (arith, c.loop-p-test.true),
+      all-next c.loop-p.all c.entry_of-own.ensures c.loop-p.invariant.1,
+      d.ensures.0,
+      λ (l : d.result.done < d.result.pages).
+          ahead c.args.e c.power-m.result (p c.before.before.before.before) c.smaller-end.result (next c.before.before.before.before).pages d.result.done c.power-m.ensures
+          c.smaller-end.ensures d.ensures.1 (omega (arith, l, d.ensures.0.pages-are, c.loop-p.invariant.2.pages-are)),
+    )
+
+-- the last page, if it ends behind the store's
+abbrev at-end : (c : goal.After-loop-p) → Ending c.loop-p.all c.loop-p.next.pages c.loop-p.next
+at-end c =
+    let r = c.loop-p.next in
+    record {
+      e = c.args.e;
+      xs = list_in c.args.s.now;
+      drafted = c.loop-p.invariant.2;
+      total-fits = total-fits c.args.s.now c.requires.0;
+      end-one = omega arith;
+      next = λ (l : r.done < r.pages).
+          let h = c.loop-p.invariant.3 l in (
+            last-page c.args.s.now c.requires.0 c.args.e c.loop-p.p c.args.pages r.done r.pages c.requires.1 c.loop-p-test.false c.loop-p.invariant.2.pages-are h,
+            behind c.args.s.now c.requires.0 c.loop-p.p c.args.pages (2 ^ c.args.e * (r.done + 1)) c.loop-p.all c.requires.1 c.loop-p-test.false c.loop-p.invariant.1 h,
+          );
+    }
+
+pub add_ending-requires : goal.add_ending-requires
+add_ending-requires c = at-end c
+
+pub returns : goal.returns
+returns c =
+    let d = c.add_ending.ensures (at-end c.before) in
+    (d.0, omega (arith, d.1, d.0.pages-are, c.loop-p.invariant.2.pages-are))

@@ -1,0 +1,8 @@
+-- `hourlog_c::image_calls::hourlog_image_count` meets its contract. Assumes nothing.
+use Prim.Native.Nat.{ℕ}
+use Rattle.hourlog_c.proofs.Exports.{count-answers}
+use borrow.Author.Rules.{rules}
+use Rattle.hourlog_c.proofs.image_calls.hourlog_image_count.Goals as goal
+
+pub returns : goal.returns
+returns c = count-answers _ _ _ _ (λ (j : ℕ). (c.type_inv.image j).fits) c.of_image.ensures c.count.ensures

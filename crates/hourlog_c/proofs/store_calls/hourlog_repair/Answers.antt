@@ -1,0 +1,7 @@
+-- `hourlog_c::store_calls::hourlog_repair` meets its contract. Assumes nothing.
+use Rattle.hourlog_c.proofs.Exports.{repair-answers}
+use borrow.Author.Rules.{rules}
+use Rattle.hourlog_c.proofs.store_calls.hourlog_repair.Goals as goal
+
+pub returns : goal.returns
+returns c = repair-answers _ _ _ _ _ _ c.of_store.ensures c.repair.ensures

@@ -1,0 +1,16 @@
+-- `image_find::find` meets its contract. The loop's invariant: the figure is reached in a page from lo to hi. Assumes nothing.
+use mathlib.Core.Bool.{true}
+use mathlib.Core.Path.{◌≡◌, refl, sym, ◌∙◌}
+use Prim.Native.Nat.{◌+◌, ◌-◌, ◌≤◌}
+use native.Mathlib.Omega.{arith}
+use borrow.Author.Tests.{not-true, not-false}
+use Rattle.image_find.specs.Code.Span.{Between}
+use Rattle.image.proofs.HeadLaws.{bounds}
+use Rattle.image_find.proofs.SearchSteps.{hit-none, hit-one, narrowable, no-pages, whole}
+use Rattle.image_find.proofs.find.Given as goal
+
+abbrev pub invariant-loop-at : goal.invariant-loop-at
+invariant-loop-at l = (l.at.ok ≡ true) × Between l.s l.q l.at × (l.turn + (l.at.hi - l.at.lo) ≤ l.n)
+
+abbrev pub decreases-loop-at : goal.decreases-loop-at
+decreases-loop-at l = l.at.hi - l.at.lo

@@ -1,0 +1,28 @@
+use borrow.Author.Rules.{rules}
+use native.Mathlib.Omega.{arith}
+use lib.ListN.{length-set}
+use Rattle.image_put.proofs.Writing.{front-put}
+use borrow.Author.Rules.{rules}
+use Rattle.image_put.proofs.put_front.Reads as reads
+use Rattle.image_put.proofs.put_front.Lts as lts
+use Rattle.bits.proofs.numbers.put4.Reads as put4-reads
+use Rattle.image_put.proofs.put_front.Goals as goal
+
+pub bounds-out-1 : goal.bounds-out-1
+bounds-out-1 c = simp length-set (omega arith)
+
+pub bounds-out-2 : goal.bounds-out-2
+bounds-out-2 c = simp length-set (omega arith)
+
+pub bounds-out-3 : goal.bounds-out-3
+bounds-out-3 c = simp length-set (omega arith)
+
+pub put4-requires : goal.put4-requires
+put4-requires c = simp length-set (omega arith)
+
+pub shape_of-out : goal.shape_of-out
+shape_of-out c = omega (arith, simp length-set at c.put4.auto.out)
+
+pub returns : goal.returns
+returns c =
+    front-put c.args.out.now c.put4.new.out _ c.args.r.e c.args.r.hours c.requires.0 c.put4.ensures

@@ -1,0 +1,35 @@
+-- `live_query::reading_in` meets its contract. Assumes nothing.
+use mathlib.Core.Path.{◌∙◌}
+use native.Mathlib.Omega.{arith}
+use Rattle.store.specs.Reading.{list_in}
+use Rattle.store.proofs.SoundFacts.{facts}
+use Rattle.pages.proofs.Prefix.{before-fits}
+use Rattle.live_page.proofs.PageSums.{reading-first, reading-inside}
+use Prim.Native.Nat.{◌*◌, ◌/◌, ◌%◌, ◌≤◌}
+use borrow.Author.Rules.{rules}
+use Rattle.live_query.proofs.reading_in.Goals as goal
+
+pub before-all-requires : goal.before-all-requires
+before-all-requires c =
+    (c.requires.0, omega (arith, (facts c.args.s.now c.requires.0).hours-fit))
+
+pub returns-then-j-eq0 : goal.returns-then-j-eq0
+returns-then-j-eq0 c =
+    let a = c.args in
+    c.before-all.ensures ∙ reading-first (list_in a.s.now) a.i (omega arith)
+
+pub walk_page-requires : goal.walk_page-requires
+walk_page-requires c = (
+  c.requires.0,
+  omega (arith, (facts c.args.s.now c.requires.0).hours-fit),
+  omega arith,
+  omega (arith, before-fits c.args.s.now c.requires.0 (64 * (c.args.i / 64)), c.before-all.ensures),
+  omega arith,
+)
+
+pub returns : goal.returns
+returns c =
+    let a = c.args in
+    let l : 1 ≤ a.i % 64 = omega arith in
+    reading-inside (list_in a.s.now) a.i c.walk_page.result l
+    (omega (arith, c.walk_page.ensures, c.before-all.ensures))

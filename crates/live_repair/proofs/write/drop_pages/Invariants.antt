@@ -1,0 +1,16 @@
+-- `live_repair::drop_pages` meets its contract. Assumes nothing.
+use mathlib.Core.Path.{◌≡◌, refl, ap, ◌∙◌}
+use Prim.Native.Nat.{◌-◌, ◌≤◌}
+use native.Mathlib.Omega.{arith}
+use lib.ListN.{length, take, drop, replicate}
+use lib.Seq.{length-sets}
+use Rattle.store.specs.Layout.{entry_size}
+use Rattle.live_repair.specs.Code.Writing.{dropped}
+use Rattle.live_repair.proofs.WriteSteps.{dropped-end, dropped-next, dropped-start}
+use Rattle.live_repair.proofs.write.drop_pages.Given as goal
+
+abbrev pub invariant-loop-i : goal.invariant-loop-i
+invariant-loop-i l = (l.i ≤ l.n) × (length l.s ≡ length l.initial.s) × (dropped l.initial.s (take l.n l.lost) ≡ dropped l.s (take (l.n - l.i) (drop l.i l.lost)))
+
+abbrev pub decreases-loop-i : goal.decreases-loop-i
+decreases-loop-i l = l.n - l.i

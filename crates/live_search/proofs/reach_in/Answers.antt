@@ -1,0 +1,30 @@
+-- `live_search::reach_in` meets its contract. Assumes nothing.
+use mathlib.Core.Path.{sym, ap, ◌∙◌}
+use Prim.Native.Nat.{ℕ}
+use native.Mathlib.Omega.{arith}
+use Rattle.lists.specs.Lists.{reached}
+use Rattle.lists.proofs.Reach.{reached-zero}
+use Rattle.store.specs.Reading.{list_in}
+use Rattle.store.proofs.SoundFacts.{facts}
+use Rattle.live_search.proofs.SpotLaws.{spot-reached}
+use borrow.Author.Rules.{rules}
+use Rattle.live_search.proofs.reach_in.Goals as goal
+
+pub returns-then-q-eq0 : goal.returns-then-q-eq0
+returns-then-q-eq0 c =
+    let xs = list_in c.args.s.now in
+    sym (reached-zero xs) ∙ ap (λ (z : ℕ). reached z xs) (sym c.if-q-eq0.true)
+
+pub overflow_mul-spot : goal.overflow_mul-spot
+overflow_mul-spot c =
+    omega (arith, (facts c.args.s.now c.requires.0).pages-high, c.page_of-spot.ensures.inside)
+
+pub search_page-requires : goal.search_page-requires
+search_page-requires c =
+    let w = c.page_of-spot.ensures in
+    record { s_value = (c.requires.0, w.inside, omega (arith, (facts c.args.s.now c.requires.0).pages-high, w.inside)); le_q = (w.some, w.enough) }
+
+pub returns : goal.returns
+returns c =
+    let a = c.args in
+    spot-reached (list_in a.s.now) _ a.q _ _ _ c.page_of-spot.ensures c.search_page.ensures

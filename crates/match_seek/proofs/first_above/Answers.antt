@@ -1,0 +1,33 @@
+-- `match_seek::first_above` meets its contract. Assumes nothing.
+use Prim.Native.Nat.{◌+◌, ◌≤◌}
+use native.Mathlib.Omega.{arith}
+use borrow.Author.Rules.{rules}
+use Rattle.match_seek.proofs.AboveLaws.{bit-small, first_of}
+use Rattle.match_seek.proofs.first_above.Goals as goal
+
+past-small : (c : goal.After-either-3) → c.either.result + c.either-2.result + c.either-3.result ≤ 3
+past-small c =
+    let e = c.either.ensures in
+    omega (arith, bit-small _ _ e, bit-small _ _ c.either-2.ensures, bit-small _ _ c.either-3.ensures)
+
+pub overflow_add-past : goal.overflow_add-past
+overflow_add-past c = omega (arith, bit-small _ _ c.either.ensures, bit-small _ _ c.either-2.ensures)
+
+pub overflow_add-past-2 : goal.overflow_add-past-2
+overflow_add-past-2 c = omega (arith, past-small c)
+
+pub overflow_add-result-2 : goal.overflow_add-result-2
+overflow_add-result-2 c = omega (arith, past-small c.before.before)
+
+pub returns : goal.returns
+returns c =
+    let a = c.requires in
+    first_of _ _ _ _ _ _ a.0 a.1 a.2 _ _ _ _ _ _
+    record {
+      one = c.either.ensures;
+      two = c.either-2.ensures;
+      three = c.either-3.ensures;
+      late_is = c.either-late.ensures;
+      later-is = c.either-later.ensures;
+      want_is = c.either-4.ensures;
+    }

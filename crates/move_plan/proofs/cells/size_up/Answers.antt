@@ -1,0 +1,82 @@
+-- `move_plan::cells::size_up` meets its contract. The loop's invariant: the need of the pages that were passed. Assumes nothing.
+use mathlib.Core.Path.{◌≡◌, refl, ◌∙◌}
+use Prim.Native.Nat.{◌+◌, ◌-◌, ◌*◌, ◌≤◌}
+use native.Mathlib.Omega.{arith}
+use lib.ListN.{length, length-set}
+use Rattle.store.specs.Plain.{need}
+use Rattle.store.specs.Reading.{list_in}
+use Rattle.move_plan.specs.Code.Plan.{Counted, shifted}
+use Rattle.move_plan.proofs.PlanSteps.{after-fits, cells-asked, counted_next, entry_in, had-few, had-more, need-most}
+use Rattle.move_plan.proofs.PlanSteps.{needs-begin, needs-end, needs-more, out-low, pages-few, sum_fits}
+use borrow.Author.Rules.{rules}
+use Rattle.move_plan.proofs.cells.size_up.Goals as goal
+
+pub loop-p-init : goal.loop-p-init
+loop-p-init c =
+    let h = c.requires.shiftable.0 in
+    (omega arith, omega (arith, h.some), refl, λ q l r. absurd (omega arith), needs-begin h, omega arith, omega arith)
+
+pub entry_at-requires : goal.entry_at-requires
+entry_at-requires c = omega (arith, pages-few c.requires.shiftable.0)
+
+pub get4-requires : goal.get4-requires
+get4-requires c = omega (arith, entry_in c.requires.shiftable.0 c.loop-p.p (omega arith), c.entry_at.ensures)
+
+pub overflow_cast-sum : goal.overflow_cast-sum
+overflow_cast-sum c =
+    let l = c.loop-p in
+    let e = c.entry_at.ensures in
+    let r = c.get4.ensures.is in
+    omega (arith, out-low c.requires.shiftable.0 (omega arith) e r l.invariant.0 c.args.leaving.now c.requires.leaves.0 refl, sum_fits c.requires.shiftable.0 (omega arith) e r)
+
+pub overflow_sub-sum : goal.overflow_sub-sum
+overflow_sub-sum c =
+    let l = c.loop-p in
+    let e = c.entry_at.ensures in
+    let r = c.get4.ensures.is in
+    out-low c.requires.shiftable.0 (omega arith) e r l.invariant.0 c.args.leaving.now c.requires.leaves.0 refl
+
+pub coming-requires : goal.coming-requires
+coming-requires c = (c.loop-p.invariant.0, omega arith, c.requires.shiftable.1)
+
+pub cells_of-k-requires : goal.cells_of-k-requires
+cells_of-k-requires c =
+    after-fits c.requires.shiftable.0 (omega arith) c.entry_at.ensures c.get4.ensures.is c.loop-p.invariant.0 c.args.leaving.now c.requires.leaves.0
+    c.coming.ensures
+
+pub overflow_cast-had : goal.overflow_cast-had
+overflow_cast-had c =
+    let l = c.loop-p in
+    let o = c.requires.leaves.1 l.p l.invariant.0 (omega arith) in
+    omega (arith, o, had-few c.requires.shiftable.0 l.p)
+
+pub overflow_add-had : goal.overflow_add-had
+overflow_add-had c =
+    let l = c.loop-p in
+    let o = c.requires.leaves.1 l.p l.invariant.0 (omega arith) in
+    omega (arith, o, had-few c.requires.shiftable.0 l.p, need-most c.requires.shiftable.0 l.p, pages-few c.requires.shiftable.0)
+
+pub overflow_add-asked : goal.overflow_add-asked
+overflow_add-asked c = omega (arith, c.cells_of-k.ensures.1, pages-few c.requires.shiftable.0)
+
+pub loop-p-preserved : goal.loop-p-preserved
+loop-p-preserved c =
+    let l = c.loop-p in
+    let o = c.requires.leaves.1 l.p l.invariant.0 (omega arith) in
+    let h = c.requires.shiftable.0 in
+    let k = cells-asked h (omega arith) c.entry_at.ensures c.get4.ensures.is l.invariant.0 c.args.leaving.now c.requires.leaves.0
+    c.coming.ensures c.cells_of-k.ensures.0 in (
+      omega arith,
+      omega arith,
+      length-set l.new _ _ ∙ l.invariant.2,
+      counted_next c.args.m (shifted c.args.m (list_in c.args.s.now)) l.new l.p _ (omega arith) l.invariant.3 k,
+      needs-more h l.p l.had l.asked l.invariant.4 o k,
+      had-more h l.p l.had l.invariant.5 o,
+      omega (arith, c.cells_of-k.ensures.1),
+    )
+
+pub returns : goal.returns
+returns c =
+    let l = c.loop-p in
+    let e : l.p ≡ c.args.m.end = omega arith in
+    record { needs = needs-end c.requires.shiftable.0 l.p l.had l.asked e l.invariant.4 l.invariant.5 l.invariant.6; counted = λ q f r. l.invariant.3 q f (omega arith) }

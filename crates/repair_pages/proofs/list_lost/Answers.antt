@@ -1,0 +1,104 @@
+-- `repair_pages::list_lost` meets its contract. The invariant: the marks, the total and the list are those of the pages passed. Assumes nothing.
+use mathlib.Core.Path.{ap}
+use mathlib.Core.Logic.{⊎_elim}
+use Prim.Native.Nat.{ℕ, ◌-◌, ◌≤◌}
+use native.Mathlib.Omega.{arith}
+use lib.ListN.{length, length-replicate}
+use Rattle.store.specs.Code.Checked.{marks_length}
+use Rattle.repair_pages.proofs.ListSteps.{Turn, along-fits, along-start, noted-few, noted-start, turn-fits, turn-no, turn-yes, turns-done}
+use borrow.Author.Rules.{rules}
+use Rattle.repair_pages.proofs.list_lost.Goals as goal
+
+pub of-h-requires : goal.of-h-requires
+of-h-requires c = omega (arith, c.requires.fitting.long)
+
+pub loop-p-init : goal.loop-p-init
+loop-p-init c =
+    (omega arith, record { along = along-start _ _ c.requires.unmarked; noted = noted-start _ c.args.lost.now })
+
+pub keep_page-requires : goal.keep_page-requires
+keep_page-requires c =
+    let h = c.of-h.ensures in
+    let l = c.loop-p in
+    let q = c.requires in
+    record {
+      head = h;
+      fitting = q.fitting;
+      inside = omega (arith, h.pages-is, c.loop-p-test.true);
+      tabled = q.tabled;
+      marks = l.invariant.1.along.long;
+      fits = along-fits _ _ l.p l.total l.invariant.1.along;
+    }
+
+pub entry_at-requires : goal.entry_at-requires
+entry_at-requires c =
+    let f = c.requires.fitting in
+    let h = c.of-h.ensures in
+    omega (arith, h.pages-is, f.limits.pages-high)
+
+pub get4-total-requires : goal.get4-total-requires
+get4-total-requires c =
+    let f = c.requires.fitting in
+    let h = c.of-h.ensures in
+    omega (arith, h.pages-is, f.long, c.entry_at.ensures)
+
+pub overflow_add-total : goal.overflow_add-total
+overflow_add-total c =
+    let l = c.loop-p in
+    let f = c.requires.fitting in
+    omega (
+      arith,
+      turn-fits _ _ _ _ _ l.p l.total l.n f.limits.cells-high l.invariant.1 c.keep_page.ensures c.if-keep_page.true
+          c.entry_at.ensures c.get4-total.ensures,
+    )
+
+pub offset_bounds-lost-n : goal.offset_bounds-lost-n
+offset_bounds-lost-n c =
+    let l = c.loop-p in
+    let h = c.of-h.ensures in
+    omega (arith, noted-few _ _ _ l.n l.p l.invariant.1.noted, h.pages-small, c.loop-p-test.true)
+
+pub bounds-lost-n : goal.bounds-lost-n
+bounds-lost-n c =
+    let l = c.loop-p in
+    let h = c.of-h.ensures in
+    let q = c.requires in
+    omega (arith, noted-few _ _ _ l.n l.p l.invariant.1.noted, l.invariant.1.noted.long, q.room, h.pages-is, c.loop-p-test.true)
+
+pub overflow_add-n : goal.overflow_add-n
+overflow_add-n c =
+    let l = c.loop-p in
+    let h = c.of-h.ensures in
+    omega (arith, noted-few _ _ _ l.n l.p l.invariant.1.noted, h.pages-small, c.loop-p-test.true)
+
+pub loop-p-preserved : goal.loop-p-preserved
+loop-p-preserved c =
+    let l = c.loop-p in
+    let h = c.of-h.ensures in
+    let q = c.requires in
+    let k = c.keep_page in
+    let few = q.fitting.limits.cells-high in
+    let lt = c.loop-p-test.true in (
+      omega arith,
+      ⊎_elim
+          (λ w. turn-yes _ _ _ _ _ _ l.p l.total l.n few l.invariant.1 k.ensures w.0.taken w.1.ensures w.2.ensures w.3 w.4 w.5)
+          (λ w.
+          turn-no _ _ _ _ _ _ l.p l.total l.n few l.invariant.1 k.ensures w.0.left
+          (omega (arith, noted-few _ _ _ l.n l.p l.invariant.1.noted, q.room, h.pages-is)) w.1 w.2 w.3)
+          c.if-keep_page.branch,
+    )
+
+pub shape_of-marks : goal.shape_of-marks
+shape_of-marks c =
+    let l = c.loop-p in
+    let q = c.requires in
+    omega (arith, l.invariant.1.along.long, ap length q.unmarked, length-replicate {A = ℕ} marks_length 0)
+
+pub shape_of-lost : goal.shape_of-lost
+shape_of-lost c = omega (arith, c.loop-p.invariant.1.noted.long)
+
+pub returns : goal.returns
+returns c =
+    let l = c.loop-p in
+    let h = c.of-h.ensures in
+    turns-done _ _ _ _ l.total l.n l.p (omega (arith, h.pages-is, c.loop-p-test.false)) l.invariant.1

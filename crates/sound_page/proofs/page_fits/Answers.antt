@@ -1,0 +1,63 @@
+-- `sound_page::page_fits` meets its contract: each return is one of the three tests of a page's code. Assumes nothing.
+use mathlib.Core.Path.{◌≡◌, sym, ◌∙◌}
+use mathlib.Core.Bool.{true}
+use native.Mathlib.Omega.{arith}
+use borrow.Author.Rules.{rules}
+use borrow.Author.Tests.{not-false}
+use Rattle.bits.specs.Bits.{bits}
+use Rattle.tree.specs.Code.Exact.{exact}
+use Rattle.sound_page.proofs.PageTest.{few, fits-hours, fits-no-rest, fits-no-tree, fits-none, holds, page-lies}
+use Rattle.sound_page.proofs.page_fits.Goals as goal
+
+pub returns-then-s-eq0 : goal.returns-then-s-eq0
+returns-then-s-eq0 c =
+    let pre = c.requires in
+    fits-none pre.0 pre.1 (λ i. omega (arith, c.type_inv.code i)) c.if-s-eq0.true
+
+pub check-requires : goal.check-requires
+check-requires c = (page-lies c.requires.0, c.requires.2)
+
+pub returns-then-not-check : goal.returns-then-not-check
+returns-then-not-check c =
+    let pre = c.requires in
+    fits-no-tree pre.0 pre.1 (λ i. omega (arith, c.type_inv.code i)) c.check.ensures c.if-not-check.true-raw
+
+pub overflow_mul-k : goal.overflow_mul-k
+overflow_mul-k c =
+    let pre = c.requires in
+    omega (arith, few pre.0 pre.1)
+
+pub overflow_sub-k : goal.overflow_sub-k
+overflow_sub-k c =
+    let pre = c.requires in
+    omega (arith, c.reserve_of-used.ensures, holds pre.0 pre.1)
+
+pub zero_bits-requires : goal.zero_bits-requires
+zero_bits-requires c =
+    let pre = c.requires in
+    let most = few pre.0 pre.1 in
+    let room = holds pre.0 pre.1 in
+    let used = c.reserve_of-used.ensures in
+    let long = pre.0.long in
+    (omega arith, omega arith, omega arith)
+
+-- past the test of its tree
+tree-fits : (t : goal.Else-not-check)
+    → exact 6 t.args.s (bits t.args.code.now) 0 ≡ true
+tree-fits t = sym t.check.ensures ∙ not-false t.check.result t.if-not-check.false-raw
+
+pub returns-then-not-zero_bits : goal.returns-then-not-zero_bits
+returns-then-not-zero_bits c =
+    let pre = c.requires in
+    fits-no-rest pre.0 pre.1 (λ i. omega (arith, c.type_inv.code i)) (tree-fits c.before.before.before)
+    c.reserve_of-used.ensures c.zero_bits.ensures c.if-not-zero_bits.true-raw
+
+pub hours_fit-requires : goal.hours_fit-requires
+hours_fit-requires c =
+    (c.requires.0, tree-fits c.before.before.before)
+
+pub returns : goal.returns
+returns c =
+    let pre = c.requires in
+    fits-hours pre.0 pre.1 (λ i. omega (arith, c.type_inv.code i)) (tree-fits c.before.before.before.before)
+    c.reserve_of-used.ensures c.zero_bits.ensures c.if-not-zero_bits.false-raw c.hours_fit.ensures

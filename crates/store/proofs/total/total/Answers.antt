@@ -1,0 +1,20 @@
+-- `store::total::total` meets its contract. Assumes nothing.
+use mathlib.Core.Path.{ap, ◌∙◌}
+use Prim.Native.Nat.{ℕ}
+use native.Mathlib.Omega.{arith}
+use Rattle.lists.specs.Lists.{sum, tabulate}
+use Rattle.store.specs.Reading.{sum_in}
+use Rattle.store.proofs.SoundFacts.{facts}
+use Rattle.store.proofs.TotalLaws.{total-all}
+use Rattle.store.proofs.total.total.Goals as goal
+
+pub page_sums-requires : goal.page_sums-requires
+page_sums-requires c =
+    let f = facts c.args.s.now c.requires.0 in
+    (omega (arith, c.requires.1, f.pages-high), omega (arith, c.requires.1, f.long))
+
+pub returns : goal.returns
+returns c =
+    let a = c.args in
+    let q = c.requires in
+    c.page_sums.ensures ∙ ap (λ (z : ℕ). sum (tabulate z (sum_in a.s.now))) q.1 ∙ total-all a.s.now q.0

@@ -1,0 +1,37 @@
+-- `tree_lowest::zero_bits` meets its contract. The loop's invariant: the answer is that of the bits that are left to be looked at.
+-- Assumes nothing.
+use mathlib.Core.Path.{◌≡◌, sym, ap₂, ◌∙◌}
+use Prim.Native.Nat.{◌+◌, ◌-◌, ◌≤◌}
+use native.Mathlib.Omega.{arith}
+use borrow.Author.Rules.{rules}
+use Rattle.bits.specs.Bits.{bits}
+use Rattle.tree.specs.Code.Exact.{clear}
+use Rattle.tree.proofs.Clearing.{clear-on, clear-not, clear_none}
+use Rattle.tree_lowest.proofs.zero_bits.Goals as goal
+
+pub loop-done-init : goal.loop-done-init
+loop-done-init c =
+    let a = c.args in
+    let e : a.at ≡ a.at + 0 = omega arith in
+    let f : a.n ≡ a.n - 0 = omega arith in
+    (omega arith, ap₂ (clear (bits a.b.now)) e f)
+
+pub returns-then-get_field-ne0 : goal.returns-then-get_field-ne0
+returns-then-get_field-ne0 c =
+    let l = c.loop-done in
+    let v = c.get_field in
+    let pre = c.requires in
+    sym (l.invariant.1 ∙ clear-not _ _ _ _ c.smaller-k.result v.result (omega arith) pre.0 v.ensures c.if-get_field-ne0.true)
+
+pub loop-done-smaller : goal.loop-done-smaller
+loop-done-smaller c = omega arith
+
+pub loop-done-preserved : goal.loop-done-preserved
+loop-done-preserved c =
+    let l = c.loop-done in
+    let v = c.get_field in
+    let pre = c.requires in
+    (omega arith, l.invariant.1 ∙ clear-on _ _ _ _ _ v.result (omega arith) pre.0 v.ensures c.if-get_field-ne0.false)
+
+pub returns : goal.returns
+returns c = clear_none _ _ _ (omega arith) ∙ sym c.loop-done.invariant.1

@@ -1,0 +1,8 @@
+-- `tree_whole::sparse::spread` meets its contract. Assumes nothing.
+use native.Mathlib.Omega.{arith}
+use borrow.Author.Rules.{rules}
+use Rattle.tree_whole.proofs.FewCounts.{quarters-put}
+use Rattle.tree_whole.proofs.sparse.spread.Goals as goal
+
+pub returns : goal.returns
+returns c = quarters-put c.args.x c.args.out.now c.args.from (omega (arith, c.requires.0, c.requires.1))

@@ -1,0 +1,11 @@
+-- `tree_word::eight` meets its contract. Assumes nothing.
+use mathlib.Core.Path.{refl}
+use Rattle.bits.specs.Bits.{field}
+use Rattle.tree_word.proofs.Empty.{zeros-written}
+use borrow.Author.Rules.{rules}
+use Rattle.tree_word.proofs.eight.Goals as goal
+
+pub returns-then-s-eq0 : goal.returns-then-s-eq0
+returns-then-s-eq0 c =
+    let a = c.args in
+    zeros-written a.out.now _ (field 64 a.w) a.from 8 3 a.s 0 refl c.if-s-eq0.true c.zeros.ensures

@@ -1,0 +1,13 @@
+-- `words::of_stretch` meets its contract. Assumes nothing.
+use Rattle.std.proofs.Common.{sym, ap, ◌∙◌, rules}
+use Rattle.words.specs.End.{end_of_stretch}
+use Rattle.words.specs.Words.{word_of}
+use Rattle.words.proofs.of_stretch.Goals as goal
+
+pub returns-in-Run : goal.returns-in-Run
+unfolding word_of end_of_stretch
+returns-in-Run c = c.pair.ensures ∙ sym (ap (λ z. word_of (end_of_stretch z)) c.in-Run.is)
+
+pub returns-in-Refused : goal.returns-in-Refused
+unfolding word_of end_of_stretch
+returns-in-Refused c = c.minus.ensures ∙ sym (ap (λ z. word_of (end_of_stretch z)) c.in-Refused.is)
