@@ -8,7 +8,7 @@ use Rattle.sum_marks.proofs.PrefixLaws.{prefix-more, tried-reached}
 use Rattle.sum_marks.proofs.prefix.reach.Given as goal
 
 abbrev pub invariant-loop-i : goal.invariant-loop-i
-invariant-loop-i l = PrefixOf l.counts l.n l.want (record { hours = l.i; l.sum = l.sum })
+invariant-loop-i l = PrefixOf l.counts l.n l.want (record { hours = l.i; sum = l.sum })
 
 abbrev pub decreases-loop-i : goal.decreases-loop-i
 decreases-loop-i l = l.n - l.i
