@@ -3,53 +3,47 @@
 
 ghost use Rattle.std.specs.Prelude.{◌≤◌, length};
 
-use libc::{STDERR_FILENO, STDIN_FILENO, STDOUT_FILENO};
+use std::io::Read;
 
-// Writes replies. A program has no exit status of its own to tell by that it could not: it says so on standard error.
-fn write(text: &[u8]) -> bool {
-    if io::write_all(STDOUT_FILENO, text) {
+// Writes replies. The program's exit status is always 0: that it could not, it says on standard error.
+fn write<R: Print + Eprint>(rt: &R, text: &[u8]) -> bool {
+    if rt.write_all(text).is_ok() {
         return true;
     }
-    io::write_all(
-        STDERR_FILENO,
-        b"hourlog: standard output cannot be written\n",
-    );
+    let _ = rt.eprintln("hourlog: standard output cannot be written");
     false
 }
 
 // Reads to the input's end, and answers the last line. A byte of the input gives at most 32 to write, so out has room for a chunk's replies.
-fn run(store: &mut [u8], out: &mut [u8])
+fn run<R: Input + Print + Eprint>(rt: &R, store: &mut [u8], out: &mut [u8])
     requires in_bounds { 63760 ≤ length store.old }
     requires in_bounds_2 { 131072 ≤ length out.old }
 {
+    let mut input = rt.reader();
     let mut line = [0u8; 41];
-    let mut chunk = io::buffer();
+    let mut chunk = [0u8; 4096];
     let mut place = dialogue::start();
     // more turns than any input has: they bound the loop, so that it is known to end
-    let mut turns = u64::MAX;
-    while turns > 0 {
-        let got = libc::read(STDIN_FILENO, &mut chunk);
-        if got < 0 {
-            io::write_all(STDERR_FILENO, b"hourlog: standard input cannot be read\n");
+    for _ in 0..u64::MAX {
+        let Ok(n) = input.read(&mut chunk) else {
+            let _ = rt.eprintln("hourlog: standard input cannot be read");
             return;
-        }
-        if got == 0 {
+        };
+        if n == 0 {
             break;
         }
-        let n = io::count(got, &chunk);
         place = dialogue::feed(store, &mut line, place, &chunk[..n], out);
         let said = place.said;
-        if !write(&out[..said]) {
+        if !write(rt, &out[..said]) {
             return;
         }
-        turns -= 1;
     }
     let said = dialogue::close(store, &line, place, out);
-    write(&out[..said]);
+    write(rt, &out[..said]);
 }
 
-fn main() {
+fn main(rt: HostRuntime) {
     let mut store = [0u8; 63760];
     let mut out = [0u8; 131072];
-    run(&mut store, &mut out);
+    run(&rt, &mut store, &mut out);
 }

@@ -1,15 +1,18 @@
--- A number's decimal digits: they are digits, their value is the number, and none in front is a zero that is not needed. Those that the
--- kit's io writes are these. Assumes nothing.
+-- A number's decimal digits: they are digits, their value is the number, and none in front is a zero that is not needed. Those that
+-- std prints are these. Assumes nothing.
 use mathlib.Core.Path.{◌≡◌, refl, sym, ap, ap₂, ◌∙◌}
 use mathlib.Core.Bool.{true}
-use mathlib.Core.List.{List, [], ◌∷◌, ◌++◌, map}
+use mathlib.Core.List.{List, [], ◌∷◌, ◌++◌, map, append_assoc, append-nil}
 use Prim.Native.Nat.{ℕ, zero, suc, ◌+◌, ◌-◌, ◌*◌, ◌/◌, ◌%◌, ◌^◌, ◌≤◌, ◌<◌}
-use native.Mathlib.Nat.{pow-succ', one-le-pow}
+use native.Mathlib.Nat.{pow-succ'}
+use native.Mathlib.Numerals.{add-one}
 use native.Mathlib.Omega.{arith}
 use native.Mathlib.Decide.{dec_le}
-use lib.ListN.{length, length-append}
+use lib.ListN.{length, drop, set, length-append, length-set}
+use Rattle.std.specs.Fmt.{decimal as printed_decimal}
+use Rattle.std.proofs.lemmas.Fmt.{decimal_by_steps}
+use Rattle.std.proofs.lemmas.List.{drop_all, drop-set}
 use borrow.Author.Tests.{le-leb, lt-ltb, le-ltb}
-use Rattle.io.specs.Digits.{hex_digit_ascii, last_digits, IsDigitCount}
 use Rattle.lists.specs.Lists.{pick, every, first}
 use Rattle.lists.proofs.Tests.{both, left, right}
 use Rattle.session.specs.Number.{is_decimal_digit, value_from, value, digits_only, number}
@@ -100,55 +103,70 @@ read_back n h =
     whole [] l = absurd (omega arith)
     whole (d ∷ ds) l = refl
 
--- the digits that the kit writes, as many as it counts
-fewer : (n j : ℕ) → IsDigitCount 10 1 n (suc (suc j)) → IsDigitCount 10 1 (n / 10) (suc j)
-fewer n j f = (omega arith, tenth-below (suc j) n f.1, λ q. rw e' (omega (arith, pow-succ' 10 j, a)))
-  where
-    e : suc (suc j) - 1 ≡ suc j
-    e = omega arith
+-- the digits that std prints
+same_one : (m n : ℕ) → 1 ≤ m → n < 10 → (48 + n) ∷ [] ≡ decimal_in m n
+same_one zero n l h = absurd (omega arith)
+same_one (suc m) n l h = sym (one-digit m n h)
 
-    e' : suc j - 1 ≡ j
-    e' = omega arith
+same_more : (m n : ℕ) (ds : List ℕ) → 1 ≤ m → n < 10 ^ m → 10 ≤ n → ((j : ℕ) → 1 ≤ j → n / 10 < 10 ^ j → ds ≡ decimal_in j (n / 10))
+    → ds ++ ((48 + n % 10) ∷ []) ≡ decimal_in m n
+same_more zero n ds l h p ih = absurd (omega arith)
+same_more (suc m) n ds l h p ih =
+    ap (λ (z : List ℕ). z ++ ((48 + n % 10) ∷ [])) (ih m (some-power m n p h) (tenth-below m n h)) ∙ sym (more-digits m n p)
 
-    a : 10 ^ suc j ≤ n
-    a = rw e at (f.2 (omega arith))
+pub same_digits : (n : ℕ) → n < 2 ^ 64 → printed_decimal n ≡ decimal n
+same_digits n h =
+    decimal_by_steps (λ (k : ℕ) (ds : List ℕ). (m : ℕ) → 1 ≤ m → k < 10 ^ m → ds ≡ decimal_in m k)
+    (λ k s m l b. same_one m k l s)
+    (λ k ds p ih m l b. same_more m k ds l b p ih)
+    n h 20 (omega arith) (omega arith)
 
-two_digits : (n j : ℕ) → IsDigitCount 10 1 n (suc (suc j)) → 10 ≤ n
-two_digits n j f = omega (arith, pow-succ' 10 j, one-le-pow j 10 (omega arith), a)
-  where
-    e : suc (suc j) - 1 ≡ suc j
-    e = omega arith
+-- the digits that are written so far, from the last one back to the place behind at, and the digits of the number that is left
+pub record IsPartlyWritten (n at rest : ℕ) (digits : List ℕ) : Type 0 where
+  pub place : at < 20
+  pub room : length digits ≡ 20
+  pub left : rest < 10 ^ suc at
+  pub joined : decimal n ≡ decimal_in (suc at) rest ++ drop (suc at) digits
 
-    a : 10 ^ suc j ≤ n
-    a = rw e at (f.2 (omega arith))
+-- nothing is written yet
+pub write_start : (n : ℕ) (digits : List ℕ) → n < 2 ^ 64 → length digits ≡ 20 → IsPartlyWritten n 19 n digits
+write_start n digits h l = record {
+  place = omega arith;
+  room = l;
+  left = omega arith;
+  joined = rw (drop_all 20 digits (omega arith), append-nil);
+}
 
-glyph-digit : (d : ℕ) → d < 10 → hex_digit_ascii d ≡ 48 + d
-glyph-digit d h = rw (lt-ltb d 10 h)
+-- the place behind one that was written
+behind-set : (digits : List ℕ) (i d : ℕ) → i < length digits → drop i (set digits i d) ≡ d ∷ drop (suc i) digits
+behind-set digits i d h = rw add-one at (drop-set digits i d h)
 
-one_same : (m k n : ℕ) → n < 10 → IsDigitCount 10 1 n k → last_digits 10 k n ≡ decimal_in (suc m) n
-one_same m zero n h f = absurd (omega (arith, f.0))
-one_same m (suc zero) n h f =
-    ap (λ (d : ℕ). d ∷ []) (glyph-digit (n % 10) (omega arith) ∙ omega arith) ∙ sym (one-digit m n h)
-one_same m (suc (suc j)) n h f = absurd (omega (arith, two_digits n j f))
+-- one digit more
+pub write_more : (n at rest at' : ℕ) (digits : List ℕ) → 10 ≤ rest → IsPartlyWritten n at rest digits → at ≡ at' + 1
+    → IsPartlyWritten n at' (rest / 10) (set digits at (48 + rest % 10))
+write_more n at rest at' digits h w e =
+    let d : ℕ = 48 + rest % 10 in
+    let s : suc at' ≡ at = omega arith in
+    record {
+      place = omega (arith, w.place);
+      room = omega (arith, length-set digits at d, w.room);
+      left = rw s (tenth-below at rest w.left);
+      joined =
+          w.joined ∙ ap (λ (z : List ℕ). z ++ drop (suc at) digits) (more-digits at rest h)
+          ∙ append_assoc (decimal_in at (rest / 10)) (d ∷ []) (drop (suc at) digits)
+          ∙ ap (λ (z : List ℕ). decimal_in at (rest / 10) ++ z) (sym (behind-set digits at d (omega (arith, w.place, w.room))))
+          ∙ ap (λ (k : ℕ). decimal_in k (rest / 10) ++ drop k (set digits at d)) (sym s);
+    }
 
-more_same : (m k n : ℕ) → 10 ≤ n → IsDigitCount 10 1 n k → ((j : ℕ) → IsDigitCount 10 1 (n / 10) j → last_digits 10 j (n / 10) ≡ decimal_in m (n / 10))
-    → last_digits 10 k n ≡ decimal_in (suc m) n
-more_same m zero n h f ih = absurd (omega (arith, f.0))
-more_same m (suc zero) n h f ih = absurd (omega (arith, f.1))
-more_same m (suc (suc j)) n h f ih =
-    ap₂ (λ (ds : List ℕ) (d : ℕ). ds ++ (d ∷ [])) (ih (suc j) (fewer n j f)) (glyph-digit (n % 10) (omega arith)) ∙ sym (more-digits m n h)
+-- a number of two digits or more has a place left in front
+pub room_left : (n at rest : ℕ) (digits : List ℕ) → 10 ≤ rest → IsPartlyWritten n at rest digits → 1 ≤ at
+room_left n at rest digits h w = some-power at rest h w.left
 
-same_in : (m n : ℕ) → 1 ≤ m → n < 10 ^ m → (k : ℕ) → IsDigitCount 10 1 n k → last_digits 10 k n ≡ decimal_in m n
-same_in zero n l h k f = absurd (omega arith)
-same_in (suc m) n l h k f = go (dec_le 10 n) (same_in m (n / 10))
-  where
-    go : Dec (10 ≤ n) → (1 ≤ m → n / 10 < 10 ^ m → (k : ℕ) → IsDigitCount 10 1 (n / 10) k → last_digits 10 k (n / 10) ≡ decimal_in m (n / 10))
-        → last_digits 10 k n ≡ decimal_in (suc m) n
-    go (yes p) ih = more_same m k n p f (ih (some-power m n p h) (tenth-below m n h))
-    go (no p) ih = one_same m k n (omega arith) f
-
-pub same_digits : (k n : ℕ) → n < 2 ^ 64 → IsDigitCount 10 1 n k → last_digits 10 k n ≡ decimal n
-same_digits k n h f = same_in 20 n (omega arith) (omega arith) k f
+-- the last digit left
+pub write_last : (n at rest : ℕ) (digits : List ℕ) → rest < 10 → IsPartlyWritten n at rest digits → drop at (set digits at (48 + rest)) ≡ decimal n
+write_last n at rest digits h w =
+    behind-set digits at (48 + rest) (omega (arith, w.place, w.room))
+    ∙ sym (w.joined ∙ ap (λ (z : List ℕ). z ++ drop (suc at) digits) (one-digit at rest h))
 
 -- there are at most twenty
 pub decimal-length : (k n : ℕ) → length (decimal_in k n) ≤ k

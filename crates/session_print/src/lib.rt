@@ -1,7 +1,7 @@
 // The line that answers a line.
 #![tactic(auto)]
 
-ghost use Rattle.std.specs.Prelude.{◌≡◌, [], ◌∷◌, ◌++◌, ◌+◌, ◌≤◌, length};
+ghost use Rattle.std.specs.Prelude.{◌≡◌, [], ◌∷◌, ◌++◌, ◌+◌, ◌≤◌, ◌<◌, length, drop};
 ghost use Rattle.lists.specs.Lists.{splice};
 ghost use Rattle.session_print.specs.Printed.{decimal, Prints};
 
@@ -27,6 +27,22 @@ fn put(out: &mut [u8], at: usize, text: &[u8]) -> usize
     at + i
 }
 
+// Writes a number's digits at the end of digits, and answers where the first of them stands.
+fn write_digits(n: u64, digits: &mut [u8; 20]) -> usize
+    ensures in_bounds { result < length digits.new }
+    ensures value { drop result digits.new ≡ decimal n }
+{
+    let mut at = 19;
+    let mut rest = n;
+    while rest >= 10 {
+        digits[at] = b'0' + (rest % 10) as u8;
+        rest /= 10;
+        at -= 1;
+    }
+    digits[at] = b'0' + rest as u8;
+    at
+}
+
 // Puts a number's digits and a line end at a place of out, and answers the place behind them.
 fn put_number(out: &mut [u8], at: usize, n: u64) -> usize
     requires { at + 21 ≤ length out.old }
@@ -34,8 +50,8 @@ fn put_number(out: &mut [u8], at: usize, n: u64) -> usize
     ensures out_after { out.new ≡ splice out.old at (decimal n ++ (10 ∷ [])) }
 {
     let mut digits = [0u8; 20];
-    let k = io::decimal(n, &mut digits);
-    let end = put(out, at, &digits[..k]);
+    let first = write_digits(n, &mut digits);
+    let end = put(out, at, &digits[first..]);
     put(out, end, b"\n")
 }
 

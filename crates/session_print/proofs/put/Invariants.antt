@@ -1,10 +1,5 @@
--- `session_print::put` meets its contract. Assumes nothing.
-use mathlib.Core.Path.{◌≡◌}
-use Prim.Native.Nat.{◌-◌, ◌≤◌}
-use native.Mathlib.Omega.{arith}
-use lib.ListN.{length}
-use lib.Seq.{paste, paste-zero}
-use Rattle.session_print.proofs.PrintLaws.{put-room, put-turn, put_all}
+use Rattle.std.proofs.Common.{length, ◌-◌, ◌≡◌, ◌≤◌}
+use lib.Seq.{paste}
 use Rattle.session_print.proofs.put.Given as goal
 
 abbrev pub invariant-loop-i : goal.invariant-loop-i
