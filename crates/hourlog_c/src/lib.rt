@@ -1,4 +1,4 @@
-// The C interface: include/hourlog.h declares these functions. Each hands the lent bytes on and packs the answer into one word.
+// The calls of the C interface, as functions: each hands the lent bytes on and packs the answer into one word. The crate hourlog_c_c exports them.
 #![tactic(auto)]
 
 pub mod image_calls;

@@ -1,0 +1,92 @@
+// The frozen image, for C. Each contract states what every lent slice is afterwards, also of those that are lent to read only.
+ghost use Rattle.std.specs.Prelude.{[], ◌∷◌};
+ghost use Rattle.hourlog_c.specs.Public.{Freeze, ImageBusiest, ImageCheck, ImageCount, ImageFromBcd, ImageLength, ImageMatch, ImageReach};
+ghost use Rattle.hourlog_c.specs.Public.{ImageMerge, ImageReading, ImageToBcd, ImageWrite};
+ghost use Rattle.hourlog_c.specs.Export.{Answers};
+
+use hourlog_c::image_calls;
+
+#[unsafe(no_mangle)]
+pub extern "C" fn hourlog_freeze(store: &[u8], e: u32, image: &mut [u8]) -> u64
+    ensures { Answers (Freeze store.now e image.old) result (store.now ∷ image.new ∷ []) }
+{
+    image_calls::hourlog_freeze(store, e, image)
+}
+
+#[unsafe(no_mangle)]
+pub extern "C" fn hourlog_image_length(counts: &[u32], e: u32) -> u64
+    ensures { Answers (ImageLength counts.now e) result (counts.now ∷ []) }
+{
+    image_calls::hourlog_image_length(counts, e)
+}
+
+#[unsafe(no_mangle)]
+pub extern "C" fn hourlog_image_write(counts: &[u32], e: u32, image: &mut [u8]) -> u64
+    ensures { Answers (ImageWrite counts.now e image.old) result (counts.now ∷ image.new ∷ []) }
+{
+    image_calls::hourlog_image_write(counts, e, image)
+}
+
+#[unsafe(no_mangle)]
+pub extern "C" fn hourlog_image_check(image: &[u8]) -> u64
+    ensures { Answers (ImageCheck image.now) result (image.now ∷ []) }
+{
+    image_calls::hourlog_image_check(image)
+}
+
+#[unsafe(no_mangle)]
+pub extern "C" fn hourlog_image_count(image: &[u8], hour: u32) -> u64
+    ensures { Answers (ImageCount image.now hour) result (image.now ∷ []) }
+{
+    image_calls::hourlog_image_count(image, hour)
+}
+
+#[unsafe(no_mangle)]
+pub extern "C" fn hourlog_image_reading(image: &[u8], hour: u32) -> u64
+    ensures { Answers (ImageReading image.now hour) result (image.now ∷ []) }
+{
+    image_calls::hourlog_image_reading(image, hour)
+}
+
+#[unsafe(no_mangle)]
+pub extern "C" fn hourlog_image_reach(image: &[u8], figure: u64) -> u64
+    ensures { Answers (ImageReach image.now figure) result (image.now ∷ []) }
+{
+    image_calls::hourlog_image_reach(image, figure)
+}
+
+#[unsafe(no_mangle)]
+pub extern "C" fn hourlog_image_busiest(image: &[u8], hours: u32) -> u64
+    ensures { Answers (ImageBusiest image.now hours) result (image.now ∷ []) }
+{
+    image_calls::hourlog_image_busiest(image, hours)
+}
+
+#[unsafe(no_mangle)]
+pub extern "C" fn hourlog_image_from_bcd(book: &[u8], e: u32, image: &mut [u8]) -> u64
+    ensures { Answers (ImageFromBcd book.now e image.old) result (book.now ∷ image.new ∷ []) }
+{
+    image_calls::hourlog_image_from_bcd(book, e, image)
+}
+
+#[unsafe(no_mangle)]
+pub extern "C" fn hourlog_image_to_bcd(image: &[u8], book: &mut [u8]) -> u64
+    ensures { Answers (ImageToBcd image.now book.old) result (image.now ∷ book.new ∷ []) }
+{
+    image_calls::hourlog_image_to_bcd(image, book)
+}
+
+#[unsafe(no_mangle)]
+pub extern "C" fn hourlog_image_match(image: &[u8], figure: u64) -> u64
+    ensures { Answers (ImageMatch image.now figure) result (image.now ∷ []) }
+{
+    image_calls::hourlog_image_match(image, figure)
+}
+
+#[unsafe(no_mangle)]
+pub extern "C" fn hourlog_image_merge(first: &[u8], second: &[u8], e: u32, image: &mut [u8]) -> u64
+    ensures { Answers (ImageMerge first.now second.now e image.old) result
+        (first.now ∷ second.now ∷ image.new ∷ []) }
+{
+    image_calls::hourlog_image_merge(first, second, e, image)
+}
