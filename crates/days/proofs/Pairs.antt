@@ -54,7 +54,7 @@ pub pairs-drop : {a : ℕ} {cs : List ℕ} → Pairs a cs → (i : ℕ) → i % 
 pairs-drop w zero e = lower (omega arith) w
 pairs-drop w (suc zero) e = absurd (omega (arith, e))
 pairs-drop none (suc (suc i)) e = none
-pairs-drop (pair m p q more) (suc (suc i)) e = pairs-drop more i (omega (arith, e))
+pairs-drop {a} (pair {x} {h} {rest} m p q more) (suc (suc i)) e = pairs-drop {a = x + 1} more i (omega (arith, e))
 
 -- ---- hours and starts
 pub other-day : (x h d : ℕ) (rest : List ℕ) → (x ≡ d → ⊥) → day_hours (x ∷ h ∷ rest) d ≡ day_hours rest d

@@ -1,28 +1,28 @@
 -- The header's fields and tests, over plain numbers. Assumes nothing.
-use mathlib.Core.Path.{◌≡◌, refl, sym, ap, ap₂, ◌∙◌}
-use mathlib.Core.Bool.{Bool, true, false, ◌&&◌, and-false}
-use mathlib.Core.List.{List, [], ◌∷◌, ◌++◌}
+use mathlib.Core.Path.{◌≡◌, refl, sym, ap, ◌∙◌}
+use mathlib.Core.Bool.{Bool, true, false, ◌&&◌}
+use mathlib.Core.List.{List, [], ◌∷◌}
 use Prim.Native.Nat.{ℕ, zero, suc, ◌+◌, ◌-◌, ◌*◌, ◌/◌, ◌^◌, ◌≤◌, ◌<◌}
-use native.Mathlib.Nat.{mul-le-mul_right, pow-succ'}
+use native.Mathlib.Nat.{mul-le-mul_right}
 use native.Mathlib.Numerals.{add-one}
 use native.Mathlib.Omega.{arith}
 use lib.ListN.{length, get_or, drop, drop_of_length-le}
 use lib.Seq.{drop-cons}
 use lib.Pow.{pow_pos}
 use lib.Dec.{eqb, leb, ltb}
-use borrow.Author.Tests.{le-leb, lt-leb, le-ltb, lt-ltb, leb-true, eq-eqb, ne_eqb, eqb-true}
+use borrow.Author.Tests.{lt-leb, le-ltb, leb-true, eqb-true}
 use Rattle.lists.specs.Lists.{every, part}
-use Rattle.lists.proofs.Parts.{length_part, part-more}
-use Rattle.lists.proofs.Tests.{both, each, every-last, every-no}
-use Rattle.bits.specs.Numbers.{Number, number, number_at}
+use Rattle.lists.proofs.Parts.{length_part}
+use Rattle.lists.proofs.Tests.{each, every-no}
+use Rattle.bits.specs.Numbers.{number_at}
 use Rattle.bits.proofs.Little.{bytes-part, number_small}
 use Rattle.reserve.specs.Reserve.{digits}
 use Rattle.reserve.proofs.Exact.{digits_le}
-use Rattle.image.specs.Check.{field_tests, head_tests, headed, wide_right}
+use Rattle.image.specs.Check.{head_tests, headed, wide_right}
 use Rattle.image.specs.Code.Head.{Opened}
-use Rattle.image.specs.Image.{bits_place, bytes_for, code_start, edition, header_length, max_hours, max_total, narrow_total, pages, size, table_at, total_width, wide}
+use Rattle.image.specs.Image.{bytes_for, code_start, header_length, max_hours, max_total, narrow_total, pages, size, table_at, total_width, wide}
 use Rattle.image.specs.Read.{code_at, e_of, l_of, n_of, page_count_of, s_of, wide_of, width_of}
-use Rattle.image.proofs.Editions.{header-least, header-low, header-most}
+use Rattle.image.proofs.Editions.{header-least, header-most}
 use Rattle.image.proofs.PageLaws.{pages-tight}
 use Rattle.image.specs.declared.head.Head.{Head}
 

@@ -8,7 +8,7 @@ use native.Mathlib.Omega.{arith}
 use lib.ListN.{length, get_or, take, drop, length-append}
 use lib.Seq.{take_at, drop_at, drop-drop, take_all}
 use lib.Dec.{leb, ltb, eqb}
-use borrow.Author.Tests.{le-leb, lt-ltb, eq-eqb, ltb-true, ltb-false}
+use borrow.Author.Tests.{le-leb, eq-eqb}
 use Rattle.lists.specs.Lists.{concat, every, part, sum, tabulate}
 use Rattle.lists.proofs.Parts.{part_in, part-skip, piece}
 use Rattle.lists.proofs.Tables.{concat-at, concat-each, part-concat}
@@ -24,7 +24,7 @@ use Rattle.tree.specs.Tree.{tree}
 use Rattle.tree.proofs.Shape.{bits-tree, length-tree}
 use Rattle.image.specs.Check.{headed, wide_right}
 use Rattle.image.specs.Image.{Limits, bits_place, code, code_start, edition, header, header_in, header_length, image, max_hours, max_total, narrow_total, packed, page, page_code, pages, root, size}
-use Rattle.image.specs.Image.{start, table, table_at, total_width, wide, zero_bytes}
+use Rattle.image.specs.Image.{start, table, table_at, total_width, wide}
 use Rattle.image.specs.Read.{before_of, code_at, e_of, l_of, n_of, page_count_of, root_at, s_of, start_of, sum_of, tree_at, wide_of, width_of}
 use Rattle.image.proofs.Editions.{edition-wide, header-least, header-low, size-more, size_same, total-fits, total-low}
 use Rattle.image.proofs.Packed.{bits-packed, drop_bits, length-packed, tail}

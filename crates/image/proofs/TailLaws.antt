@@ -2,7 +2,7 @@
 use mathlib.Core.Path.{◌≡◌, refl, sym, ap, ap₂, ◌∙◌}
 use mathlib.Core.Bool.{Bool, true, false}
 use mathlib.Core.List.{List, [], ◌∷◌, ◌++◌}
-use Prim.Native.Nat.{ℕ, zero, suc, ◌+◌, ◌*◌, ◌/◌, ◌%◌, ◌^◌, ◌≤◌, ◌<◌}
+use Prim.Native.Nat.{ℕ, ◌+◌, ◌*◌, ◌/◌, ◌%◌, ◌^◌, ◌≤◌, ◌<◌}
 use native.Mathlib.Nat.{pow-succ'}
 use native.Mathlib.Omega.{arith}
 use lib.ListN.{length, get_or}
@@ -14,7 +14,7 @@ use Rattle.lists.proofs.Tests.{agree, each, every-no, every_of}
 use Rattle.bits.specs.Numbers.{Number, number, number_at}
 use Rattle.image.specs.Check.{head_tests, headed, wide_right}
 use Rattle.image.specs.Code.Head.{HeadOf, HeadWith, Opened, Tailed, TailOf}
-use Rattle.image.specs.Image.{bits_place, bytes_for, code_start, edition, header_length, max_hours, max_total, narrow_total, pages, size, total_width}
+use Rattle.image.specs.Image.{bits_place, bytes_for, edition, header_length, max_hours, max_total, narrow_total, pages, size, total_width}
 use Rattle.image.specs.Read.{code_at, e_of, l_of, n_of, page_count_of, s_of, wide_of}
 use Rattle.image.proofs.Editions.{header-most}
 use Rattle.image.proofs.HeadLaws.{never, pages-le, too_short}

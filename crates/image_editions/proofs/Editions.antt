@@ -1,26 +1,26 @@
 -- Edition 1 is as it was. Assumes nothing.
 use mathlib.Core.Bool.{Bool, true, false, ◌&&◌}
-use mathlib.Core.List.{List, [], ◌∷◌, ◌++◌}
+use mathlib.Core.List.{List, [], ◌∷◌}
 use mathlib.Core.Path.{◌≡◌, refl, sym, ap, ap₂, ◌∙◌}
-use Prim.Native.Nat.{ℕ, zero, suc, ◌+◌, ◌*◌, ◌/◌, ◌≤◌, ◌<◌}
+use Prim.Native.Nat.{ℕ, zero, suc, ◌+◌, ◌*◌, ◌/◌, ◌≤◌}
 use native.Mathlib.Omega.{arith}
 use lib.ListN.{length, get_or}
 use lib.Dec.{leb, ltb, eqb}
 use borrow.Author.Tests.{le-leb, le-ltb, leb-true, ltb-false, ne_eqb}
 use Rattle.lists.specs.Counts.{max_count, within}
 use Rattle.lists.proofs.CountLaws.{within-sum}
-use Rattle.answers.specs.Image.{Reply, fails, given, holds, refused}
+use Rattle.answers.specs.Image.{fails, given, holds, refused}
 use Rattle.lists.specs.Lists.{every, pick, same, sum}
 use Rattle.lists.proofs.Tests.{agree, both, left, right, same-is}
 use Rattle.bits.specs.Numbers.{little, number_at}
 use Rattle.tree.specs.Read.{Found, damaged, found}
 use Rattle.image.specs.Calls.{length_call, put_after, write_call}
 use Rattle.image.specs.Check.{accepted, check, headed, wide_right}
-use Rattle.image.specs.Image.{bytes_for, code, code_start, edition, header, header_in, header_length, image, max_total, narrow_total, pages, size, table_at, total_width}
+use Rattle.image.specs.Image.{bytes_for, code_start, edition, header, header_in, header_length, image, max_total, narrow_total, pages, size, table_at, total_width}
 use Rattle.image.specs.Image.{bits_place, wide}
 use Rattle.image.specs.Query.{count, ended, look, reading, reading_at, the_count, the_reading}
 use Rattle.image.specs.Read.{code_at, e_of, l_of, list_of, n_of, page_count_of, s_of, start_of, wide_of}
-use Rattle.image.proofs.HeadLaws.{headed-long, headed-wide, word-most}
+use Rattle.image.proofs.HeadLaws.{headed-long, word-most}
 use Rattle.image.proofs.Editions.{header-least}
 use Rattle.image.proofs.ReadLaws.{wide_is}
 use Rattle.image.proofs.QueryLaws.{Most, look-most}

@@ -1,7 +1,7 @@
 -- What edition 1 is, with edition 2 beside it: as before, byte for byte and answer for answer. Each definition that moved is what it was for
 -- bytes whose byte 0 is not 2, and for lists whose total is at most 4,294,967,295; no other definition of an image moved: reach, busiest, match and
 -- books speak of bytes through these. Assumes nothing.
-use Rattle.std.specs.Prelude.{Bool, true, ◌&&◌, List, [], ◌∷◌, ◌++◌, ◌≡◌, ℕ, zero, suc, ◌+◌, ◌*◌, ◌/◌, ◌≤◌, ◌<◌, length, get_or, leb, ltb, eqb}
+use Rattle.std.specs.Prelude.{Bool, ◌&&◌, List, [], ◌∷◌, ◌++◌, ◌≡◌, ℕ, zero, suc, ◌+◌, ◌*◌, ◌/◌, ◌≤◌, ◌<◌, length, get_or, leb, ltb, eqb}
 use Rattle.answers.specs.Refusals.{body_damaged, header_wrong, list_too_long, not_logged, page_size_wrong, total_too_high}
 use Rattle.answers.specs.Image.{Reply, fails, given, holds, refused}
 use Rattle.lists.specs.Lists.{every, pick, same, sum}

@@ -1,18 +1,16 @@
 -- Blocks of the sums, and plans of them. Assumes nothing.
-use mathlib.Core.Bool.{Bool, true, false, ◌&&◌}
-use mathlib.Core.List.{List, [], ◌∷◌}
+use mathlib.Core.Bool.{Bool, true, false}
+use mathlib.Core.List.{List}
 use mathlib.Core.Path.{◌≡◌, refl, sym, ap, subst, ◌∙◌}
-use Prim.Native.Nat.{ℕ, suc, ◌+◌, ◌-◌, ◌*◌, ◌^◌, ◌≤◌, ◌<◌}
+use Prim.Native.Nat.{ℕ, ◌+◌, ◌-◌, ◌*◌, ◌^◌, ◌≤◌, ◌<◌}
 use native.Mathlib.Decide.{dec_le}
 use native.Mathlib.Omega.{arith}
 use lib.ListN.{length, get_or, set, length-set, get_or-eq_default}
 use lib.Seq.{ext_get_or, get_or-set_same, get_or-set_other}
 use lib.Pow.{pow_mono}
-use lib.Dec.{leb}
-use borrow.Author.Tests.{leb-false}
 use Rattle.lists.specs.Counts.{max_count, within}
-use Rattle.lists.proofs.CountLaws.{not_within, within-at, within-each}
-use Rattle.lists.specs.Lists.{every, sum, window}
+use Rattle.lists.proofs.CountLaws.{not_within, within-each}
+use Rattle.lists.specs.Lists.{sum, window}
 use Rattle.lists.proofs.Sums.{sum-most}
 use Rattle.image_plan.specs.Code.Planning.{PageSum}
 use Rattle.lists.proofs.Blocks.{window-get, window-long}

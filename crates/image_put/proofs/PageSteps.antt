@@ -16,7 +16,7 @@ use Rattle.reserve.specs.Reserve.{digits, reserve}
 use Rattle.reserve.proofs.Exact.{digits-is}
 use Rattle.tree.specs.Tree.{tree}
 use Rattle.tree.proofs.Shape.{length-tree}
-use Rattle.image.specs.Image.{Limits, bytes_for, code, code_start, image, max_total, page, page_code, pages, root, size, start, table_at, header_length, wide}
+use Rattle.image.specs.Image.{Limits, bytes_for, code, image, max_total, page, page_code, pages, root, size, start, table_at, wide}
 use Rattle.image_put.specs.Code.Writing.{code_of, head_length, PlaceOf}
 use Rattle.image.proofs.Editions.{header-least, header-most}
 use Rattle.image.proofs.ReadLaws.{length-image}

@@ -5,7 +5,7 @@ use mathlib.Core.List.{List, [], ◌∷◌, ◌++◌, append_assoc}
 use Prim.Native.Nat.{ℕ, suc, ◌+◌, ◌-◌, ◌*◌, ◌/◌, ◌%◌, ◌≤◌, ◌<◌}
 use native.Mathlib.Omega.{arith}
 use lib.ListN.{length, get_or, drop, replicate, length-append, length-replicate}
-use lib.Seq.{get_or-drop, length-sets, sets}
+use lib.Seq.{get_or-drop, sets}
 use lib.Pow.{shr-shr}
 use borrow.Author.Tests.{le-ltb, lt-ltb}
 use Rattle.lists.specs.Lists.{concat, splice, sum, tabulate}
@@ -16,7 +16,7 @@ use Rattle.bits.specs.Numbers.{little}
 use Rattle.bits.proofs.Laws.{bits-append, length-bits}
 use Rattle.bits.proofs.Little.{Bytes, bytes-little, length-little}
 use Rattle.bits.proofs.Packing.{bits-fill}
-use Rattle.image.specs.Image.{bytes_for, code, code_start, edition, first_pages, header, header_in, header_length, image, narrow_total, packed, page_code, pages, size, start}
+use Rattle.image.specs.Image.{bytes_for, code, edition, first_pages, header, header_in, header_length, image, narrow_total, packed, page_code, pages, size, start}
 use Rattle.image.specs.Image.{table, table_at, total_width, wide, zero_bytes}
 use Rattle.image_put.specs.Code.Writing.{code_of, head_front, head_length, head_tail, laid, starts, table_and_code}
 use Rattle.image.proofs.ReadLaws.{bits-code, length-header, length-image}

@@ -15,7 +15,6 @@ use Rattle.lists.proofs.Tables.{get_d_tabulate}
 use Rattle.store.specs.Layout.{cells_start}
 use Rattle.store.specs.PageCode.{cells}
 use Rattle.store.specs.Reading.{cells_of, chain_in, first_in, hours_in, page_in, page_count_of, sum_in}
-use Rattle.store.specs.Code.Checked.{quiet}
 use Rattle.store.proofs.ItemLaws.{quiet_of}
 use Rattle.store.proofs.SoundLaws.{within_all}
 use Rattle.repair.specs.Repair.{is_kept, kept_chain, kept_of}

@@ -1,5 +1,5 @@
 -- The code goes along a chain. Assumes nothing.
-use mathlib.Core.Path.{◌≡◌, refl, sym, ap, ◌∙◌}
+use mathlib.Core.Path.{◌≡◌, refl, sym, ap, subst, ◌∙◌}
 use mathlib.Core.List.{List, [], ◌∷◌}
 use Prim.Native.Nat.{ℕ, zero, suc, ◌+◌, ◌-◌, ◌*◌, ◌≤◌, ◌<◌}
 use native.Mathlib.Nat.{not-suc-le-zero}
@@ -125,7 +125,7 @@ module _ (base C : ℕ) (lC : C ≤ max_cells) where
       let lv : length (take 30 code) ≡ 30 = omega (arith, length-take 30 code) in
       let s₁ : List ℕ = sets s (cell_at base c + 2) (take 30 code) in
       let h₁ = linked-sets s base c c (take 30 code) cs y (omega arith) h.1 in
-      rw (filled-suc s base a (length cs) c code e) (
+      subst (λ (z : List ℕ). Filled z base (c ∷ cs) code) (sym (filled-suc s base a (length cs) c code e)) (
         fill-outside cs s₁ (cell_at base c) (drop 30 code) y (cell_at base c + 2) 30 (chain-tail j) h₁
             (λ d q. code_apart base d c ((chain-tail j).from d q) w.0 (λ e. chain-new C c cs j d q (sym e)))
             ∙ (rw lv at (sets_same (take 30 code) s (cell_at base c + 2) (omega (arith, w.0, w.1)))),

@@ -8,7 +8,7 @@ use lib.Seq.{take-take}
 use Rattle.lists.specs.Lists.{concat, first, part, sum}
 use Rattle.bits.specs.Numbers.{little}
 use Rattle.store.specs.Layout.{Laid, Model, cell_at, entry, header, lay, lay_all, lay_pages, size, cells_start, entry_at}
-use Rattle.store.specs.PageCode.{cells, page_bytes}
+use Rattle.store.specs.PageCode.{page_bytes}
 use Rattle.store.specs.Plain.{page}
 use Rattle.lists.proofs.Parts.{part-front, part_in, part-more}
 use Rattle.store.proofs.Filling.{Filled}

@@ -4,7 +4,6 @@ use mathlib.Core.Bool.{true}
 use mathlib.Core.List.{List, ◌++◌}
 use Prim.Native.Nat.{ℕ, suc, ◌-◌, ◌≤◌}
 use native.Mathlib.Omega.{arith}
-use lib.ListN.{get_or}
 use Rattle.lists.specs.Counts.{max_count, within}
 use Rattle.lists.proofs.CountLaws.{within-append, within-at, within-sum}
 use Rattle.lists.proofs.Tests.{left, right}

@@ -1,16 +1,14 @@
 -- Trees of counts with a limit. Assumes nothing.
 use mathlib.Core.Path.{◌≡◌, refl, sym, ap, ◌∙◌}
-use mathlib.Core.Bool.{Bool, true, false, ◌&&◌}
-use mathlib.Core.List.{List, [], ◌∷◌, ◌++◌}
-use Prim.Native.Nat.{ℕ, zero, suc, ◌+◌, ◌^◌, ◌≤◌, ◌<◌}
+use mathlib.Core.Bool.{Bool, true, false}
+use mathlib.Core.List.{List}
+use Prim.Native.Nat.{ℕ, ◌+◌, ◌^◌, ◌≤◌}
 use native.Mathlib.Omega.{arith}
-use lib.ListN.{length, get_or, take}
-use lib.Dec.{leb}
-use borrow.Author.Tests.{le-leb, leb-true}
+use lib.ListN.{length}
 use Rattle.lists.specs.Counts.{within}
 use Rattle.lists.specs.Lists.{part, sum}
 use Rattle.lists.proofs.CountLaws.{within-sum}
-use Rattle.lists.proofs.Tests.{both, left, right}
+use Rattle.lists.proofs.Tests.{left, right}
 use Rattle.bits.proofs.Packing.{Bits}
 use Rattle.reserve.specs.Reserve.{reserve}
 use Rattle.tree.specs.Read.{counts}

@@ -1,5 +1,5 @@
 -- The counts of a tree that is some list's code, half by half. Assumes nothing.
-use mathlib.Core.Path.{◌≡◌, sym, ap, ◌∙◌, subst}
+use mathlib.Core.Path.{◌≡◌, sym, ap, ◌∙◌}
 use mathlib.Core.Bool.{true}
 use mathlib.Core.List.{List, [], ◌∷◌, ◌++◌}
 use Prim.Native.Nat.{ℕ, suc, ◌+◌, ◌-◌, ◌^◌, ◌≤◌, ◌<◌}
@@ -11,10 +11,9 @@ use lib.ListN.{length, set}
 use lib.Seq.{set_split}
 use Rattle.lists.specs.Lists.{splice}
 use Rattle.lists.proofs.Tests.{each}
-use Rattle.bits.specs.Bits.{bits}
 use Rattle.tree.specs.Read.{left_of, left_at, right_at, counts}
 use Rattle.tree.specs.Code.Exact.{clear, spare_at, spare_len, exact}
-use Rattle.tree.specs.Code.Node.{Lies, Rooted}
+use Rattle.tree.specs.Code.Node.{Rooted}
 use Rattle.tree.specs.declared.node.Split.{Split}
 use Rattle.tree.proofs.Shape.{length-counts}
 use Rattle.lists.proofs.Parts.{splice-then}

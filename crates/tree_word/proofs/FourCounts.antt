@@ -1,6 +1,5 @@
 -- Four counts out of one word. Assumes nothing.
 use mathlib.Core.Path.{◌≡◌, refl, sym, ap, ◌∙◌, subst}
-use mathlib.Core.Bool.{true}
 use mathlib.Core.List.{List, [], ◌∷◌}
 use Prim.Native.Nat.{ℕ, suc, ◌+◌, ◌-◌, ◌/◌, ◌%◌, ◌^◌, ◌≤◌, ◌<◌}
 use native.Mathlib.Nat.{lt_of_lt_of_le}
@@ -15,7 +14,6 @@ use Rattle.bits.specs.Bits.{field}
 use Rattle.reserve.specs.Reserve.{digits}
 use Rattle.reserve.proofs.Exact.{digits-is}
 use Rattle.tree.specs.Read.{left_of, left_at, right_at, counts}
-use Rattle.tree.specs.Code.Exact.{exact}
 use Rattle.tree.proofs.OneWord.{fewer_digits}
 use Rattle.tree.proofs.TwoCounts.{reserve-pair}
 use Rattle.tree_word.specs.Code.Fields.{LeftRead, Fields}

@@ -7,7 +7,6 @@ use lib.Pow.{pow_pos}
 use Rattle.lists.specs.Lists.{splice}
 use Rattle.bits.specs.Bits.{bits}
 use Rattle.bits.proofs.Zeros.{field-zero, cleared_more, cleared-bytes}
-use borrow.Author.Rules.{rules}
 use Rattle.bits_clear.proofs.clear_bits.Goals as goal
 
 pub overflow_sub-at : goal.overflow_sub-at

@@ -1,13 +1,12 @@
 -- `bits_clear::clear_bytes` meets its contract. The loop's invariant: the bytes that were passed are zeros, and nothing else changed.
 -- Assumes nothing.
 use mathlib.Core.Path.{◌≡◌, refl, ap, ◌∙◌}
-use Prim.Native.Nat.{ℕ, ◌-◌, ◌*◌, ◌≤◌}
+use Prim.Native.Nat.{ℕ, ◌*◌}
 use native.Mathlib.Omega.{arith}
-use lib.ListN.{length, replicate, length-set}
+use lib.ListN.{replicate, length-set}
 use Rattle.lists.specs.Lists.{splice}
 use Rattle.bits.specs.Bits.{bits}
 use Rattle.bits.proofs.Zeros.{cleared-none, zero-byte}
-use borrow.Author.Rules.{rules}
 use Rattle.bits_clear.proofs.clear_bytes.Goals as goal
 
 pub loop-j-init : goal.loop-j-init

@@ -1,12 +1,10 @@
 -- `bits_clear::clear_bytes` meets its contract. The loop's invariant: the bytes that were passed are zeros, and nothing else changed.
 -- Assumes nothing.
-use mathlib.Core.Path.{◌≡◌, refl, ap, ◌∙◌}
-use Prim.Native.Nat.{ℕ, ◌-◌, ◌*◌, ◌≤◌}
-use native.Mathlib.Omega.{arith}
-use lib.ListN.{length, replicate, length-set}
+use mathlib.Core.Path.{◌≡◌}
+use Prim.Native.Nat.{◌-◌, ◌*◌, ◌≤◌}
+use lib.ListN.{length, replicate}
 use Rattle.lists.specs.Lists.{splice}
 use Rattle.bits.specs.Bits.{bits}
-use Rattle.bits.proofs.Zeros.{cleared-none, zero-byte}
 use Rattle.bits_clear.proofs.clear_bytes.Given as goal
 
 abbrev pub invariant-loop-j : goal.invariant-loop-j

@@ -5,7 +5,6 @@ use native.Mathlib.Omega.{arith}
 use Rattle.lists.specs.Lists.{splice}
 use Rattle.bits.specs.Bits.{bits, field}
 use Rattle.bits.proofs.Words.{none_is, put_is}
-use borrow.Author.Rules.{rules}
 use Rattle.bits_field.proofs.add_field.Goals as goal
 
 pub with_added-requires : goal.with_added-requires

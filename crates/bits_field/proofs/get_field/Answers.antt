@@ -1,6 +1,5 @@
 -- `bits_field::get_field` meets its contract. Assumes nothing.
 use Rattle.bits.proofs.Words.{get-is}
-use borrow.Author.Rules.{rules}
 use Rattle.bits_field.proofs.get_field.Goals as goal
 
 pub returns : goal.returns

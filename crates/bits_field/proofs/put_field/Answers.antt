@@ -7,7 +7,6 @@ use Rattle.bits.specs.Bits.{bits, field}
 use Rattle.bits.proofs.Words.{empty-put}
 use native.Mathlib.Omega.{arith}
 use Rattle.bits.proofs.Words.{put_is}
-use borrow.Author.Rules.{rules}
 use Rattle.bits_field.proofs.put_field.Goals as goal
 
 pub returns-then-width-eq0 : goal.returns-then-width-eq0

@@ -1,5 +1,4 @@
 -- `bits_word::joined` meets its contract: the shift loses nothing, and y is below 2 ^ n, so `|` adds it. Assumes nothing.
-use borrow.Author.Rules.{rules}
 use native.Mathlib.Nat.{mod-eq_of_lt}
 use lib.Bits.{or_shifted}
 use Rattle.bits_word.proofs.joined.Goals as goal

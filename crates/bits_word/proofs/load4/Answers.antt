@@ -4,7 +4,6 @@ use Prim.Native.Nat.{ℕ, ◌+◌, ◌*◌}
 use native.Mathlib.Omega.{arith}
 use Rattle.bits.specs.Bits.{field}
 use Rattle.bits.proofs.Words.{word4-is}
-use borrow.Author.Rules.{rules}
 use Rattle.bits_word.proofs.load4.Goals as goal
 
 pub returns : goal.returns

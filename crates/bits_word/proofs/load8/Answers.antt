@@ -3,7 +3,6 @@ use mathlib.Core.Path.{ap, ◌∙◌}
 use native.Mathlib.Omega.{arith}
 use Rattle.bits.specs.Bits.{field}
 use Rattle.bits.proofs.Words.{word8-is}
-use borrow.Author.Rules.{rules}
 use Rattle.bits_word.proofs.load8.Goals as goal
 
 pub joined-requires : goal.joined-requires

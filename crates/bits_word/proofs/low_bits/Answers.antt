@@ -1,5 +1,4 @@
 -- `bits_word::low_bits` meets its contract: 1 << n is 2 ^ n, so the mask keeps the n low digits. Assumes nothing.
-use borrow.Author.Rules.{rules}
 use mathlib.Core.Path.{◌≡◌, ◌∙◌}
 use Prim.Native.Nat.{ℕ, ◌*◌, ◌%◌, ◌^◌, ◌<◌}
 use native.Mathlib.Nat.{one-mul}

@@ -3,7 +3,6 @@ use mathlib.Core.Path.{refl}
 use lib.ListN.{length-set}
 use native.Mathlib.Omega.{arith}
 use Rattle.bits.proofs.Words.{put4-is}
-use borrow.Author.Rules.{rules}
 use Rattle.bits_word.proofs.store4.Goals as goal
 
 pub bounds-out-i-2 : goal.bounds-out-i-2

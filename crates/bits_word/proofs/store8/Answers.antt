@@ -2,7 +2,6 @@
 use mathlib.Core.Path.{refl}
 use Prim.Native.Nat.{◌/◌, ◌^◌}
 use Rattle.bits.proofs.Words.{put8-is}
-use borrow.Author.Rules.{rules}
 use Rattle.bits_word.proofs.store8.Goals as goal
 
 pub returns : goal.returns

@@ -3,7 +3,6 @@ use native.Mathlib.Nat.{mod-lt}
 use lib.Pow.{pow_pos}
 use Rattle.bits.proofs.Words.{high_fits, both-fit, with-is}
 use native.Mathlib.Omega.{arith}
-use borrow.Author.Rules.{rules}
 use Rattle.bits_word.proofs.with_field.Goals as goal
 
 pub joined-requires : goal.joined-requires

@@ -1,13 +1,10 @@
 -- `book::hours` meets its contract. The first loop's invariant: the first i hours are put. The second's: if those up to its start were
 -- put into a list, the first i are. Assumes nothing.
 use mathlib.Core.List.{List}
-use mathlib.Core.Path.{◌≡◌, sym, ap, ◌∙◌}
-use Prim.Native.Nat.{ℕ, ◌+◌, ◌-◌, ◌≤◌}
+use mathlib.Core.Path.{sym, ap, ◌∙◌}
+use Prim.Native.Nat.{ℕ, ◌+◌}
 use native.Mathlib.Omega.{arith}
 use lib.ListN.{set, get_or-eq_default}
-use lib.Seq.{sets}
-use borrow.Author.Rules.{rules}
-use Rattle.lists.specs.Lists.{window}
 use Rattle.book.specs.Book.{list_of_book}
 use Rattle.book.proofs.HourLaws.{hour-put, hours-put, none-put, put-long}
 use Rattle.book.proofs.hours.Goals as goal

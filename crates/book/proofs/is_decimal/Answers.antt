@@ -1,15 +1,7 @@
 -- `book::is_decimal` meets its contract. The loop's invariant: the answer is that of the worst fault so far and of the
 -- bytes from i on. Assumes nothing.
-use mathlib.Core.Bool.{◌&&◌}
-use mathlib.Core.List.{map}
-use mathlib.Core.Path.{◌≡◌, sym, ◌∙◌}
-use Prim.Native.Nat.{◌-◌, ◌≤◌}
+use mathlib.Core.Path.{sym, ◌∙◌}
 use native.Mathlib.Omega.{arith}
-use lib.Dec.{eqb}
-use lib.ListN.{length, drop}
-use borrow.Author.Rules.{rules}
-use Rattle.lists.specs.Lists.{every}
-use Rattle.book.specs.Book.{decimal, decimal_byte}
 use Rattle.book.proofs.HourLaws.{even, odd, rest_end, rest-on}
 use Rattle.book.proofs.is_decimal.Goals as goal
 

@@ -2,14 +2,12 @@
 -- bytes from i on. Assumes nothing.
 use mathlib.Core.Bool.{◌&&◌}
 use mathlib.Core.List.{map}
-use mathlib.Core.Path.{◌≡◌, sym, ◌∙◌}
+use mathlib.Core.Path.{◌≡◌}
 use Prim.Native.Nat.{◌-◌, ◌≤◌}
-use native.Mathlib.Omega.{arith}
 use lib.Dec.{eqb}
 use lib.ListN.{length, drop}
 use Rattle.lists.specs.Lists.{every}
 use Rattle.book.specs.Book.{decimal, decimal_byte}
-use Rattle.book.proofs.HourLaws.{even, odd, rest_end, rest-on}
 use Rattle.book.proofs.is_decimal.Given as goal
 
 abbrev pub invariant-loop-i : goal.invariant-loop-i

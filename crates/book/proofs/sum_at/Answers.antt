@@ -1,9 +1,6 @@
 -- `book::sum_at` meets its contract. The loop's invariant: the sum of the first i hours. Assumes nothing.
-use mathlib.Core.Path.{◌≡◌, ◌∙◌}
-use Prim.Native.Nat.{◌*◌, ◌-◌, ◌≤◌}
+use mathlib.Core.Path.{◌∙◌}
 use native.Mathlib.Omega.{arith}
-use borrow.Author.Rules.{rules}
-use Rattle.lists.specs.Lists.{sum, window}
 use Rattle.lists.proofs.Sums.{window-whole}
 use Rattle.book.specs.Book.{list_of_book}
 use Rattle.book.proofs.HourLaws.{sum_more, sum-start}

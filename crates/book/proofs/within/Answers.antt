@@ -1,6 +1,5 @@
 -- `book::within` meets its contract. Assumes nothing.
 use native.Mathlib.Omega.{arith}
-use borrow.Author.Rules.{rules}
 use Rattle.book.proofs.BookLaws.{length-listed}
 use Rattle.book.proofs.within.Goals as goal
 

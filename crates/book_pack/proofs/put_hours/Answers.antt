@@ -1,9 +1,8 @@
 -- `book_pack::put_hours` meets its contract. The loop's invariant: the first i counts are put. Assumes nothing.
 use mathlib.Core.Path.{◌≡◌, ap, ◌∙◌}
-use Prim.Native.Nat.{ℕ, ◌*◌, ◌-◌, ◌≤◌, ◌<◌}
+use Prim.Native.Nat.{ℕ, ◌*◌, ◌<◌}
 use native.Mathlib.Omega.{arith}
 use lib.ListN.{take}
-use borrow.Author.Rules.{rules}
 use Rattle.lists.specs.Lists.{splice}
 use Rattle.book.specs.Book.{book_of}
 use Rattle.book_pack.proofs.Packing.{hour-more, narrow_at, none-put, put-long}

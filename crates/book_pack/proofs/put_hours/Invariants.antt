@@ -1,11 +1,9 @@
 -- `book_pack::put_hours` meets its contract. The loop's invariant: the first i counts are put. Assumes nothing.
-use mathlib.Core.Path.{◌≡◌, ap, ◌∙◌}
-use Prim.Native.Nat.{ℕ, ◌*◌, ◌-◌, ◌≤◌, ◌<◌}
-use native.Mathlib.Omega.{arith}
+use mathlib.Core.Path.{◌≡◌}
+use Prim.Native.Nat.{◌*◌, ◌-◌, ◌≤◌}
 use lib.ListN.{take}
 use Rattle.lists.specs.Lists.{splice}
 use Rattle.book.specs.Book.{book_of}
-use Rattle.book_pack.proofs.Packing.{hour-more, narrow_at, none-put, put-long}
 use Rattle.book_pack.proofs.put_hours.Given as goal
 
 abbrev pub invariant-loop-i : goal.invariant-loop-i

@@ -1,12 +1,11 @@
 -- `days::fit` meets its contract. Assumes nothing.
 use mathlib.Core.Path.{◌≡◌, sym, ◌∙◌}
-use Prim.Native.Nat.{◌-◌, ◌%◌, ◌≤◌}
+use Prim.Native.Nat.{◌%◌}
 use native.Mathlib.Omega.{arith}
-use lib.ListN.{length, drop}
+use lib.ListN.{length}
 use borrow.Author.Rules.{rules}
 use borrow.Author.Tests.{not-false, not-true}
-use Rattle.days.specs.Days.{changes_fit}
-use Rattle.days.proofs.Pairs.{fit_from, fit_is, fit-odd}
+use Rattle.days.proofs.Pairs.{fit_is, fit-odd}
 use Rattle.days.proofs.Turns.{all-fits, pair_fits, too-early, wrong-hours}
 use Rattle.days.proofs.fit.Goals as goal
 

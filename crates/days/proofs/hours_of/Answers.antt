@@ -1,10 +1,8 @@
 -- `days::hours_of` meets its contract. Assumes nothing.
-use mathlib.Core.Path.{◌≡◌, sym, ◌∙◌}
-use Prim.Native.Nat.{◌+◌, ◌-◌, ◌%◌, ◌≤◌}
+use mathlib.Core.Path.{sym, ◌∙◌}
+use Prim.Native.Nat.{◌+◌}
 use native.Mathlib.Omega.{arith}
-use lib.ListN.{length, drop}
 use borrow.Author.Rules.{rules}
-use Rattle.days.specs.Days.{day_hours}
 use Rattle.days.proofs.Pairs.{fit}
 use Rattle.days.proofs.Turns.{found, not_named, passed}
 use Rattle.days.proofs.hours_of.Goals as goal
@@ -24,4 +22,4 @@ loop-i-preserved c =
     (search rules, omega arith, omega arith, c.loop-i.invariant.3 ∙ passed _ c.loop-i.i (omega arith) _ c.if-changes-i.false)
 
 pub returns : goal.returns
-returns c = let at = c in sym (at.loop.invariant.3 ∙ not_named _ at.loop.i (omega arith) _)
+returns c = sym (c.loop-i.invariant.3 ∙ not_named _ c.loop-i.i (omega arith) _)

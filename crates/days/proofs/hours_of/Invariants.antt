@@ -1,11 +1,8 @@
 -- `days::hours_of` meets its contract. Assumes nothing.
-use mathlib.Core.Path.{◌≡◌, sym, ◌∙◌}
-use Prim.Native.Nat.{◌+◌, ◌-◌, ◌%◌, ◌≤◌}
-use native.Mathlib.Omega.{arith}
+use mathlib.Core.Path.{◌≡◌}
+use Prim.Native.Nat.{◌-◌, ◌%◌, ◌≤◌}
 use lib.ListN.{length, drop}
 use Rattle.days.specs.Days.{day_hours}
-use Rattle.days.proofs.Pairs.{fit}
-use Rattle.days.proofs.Turns.{found, not_named, passed}
 use Rattle.days.proofs.hours_of.Given as goal
 
 abbrev pub invariant-loop-i : goal.invariant-loop-i

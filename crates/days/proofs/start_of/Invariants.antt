@@ -1,11 +1,8 @@
 -- `days::start_of` meets its contract. Assumes nothing.
-use mathlib.Core.Path.{◌≡◌, sym, ap, ◌∙◌}
-use Prim.Native.Nat.{ℕ, ◌+◌, ◌-◌, ◌%◌, ◌≤◌}
-use native.Mathlib.Omega.{arith}
+use mathlib.Core.Path.{◌≡◌}
+use Prim.Native.Nat.{◌%◌, ◌≤◌}
 use lib.ListN.{length, drop}
 use Rattle.days.specs.Days.{day_start}
-use Rattle.days.proofs.Pairs.{fit}
-use Rattle.days.proofs.Turns.{moved, none_passed, start-below, stays}
 use Rattle.days.proofs.start_of.Given as goal
 
 abbrev pub invariant-loop-i : goal.invariant-loop-i

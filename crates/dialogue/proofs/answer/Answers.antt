@@ -1,6 +1,5 @@
 -- `dialogue::answer` meets its contract. Assumes nothing.
 use Rattle.dialogue.proofs.FeedLaws.{answers}
-use borrow.Author.Rules.{rules}
 use Rattle.dialogue.proofs.answer.Goals as goal
 
 pub returns : goal.returns

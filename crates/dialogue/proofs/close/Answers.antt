@@ -1,6 +1,5 @@
 -- `dialogue::close` meets its contract. Assumes nothing.
 use Rattle.dialogue.proofs.FeedLaws.{close-none, close-whole}
-use borrow.Author.Rules.{rules}
 use Rattle.dialogue.proofs.close.Goals as goal
 
 pub returns-in_default : goal.returns-in_default

@@ -1,14 +1,14 @@
 -- `dialogue::feed` meets its contract. Assumes nothing.
-use mathlib.Core.Path.{◌≡◌}
-use Prim.Native.Nat.{◌-◌, ◌≤◌}
 use native.Mathlib.Omega.{arith}
-use lib.ListN.{length, take}
 use lib.Seq.{length-take-le}
 use Rattle.dialogue.specs.Dialogue.{fed, said}
-use Rattle.dialogue.specs.Feed.{Feeds, stand}
 use Rattle.dialogue.proofs.FeedLaws.{feeds-turn, feeds-all}
 use borrow.Author.Rules.{rules}
 use Rattle.dialogue.proofs.feed.Goals as goal
+
+pub loop-i-init : goal.loop-i-init
+unfolding fed said
+loop-i-init c = search rules
 
 pub take_byte-next-requires : goal.take_byte-next-requires
 take_byte-next-requires c =

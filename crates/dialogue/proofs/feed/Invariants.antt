@@ -1,12 +1,8 @@
 -- `dialogue::feed` meets its contract. Assumes nothing.
 use mathlib.Core.Path.{◌≡◌}
 use Prim.Native.Nat.{◌-◌, ◌≤◌}
-use native.Mathlib.Omega.{arith}
 use lib.ListN.{length, take}
-use lib.Seq.{length-take-le}
-use Rattle.dialogue.specs.Dialogue.{fed, said}
 use Rattle.dialogue.specs.Feed.{Feeds, stand}
-use Rattle.dialogue.proofs.FeedLaws.{feeds-turn, feeds-all}
 use Rattle.dialogue.proofs.feed.Given as goal
 
 abbrev pub invariant-loop-i : goal.invariant-loop-i

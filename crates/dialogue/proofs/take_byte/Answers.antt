@@ -1,6 +1,5 @@
 -- `dialogue::take_byte` meets its contract. Assumes nothing.
 use Rattle.dialogue.proofs.FeedLaws.{byte_more, byte-whole}
-use borrow.Author.Rules.{rules}
 use Rattle.dialogue.proofs.take_byte.Goals as goal
 
 pub returns-in-More : goal.returns-in-More

@@ -4,7 +4,6 @@ use borrow.Author.Tests.{not-true}
 use Rattle.answers.specs.Image.{told}
 use Rattle.store.proofs.CallLaws.{passed}
 use Rattle.freeze.proofs.Freezing.{freeze-10, freeze-sound}
-use borrow.Author.Rules.{rules}
 use Rattle.freeze.proofs.freeze.Goals as goal
 
 pub returns-then-not-check : goal.returns-then-not-check

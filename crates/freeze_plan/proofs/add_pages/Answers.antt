@@ -8,9 +8,11 @@ use Rattle.store.proofs.SoundFacts.{facts}
 use Rattle.image_plan.specs.declared.Plan.{Plan}
 use Rattle.freeze_plan.specs.Code.Steps.{Ending}
 use Rattle.freeze_plan.proofs.PageEnds.{ahead, all-next, behind, end-in, last-page, power-low, reading-fits, total-fits}
-use borrow.Author.Rules.{rules}
 use mathlib.Core.Path.{◌≡◌}
-use Prim.Native.Nat.{◌+◌, ◌-◌, ◌*◌, ◌^◌, ◌≤◌, ◌<◌}
+use mathlib.Core.List.{List}
+use mathlib.Core.Bool.{true}
+use Rattle.store.specs.Sound.{sound}
+use Prim.Native.Nat.{◌+◌, ◌*◌, ◌^◌, ◌≤◌, ◌<◌}
 use native.Mathlib.Omega.{arith}
 use Rattle.lists.specs.Lists.{reading}
 use Rattle.store.specs.Reading.{list_in, page_count_of}
@@ -33,39 +35,28 @@ loop-p-init c = (
 )
 
 -- the page is one of the store
-module _ (c : goal.In-loop-p) where
-  abbrev next : Plan
-  next = c.loop-p.next
-
-  abbrev p : ℕ
-  p = c.loop-p.p
-
-  inside : p < page_count_of c.args.s.now
-  inside = omega (arith, c.loop-p-test.true, c.requires.1)
-
-  few : p < 1024
-  few = omega (arith, inside, (facts c.args.s.now c.requires.0).pages-high)
+few : (s : List ℕ) (p pages : ℕ) → sound s ≡ true → pages ≡ page_count_of s → p < pages → p < 1024
+few s p pages h q l = omega (arith, q, l, (facts s h).pages-high)
 
 pub entry_of-own-requires : goal.entry_of-own-requires
-entry_of-own-requires c = (c.requires.0, inside c)
+entry_of-own-requires c = (c.requires.0, omega (arith, c.loop-p-test.true, c.requires.1))
 
 pub overflow_add-all : goal.overflow_add-all
 overflow_add-all c =
-    omega (arith, c.loop-p.invariant.1, reading-fits c.args.s.now c.requires.0 (64 * p c.before.before), sum-small c.entry_of-own.ensures)
+    omega (arith, c.loop-p.invariant.1, reading-fits c.args.s.now c.requires.0 (64 * c.loop-p.p), sum-small c.entry_of-own.ensures)
 
 pub overflow_add-p : goal.overflow_add-p
-overflow_add-p c = omega (arith, few c.before.before)
+overflow_add-p c = omega (arith, few c.args.s.now c.loop-p.p c.args.pages c.requires.0 c.requires.1 c.loop-p-test.true)
 
 pub overflow_mul-p : goal.overflow_mul-p
-overflow_mul-p c = omega (arith, few c.before.before)
+overflow_mul-p c = omega (arith, few c.args.s.now c.loop-p.p c.args.pages c.requires.0 c.requires.1 c.loop-p-test.true)
 
 pub nonzero_div-p : goal.nonzero_div-p
-nonzero_div-p c =
-    (power-low c.args.e _ c.power-m.ensures c.requires.2.e-high).0
+nonzero_div-p c = (power-low c.args.e _ c.power-m.ensures c.requires.2.e-high).0
 
 pub add_within-next-requires : goal.add_within-next-requires
 add_within-next-requires c =
-    let e = end-in c.args.e c.power-m.result (p c.before.before.before) c.smaller-end.result (next c.before.before.before).pages c.power-m.ensures c.smaller-end.ensures in (
+    let e = end-in c.args.e c.power-m.result c.loop-p.p c.smaller-end.result c.loop-p.next.pages c.power-m.ensures c.smaller-end.ensures in (
       record {
         is-sound = c.requires.0;
         entry-is = c.entry_of-own.ensures;
@@ -78,7 +69,7 @@ add_within-next-requires c =
     )
 
 pub overflow_add-p-in-loop-p : goal.overflow_add-p-in-loop-p
-overflow_add-p-in-loop-p c = omega (arith, few c.before.before.before.before)
+overflow_add-p-in-loop-p c = omega (arith, few c.args.s.now c.loop-p.p c.args.pages c.requires.0 c.requires.1 c.loop-p-test.true)
 
 pub loop-p-smaller : goal.loop-p-smaller
 loop-p-smaller c = omega (arith, c.loop-p-test.true)
@@ -90,31 +81,33 @@ loop-p-preserved c =
       all-next c.loop-p.all c.entry_of-own.ensures c.loop-p.invariant.1,
       d.ensures.0,
       λ (l : d.result.done < d.result.pages).
-          ahead c.args.e c.power-m.result (p c.before.before.before.before) c.smaller-end.result (next c.before.before.before.before).pages d.result.done c.power-m.ensures
+          ahead c.args.e c.power-m.result c.loop-p.p c.smaller-end.result c.loop-p.next.pages d.result.done c.power-m.ensures
           c.smaller-end.ensures d.ensures.1 (omega (arith, l, d.ensures.0.pages-are, c.loop-p.invariant.2.pages-are)),
     )
 
 -- the last page, if it ends behind the store's
-abbrev at-end : (c : goal.After-loop-p) → Ending c.loop-p.all c.loop-p.next.pages c.loop-p.next
-at-end c =
-    let r = c.loop-p.next in
-    record {
-      e = c.args.e;
-      xs = list_in c.args.s.now;
-      drafted = c.loop-p.invariant.2;
-      total-fits = total-fits c.args.s.now c.requires.0;
-      end-one = omega arith;
-      next = λ (l : r.done < r.pages).
-          let h = c.loop-p.invariant.3 l in (
-            last-page c.args.s.now c.requires.0 c.args.e c.loop-p.p c.args.pages r.done r.pages c.requires.1 c.loop-p-test.false c.loop-p.invariant.2.pages-are h,
-            behind c.args.s.now c.requires.0 c.loop-p.p c.args.pages (2 ^ c.args.e * (r.done + 1)) c.loop-p.all c.requires.1 c.loop-p-test.false c.loop-p.invariant.1 h,
-          );
-    }
+abbrev at-end : (s : List ℕ) (e p all pages : ℕ) (r : Plan) → sound s ≡ true → pages ≡ page_count_of s → pages ≤ p
+    → all ≡ reading (list_in s) (64 * p) → Drafted e (list_in s) r → (r.done < r.pages → 64 * p < 2 ^ e * (r.done + 1)) → Ending all r.pages r
+at-end s e p all pages r so q k al d f = record {
+  e = e;
+  xs = list_in s;
+  drafted = d;
+  total-fits = total-fits s so;
+  end-one = omega arith;
+  next = λ (l : r.done < r.pages).
+      let h = f l in
+      (last-page s so e p pages r.done r.pages q k d.pages-are h, behind s so p pages (2 ^ e * (r.done + 1)) all q k al h);
+}
 
 pub add_ending-requires : goal.add_ending-requires
-add_ending-requires c = at-end c
+add_ending-requires c =
+    let a = c.args in
+    let i = c.loop-p.invariant in
+    at-end a.s.now a.e c.loop-p.p c.loop-p.all a.pages c.loop-p.next c.requires.0 c.requires.1 c.loop-p-test.false i.1 i.2 i.3
 
 pub returns : goal.returns
 returns c =
-    let d = c.add_ending.ensures (at-end c.before) in
-    (d.0, omega (arith, d.1, d.0.pages-are, c.loop-p.invariant.2.pages-are))
+    let a = c.args in
+    let i = c.loop-p.invariant in
+    let d = c.add_ending.ensures (at-end a.s.now a.e c.loop-p.p c.loop-p.all a.pages c.loop-p.next c.requires.0 c.requires.1 c.loop-p-test.false i.1 i.2 i.3) in
+    (d.0, omega (arith, d.1, d.0.pages-are, i.2.pages-are))

@@ -1,18 +1,8 @@
 -- `freeze_plan::add_pages` meets its contract. Assumes nothing.
-use Prim.Native.Nat.{ℕ}
-use native.Mathlib.Nat.{mul-le-mul_left}
-use lib.Pow.{pow_pos}
-use Rattle.pages.proofs.Prefix.{reading-none}
-use Rattle.pages.proofs.SoundPage.{sum-small}
-use Rattle.store.proofs.SoundFacts.{facts}
-use Rattle.image_plan.specs.declared.Plan.{Plan}
-use Rattle.freeze_plan.specs.Code.Steps.{Ending}
-use Rattle.freeze_plan.proofs.PageEnds.{ahead, all-next, behind, end-in, last-page, power-low, reading-fits, total-fits}
 use mathlib.Core.Path.{◌≡◌}
 use Prim.Native.Nat.{◌+◌, ◌-◌, ◌*◌, ◌^◌, ◌≤◌, ◌<◌}
-use native.Mathlib.Omega.{arith}
 use Rattle.lists.specs.Lists.{reading}
-use Rattle.store.specs.Reading.{list_in, page_count_of}
+use Rattle.store.specs.Reading.{list_in}
 use Rattle.image_plan.specs.Code.Planning.{Drafted}
 use Rattle.freeze_plan.proofs.add_pages.Given as goal
 

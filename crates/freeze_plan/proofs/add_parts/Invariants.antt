@@ -1,19 +1,7 @@
 -- `freeze_plan::add_parts` meets its contract. Assumes nothing.
-use mathlib.Core.Path.{◌≡◌, refl}
-use Prim.Native.Nat.{ℕ, ◌-◌, ◌*◌, ◌^◌, ◌≤◌, ◌<◌}
-use native.Mathlib.Nat.{mul-le-mul_right}
-use native.Mathlib.Omega.{arith}
-use lib.ListN.{get_or, replicate}
-use Rattle.lists.specs.Lists.{sum, window}
-use Rattle.pages.proofs.SoundPage.{as_said}
+use Prim.Native.Nat.{◌-◌, ◌*◌, ◌≤◌, ◌<◌}
 use Rattle.store.specs.Reading.{list_in}
-use Rattle.store.proofs.SoundFacts.{facts}
-use Rattle.image_plan.specs.Code.Planning.{Awaits, Drafted}
-use Rattle.image_plan.specs.declared.Plan.{Plan}
-use Rattle.image_plan.proofs.PageByPage.{awaited}
-use Rattle.freeze_plan.specs.Code.Parts.{Branch}
-use Rattle.freeze_plan.proofs.PageEnds.{total-fits}
-use Rattle.freeze_plan.proofs.PageParts.{Part, few, low, page-branch, part_in, part-most, part-sum, starts-in}
+use Rattle.image_plan.specs.Code.Planning.{Drafted}
 use Rattle.freeze_plan.proofs.add_parts.Given as goal
 
 abbrev pub invariant-loop-next : goal.invariant-loop-next

@@ -1,8 +1,13 @@
 -- `freeze_plan::add_within` meets its contract. Assumes nothing.
-use Prim.Native.Nat.{◌<◌}
+use mathlib.Core.List.{List}
+use mathlib.Core.Path.{◌≡◌}
+use Prim.Native.Nat.{ℕ, ◌+◌, ◌*◌, ◌^◌, ◌≤◌, ◌<◌}
 use native.Mathlib.Omega.{arith}
+use Rattle.lists.specs.Lists.{reading}
 use Rattle.store.specs.Reading.{list_in}
-use Rattle.freeze_plan.specs.Code.Steps.{Ending}
+use Rattle.pages.specs.declared.entry.Entry.{Entry}
+use Rattle.image_plan.specs.declared.Plan.{Plan}
+use Rattle.freeze_plan.specs.Code.Steps.{Ending, Within}
 use Rattle.freeze_plan.proofs.PageEnds.{ends_with, total-fits}
 use Rattle.freeze_plan.proofs.add_within.Goals as goal
 
@@ -16,22 +21,25 @@ pub returns-then-m-lt-HOURS : goal.returns-then-m-lt-HOURS
 returns-then-m-lt-HOURS c = c.add_parts.ensures
 
 -- a page no smaller than the store's ends with page p, if at all
-abbrev at-end : (c : goal.Else-m-lt-HOURS) → Ending c.args.all c.args.end c.args.plan
-at-end c =
-    let w = c.requires.0 in
-    record {
-      e = c.args.e;
-      xs = list_in c.args.s.now;
-      drafted = w.drafted;
-      total-fits = total-fits c.args.s.now w.is-sound;
-      end-one = w.end-one;
-      next = λ (l : c.args.plan.done < c.args.end).
-          ends_with c.args.e c.args.p c.args.plan.done c.args.end (list_in c.args.s.now) c.args.all c.requires.1
-          (omega (arith, c.power-m.ensures, c.if-m-lt-HOURS.false)) l w.end-in (w.ahead (omega (arith, l, w.end-one)));
-    }
+abbrev at-end : (s : List ℕ) (e p all end m : ℕ) (own : Entry) (r : Plan) → Within s e p own end r → all ≡ reading (list_in s) (64 * (p + 1))
+    → m ≡ 2 ^ e → 64 ≤ m → Ending all end r
+at-end s e p all end m own r w q em k = record {
+  e = e;
+  xs = list_in s;
+  drafted = w.drafted;
+  total-fits = total-fits s w.is-sound;
+  end-one = w.end-one;
+  next = λ (l : r.done < end).
+      ends_with e p r.done end (list_in s) all q (omega (arith, em, k)) l w.end-in (w.ahead (omega (arith, l, w.end-one)));
+}
 
 pub add_ending-requires : goal.add_ending-requires
-add_ending-requires c = at-end c
+add_ending-requires c =
+    let a = c.args in
+    at-end a.s.now a.e a.p a.all a.end c.power-m.result a.own a.plan c.requires.0 c.requires.1 c.power-m.ensures c.if-m-lt-HOURS.false
 
 pub returns : goal.returns
-returns c = c.add_ending.ensures (at-end c.before)
+returns c =
+    let a = c.args in
+    c.add_ending.ensures
+    (at-end a.s.now a.e a.p a.all a.end c.power-m.result a.own a.plan c.requires.0 c.requires.1 c.power-m.ensures c.if-m-lt-HOURS.false)

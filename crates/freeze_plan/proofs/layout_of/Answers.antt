@@ -1,11 +1,9 @@
 -- `freeze_plan::layout_of` meets its contract. Assumes nothing.
 use native.Mathlib.Omega.{arith}
 use Rattle.store.specs.Reading.{list_in}
-use Rattle.image_plan.specs.Code.Planning.{Whole}
 use Rattle.image_plan.proofs.PlanLaws.{opened, unopened}
 use Rattle.store.proofs.SoundFacts.{facts}
 use Rattle.freeze_plan.proofs.PageEnds.{hours-are}
-use borrow.Author.Rules.{rules}
 use Rattle.freeze_plan.proofs.layout_of.Goals as goal
 
 pub of-h-requires : goal.of-h-requires
@@ -22,13 +20,10 @@ add_pages-requires c =
     )
 
 -- all pages were added
-abbrev whole : (c : goal.After-add_pages) → Whole c.add_pages.result
-whole c =
+pub finish-requires : goal.finish-requires
+finish-requires c =
     let a = c.args in
     record { e = a.e; xs = list_in a.s.now; drafted = c.add_pages.ensures.0; all = c.add_pages.ensures.1 }
-
-pub finish-requires : goal.finish-requires
-finish-requires c = whole c
 
 pub returns-in-Refused : goal.returns-in-Refused
 returns-in-Refused c =
@@ -38,4 +33,4 @@ returns-in-Refused c =
     (hours-are c.args.s.now c.requires c.of-h.result.hours h.hours-is)
 
 pub returns-in-Open : goal.returns-in-Open
-returns-in-Open c = c.finish.ensures (whole c.before)
+returns-in-Open c = c.finish.ensures record { e = c.args.e; xs = list_in c.args.s.now; drafted = c.add_pages.ensures.0; all = c.add_pages.ensures.1 }

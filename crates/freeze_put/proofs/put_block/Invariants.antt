@@ -1,19 +1,9 @@
 -- `freeze_put::put_block` meets its contract. Assumes nothing.
-use mathlib.Core.Path.{refl, sym, ap, ◌∙◌}
-use Prim.Native.Nat.{min}
-use native.Mathlib.Nat.{mul-le-mul_left, mul-le-mul_right}
-use Rattle.image.proofs.PageLaws as L
-use Rattle.image_put.specs.Code.Writing.{Handed, Laid}
-use Rattle.image_put.specs.declared.Place.{Place}
-use Rattle.lists.proofs.Blocks.{window-long}
-use Rattle.image.proofs.Blocks.{In, Sizes, counts-in, in_block, sizes}
-use Rattle.freeze_put.proofs.Blocks.{blocks-few, first-in}
+use Rattle.image_put.specs.Code.Writing.{Laid}
 use mathlib.Core.List.{List}
 use mathlib.Core.Path.{◌≡◌}
-use Prim.Native.Nat.{ℕ, ◌+◌, ◌-◌, ◌*◌, ◌≤◌, ◌<◌}
-use native.Mathlib.Omega.{arith}
+use Prim.Native.Nat.{ℕ, ◌-◌, ◌*◌, ◌≤◌}
 use lib.ListN.{length}
-use Rattle.lists.specs.Lists.{window}
 use Rattle.store.specs.Reading.{list_in}
 use Rattle.freeze_put.proofs.put_block.Given as goal
 

@@ -6,11 +6,15 @@ use Rattle.freeze_put.proofs.Blocks.{blocks-few}
 use Rattle.store.proofs.SoundFacts.{facts}
 use mathlib.Core.List.{List}
 use mathlib.Core.Path.{◌≡◌}
+use mathlib.Core.Bool.{true}
+use Rattle.store.specs.Sound.{sound}
+use Rattle.image_plan.specs.declared.Layout.{Layout}
+use Rattle.image_put.specs.declared.Place.{Place}
 use Prim.Native.Nat.{ℕ, ◌-◌, ◌*◌, ◌^◌, ◌<◌}
 use native.Mathlib.Omega.{arith}
 use lib.ListN.{length}
-use Rattle.store.specs.Reading.{list_in}
-use Rattle.image_put.specs.Code.Writing.{Filled, Laid}
+use Rattle.store.specs.Reading.{list_in, page_count_of}
+use Rattle.image_put.specs.Code.Writing.{Laid, Room}
 use Rattle.image_put.proofs.PageByPage.{filled, laid-since}
 use Rattle.freeze_put.proofs.put_image.Goals as goal
 
@@ -23,36 +27,24 @@ begin-at-requires c = record { xs = list_in c.args.s.now; room = c.requires.1 }
 pub loop-at-init : goal.loop-at-init
 loop-at-init c = (λ l. omega (arith, c.begin-at.ensures.0), λ first a. a)
 
--- the pages so far
-module _ (c : goal.After-put_block-arg-1) where
-  so_far : Laid (list_in c.args.s.now) c.args.out.now c.loop-at.out c.args.r c.loop-at.at
-  so_far =
-      laid-since c.requires.1 c.begin-at.ensures.1
-      c.loop-at.invariant.1
+-- the next block
+abbrev blocked : (s first out : List ℕ) (r : Layout) (pages b : ℕ) (at : Place) → sound s ≡ true → pages ≡ page_count_of s → at.page < r.pages
+    → (at.page < r.pages → at.page ≡ 2 ^ (8 - r.e) * b) → Laid (list_in s) first out r at → Blocked out s r pages b at
+blocked s first out r pages b at so q t i a = record { first = first; is-sound = so; pages-are = q; so_far = a; more = t; at-is = i t }
 
-  abbrev blocked : (first : List ℕ) → Laid (list_in c.args.s.now) first c.loop-at.out c.args.r c.loop-at.at
-      → Blocked c.loop-at.out c.args.s.now c.args.r c.of-h.result.pages c.loop-at.b c.loop-at.at
-  blocked first a = record {
-    first = first;
-    is-sound = c.requires.0;
-    pages-are = c.of-h.ensures.pages-is;
-    so_far = a;
-    more = c.loop-at-test.true;
-    at-is = c.loop-at.invariant.0 c.loop-at-test.true;
-  }
-
-  few : c.loop-at.b < 16384
-  few =
-      let m = c.requires.1 in
-      blocks-few (2 ^ (8 - c.args.r.e)) c.loop-at.b c.loop-at.at.page c.args.r.pages (pow_pos (8 - c.args.r.e))
-      (c.loop-at.invariant.0 c.loop-at-test.true) c.loop-at-test.true
-      (omega (arith, m.layout.pages-are, L.pages-few c.args.r.e (length (list_in c.args.s.now)) m.limits.e-low m.limits.hours))
+few : (s out : List ℕ) (r : Layout) (b : ℕ) (at : Place) → Room (list_in s) r out → at.page < r.pages
+    → (at.page < r.pages → at.page ≡ 2 ^ (8 - r.e) * b) → b < 16384
+few s out r b at m t i =
+    blocks-few (2 ^ (8 - r.e)) b at.page r.pages (pow_pos (8 - r.e)) (i t) t
+    (omega (arith, m.layout.pages-are, L.pages-few r.e (length (list_in s)) m.limits.e-low m.limits.hours))
 
 pub put_block-at-requires : goal.put_block-at-requires
-put_block-at-requires c = blocked c c.args.out.now (so_far c)
+put_block-at-requires c =
+    blocked c.args.s.now c.args.out.now c.loop-at.out c.args.r c.of-h.result.pages c.loop-at.b c.loop-at.at c.requires.0 c.of-h.ensures.pages-is
+    c.loop-at-test.true c.loop-at.invariant.0 (laid-since c.requires.1 c.begin-at.ensures.1 c.loop-at.invariant.1)
 
 pub overflow_add-b : goal.overflow_add-b
-overflow_add-b c = omega (arith, few c.before.before.before)
+overflow_add-b c = omega (arith, few c.args.s.now c.args.out.now c.args.r c.loop-at.b c.loop-at.at c.requires.1 c.loop-at-test.true c.loop-at.invariant.0)
 
 pub loop-at-smaller : goal.loop-at-smaller
 loop-at-smaller c =
@@ -60,21 +52,17 @@ loop-at-smaller c =
 
 pub loop-at-preserved : goal.loop-at-preserved
 loop-at-preserved c =
-    let p = c.put_block-at in
-    (λ (l : p.result.page < c.args.r.pages). omega (arith, l, p.ensures.0), λ first a. p.ensures.1 (blocked c.before.before.before first (c.loop-at.invariant.1 first a)))
-
--- all pages
-module _ (c : goal.After-end-arg-1) where
-  abbrev whole : Filled c.args.r c.loop-at.out
-  whole =
-      filled c.requires.1 c.begin-at.ensures.1 c.loop-at.invariant.1
-      c.loop-at-test.false
+    let p = c.put_block-at in (
+      λ (l : p.result.page < c.args.r.pages). omega (arith, l, p.ensures.0),
+      λ first a. p.ensures.1 (blocked c.args.s.now first c.loop-at.out c.args.r c.of-h.result.pages c.loop-at.b c.loop-at.at c.requires.0 c.of-h.ensures.pages-is
+          c.loop-at-test.true c.loop-at.invariant.0 (c.loop-at.invariant.1 first a)),
+    )
 
 pub end-requires : goal.end-requires
-end-requires c = whole c
+end-requires c = filled c.requires.1 c.begin-at.ensures.1 c.loop-at.invariant.1 c.loop-at-test.false
 
 pub shape_of-out : goal.shape_of-out
-shape_of-out c = omega (arith, c.end.auto.out, (whole c.before.before.before).so_far.long)
+shape_of-out c = omega (arith, c.end.auto.out, (filled c.requires.1 c.begin-at.ensures.1 c.loop-at.invariant.1 c.loop-at-test.false).so_far.long)
 
 pub returns : goal.returns
-returns c = c.end.ensures (whole c.before.before.before)
+returns c = c.end.ensures (filled c.requires.1 c.begin-at.ensures.1 c.loop-at.invariant.1 c.loop-at-test.false)

@@ -1,17 +1,9 @@
 -- `freeze_put::put_image` meets its contract. Assumes nothing.
-use lib.Pow.{pow_pos}
-use Rattle.image.proofs.PageLaws as L
-use Rattle.freeze_put.specs.Code.Steps.{Blocked}
-use Rattle.freeze_put.proofs.Blocks.{blocks-few}
-use Rattle.store.proofs.SoundFacts.{facts}
 use mathlib.Core.List.{List}
 use mathlib.Core.Path.{◌≡◌}
 use Prim.Native.Nat.{ℕ, ◌-◌, ◌*◌, ◌^◌, ◌<◌}
-use native.Mathlib.Omega.{arith}
-use lib.ListN.{length}
 use Rattle.store.specs.Reading.{list_in}
-use Rattle.image_put.specs.Code.Writing.{Filled, Laid}
-use Rattle.image_put.proofs.PageByPage.{filled, laid-since}
+use Rattle.image_put.specs.Code.Writing.{Laid}
 use Rattle.freeze_put.proofs.put_image.Given as goal
 
 abbrev pub invariant-loop-at : goal.invariant-loop-at

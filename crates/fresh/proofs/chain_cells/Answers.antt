@@ -1,12 +1,11 @@
 -- `fresh::chain_cells` meets its contract. Assumes nothing.
-use mathlib.Core.Path.{◌≡◌, refl, ap, ◌∙◌}
+use mathlib.Core.Path.{refl, ap, ◌∙◌}
 use mathlib.Core.List.{List}
-use Prim.Native.Nat.{ℕ, ◌+◌, ◌-◌, ◌≤◌}
+use Prim.Native.Nat.{ℕ, ◌+◌, ◌-◌}
 use native.Mathlib.Omega.{arith}
 use lib.ListN.{length}
 use Rattle.fresh.specs.Code.Cells.{chained}
 use Rattle.fresh.proofs.FreshBytes.{chained-none, chained-next, chained-length}
-use borrow.Author.Rules.{rules}
 use Rattle.fresh.proofs.chain_cells.Goals as goal
 
 pub loop-c-init : goal.loop-c-init

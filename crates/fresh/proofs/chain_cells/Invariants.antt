@@ -1,11 +1,8 @@
 -- `fresh::chain_cells` meets its contract. Assumes nothing.
-use mathlib.Core.Path.{◌≡◌, refl, ap, ◌∙◌}
-use mathlib.Core.List.{List}
-use Prim.Native.Nat.{ℕ, ◌+◌, ◌-◌, ◌≤◌}
-use native.Mathlib.Omega.{arith}
+use mathlib.Core.Path.{◌≡◌}
+use Prim.Native.Nat.{◌-◌, ◌≤◌}
 use lib.ListN.{length}
 use Rattle.fresh.specs.Code.Cells.{chained}
-use Rattle.fresh.proofs.FreshBytes.{chained-none, chained-next, chained-length}
 use Rattle.fresh.proofs.chain_cells.Given as goal
 
 abbrev pub invariant-loop-c : goal.invariant-loop-c

@@ -1,12 +1,11 @@
 -- `fresh::clear` meets its contract. Assumes nothing.
 use Rattle.store.proofs.Zeros.{cleared}
-use mathlib.Core.Path.{◌≡◌, refl, ap, ◌∙◌}
-use mathlib.Core.List.{List, ◌++◌}
-use Prim.Native.Nat.{ℕ, ◌-◌, ◌≤◌}
+use mathlib.Core.Path.{refl, ap, ◌∙◌}
+use mathlib.Core.List.{List}
+use Prim.Native.Nat.{ℕ}
 use native.Mathlib.Omega.{arith}
-use lib.ListN.{length, drop, replicate, set, length-set}
+use lib.ListN.{set, length-set}
 use borrow.Author.Fill.{fill_none, fill_more}
-use borrow.Author.Rules.{rules}
 use Rattle.fresh.proofs.clear.Goals as goal
 
 pub loop-i-init : goal.loop-i-init

@@ -6,7 +6,6 @@ use borrow.Author.Tests.{not-true, not-false}
 use Rattle.store.specs.Fitting.{fits}
 use Rattle.fresh.proofs.FreshBytes.{started, started-9}
 use Rattle.store.proofs.LimitLaws.{fitting}
-use borrow.Author.Rules.{rules}
 use Rattle.fresh.proofs.fresh.Goals as goal
 
 pub returns-then-not-fits : goal.returns-then-not-fits

@@ -1,7 +1,6 @@
 -- `image_busiest::among` meets its contract. Assumes nothing.
 use mathlib.Core.Logic.{inl, inr}
 use native.Mathlib.Omega.{arith}
-use borrow.Author.Rules.{rules}
 use Rattle.image_busiest.specs.Busiest.{no-such-run, the-run}
 use Rattle.image_busiest.proofs.WindowLaws.{hours}
 use Rattle.image_busiest.proofs.among.Goals as goal

@@ -1,6 +1,5 @@
 -- `image_busiest::busiest` meets its contract. Assumes nothing.
 use mathlib.Core.Path.{subst}
-use borrow.Author.Rules.{rules}
 use Rattle.image_check.specs.Code.Access.{Accesses}
 use Rattle.image_busiest.specs.Busiest.{not-accepted}
 use Rattle.image_busiest.proofs.busiest.Goals as goal

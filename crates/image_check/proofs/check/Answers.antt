@@ -1,6 +1,5 @@
 -- `image_check::check` meets its contract. Assumes nothing.
 use mathlib.Core.Path.{subst, sym, ap₂, ◌∙◌}
-use borrow.Author.Rules.{rules}
 use Rattle.answers.specs.Image.{holds, ruled}
 use Rattle.image.proofs.CheckLaws.{check-holds}
 use Rattle.image_check.specs.Code.Access.{Accesses}

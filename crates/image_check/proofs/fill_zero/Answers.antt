@@ -23,8 +23,8 @@ overflow_sub-spare c =
 pub zero_bits-requires : goal.zero_bits-requires
 zero_bits-requires c =
     let f = bounds c.args.s.now c.args.h c.requires in
-    let e = sub-spare c in
-    (omega (arith, e), omega (arith, e, f.long, f.few, f.head-high, c.requires.head.bits_small), omega (arith, f.long, f.head-low))
+    let q = c.requires.head.code_is in
+    (omega (arith, q, f.code-at, f.long), omega (arith, q, f.code-at, f.long, f.few, f.head-high, c.requires.head.bits_small), omega (arith, f.long, f.head-low))
 
 pub returns : goal.returns
 returns c =

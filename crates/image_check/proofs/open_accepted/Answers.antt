@@ -2,19 +2,12 @@
 use mathlib.Core.Bool.{false}
 use mathlib.Core.Path.{◌≡◌, sym, subst, ◌∙◌}
 use native.Mathlib.Omega.{arith}
-use borrow.Author.Rules.{rules}
-use borrow.Author.Tests.{not-true, not-false}
 use Rattle.lists.proofs.Tests.{left}
 use Rattle.image.specs.Check.{headed}
-use Rattle.image.specs.Code.Head.{Opened, Opens}
+use Rattle.image.specs.Code.Head.{Opens}
 use Rattle.image.proofs.CheckLaws.{check-5}
 use Rattle.image_test.proofs.CheckSteps.{check-6}
 use Rattle.image_check.proofs.open_accepted.Goals as goal
-
--- past refusal 5
-past : (c : goal.In-Image) → Opened c.args.s.now c.in-Image.h
-past c =
-    subst (Opens c.args.s.now) c.in-Image.is c.open_image.ensures
 
 -- at refusal 5
 wrong : (c : goal.In_default) → headed c.args.s.now ≡ false
@@ -28,12 +21,12 @@ pub returns-in_default : goal.returns-in_default
 returns-in_default c = check-5 _ (wrong c)
 
 pub passes-requires : goal.passes-requires
-passes-requires c = (past c, omega arith)
+passes-requires c = (c.in-Image.ensures, omega arith)
 
 pub returns-then-not-passes : goal.returns-then-not-passes
 returns-then-not-passes c =
-    check-6 (past c.before.before) (sym c.passes.ensures ∙ not-true c.passes.result c.if-not-passes.true-raw)
+    check-6 c.in-Image.ensures (sym c.passes.ensures ∙ c.if-not-passes.true)
 
 pub returns : goal.returns
 returns c =
-    (left _ _ (sym c.passes.ensures ∙ not-false c.passes.result c.if-not-passes.false-raw), (past c.before.before).head)
+    (left _ _ (sym c.passes.ensures ∙ c.if-not-passes.false), c.in-Image.ensures.head)

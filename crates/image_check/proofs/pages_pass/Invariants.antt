@@ -1,11 +1,8 @@
 -- `image_check::pages_pass` meets its contract. The loop's invariant: the answer is that of the pages from p on. Assumes nothing.
-use mathlib.Core.Path.{◌≡◌, sym, ap, ◌∙◌}
-use Prim.Native.Nat.{ℕ, ◌-◌, ◌≤◌}
-use native.Mathlib.Omega.{arith}
-use borrow.Author.Tests.{not-true, not-false}
+use mathlib.Core.Path.{◌≡◌}
+use Prim.Native.Nat.{◌-◌, ◌≤◌}
 use Rattle.image.specs.Read.{page_count_of}
 use Rattle.image_test.specs.Code.Test.{pages_from}
-use Rattle.image_test.proofs.CheckSteps.{pages-done, pages-on, pages-short, pages-stop}
 use Rattle.image_check.proofs.pages_pass.Given as goal
 
 abbrev pub invariant-loop-p : goal.invariant-loop-p

@@ -1,10 +1,8 @@
 -- `image_find::find` meets its contract. The loop's invariant: the figure is reached in a page from lo to hi. Assumes nothing.
 use mathlib.Core.Bool.{true}
 use mathlib.Core.Path.{◌≡◌, refl, sym, ◌∙◌}
-use Prim.Native.Nat.{◌+◌, ◌-◌, ◌≤◌}
 use native.Mathlib.Omega.{arith}
 use borrow.Author.Tests.{not-true, not-false}
-use Rattle.image_find.specs.Code.Span.{Between}
 use Rattle.image.proofs.HeadLaws.{bounds}
 use Rattle.image_find.proofs.SearchSteps.{hit-none, hit-one, narrowable, no-pages, whole}
 use Rattle.image_find.proofs.find.Goals as goal

@@ -1,6 +1,5 @@
 -- `image_find::guess` meets its contract. Assumes nothing.
 use native.Mathlib.Omega.{arith}
-use borrow.Author.Rules.{rules}
 use Rattle.image_find.proofs.SearchSteps.{guess_small}
 use Rattle.image_find.proofs.guess.Goals as goal
 

@@ -2,7 +2,6 @@
 use native.Mathlib.Omega.{arith}
 use Rattle.image_match.specs.Match.{no-coins, none}
 use Rattle.image_match.proofs.AnswerLaws.{found-answer, none-larger}
-use borrow.Author.Rules.{rules}
 use Rattle.image_match.proofs.among.Goals as goal
 
 pub returns-then-q-eq0 : goal.returns-then-q-eq0

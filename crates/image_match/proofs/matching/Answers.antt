@@ -1,6 +1,5 @@
 -- `image_match::matching` meets its contract. Assumes nothing.
 use mathlib.Core.Path.{subst}
-use borrow.Author.Rules.{rules}
 use Rattle.image_check.specs.Code.Access.{Accesses}
 use Rattle.image_match.specs.Match.{not-accepted}
 use Rattle.image_match.proofs.matching.Goals as goal

@@ -1,6 +1,5 @@
 -- `image_merge::merge` meets its contract. Assumes nothing.
 use mathlib.Core.Path.{subst}
-use borrow.Author.Rules.{rules}
 use Rattle.image_check.specs.Code.Access.{Accesses}
 use Rattle.image_merge.proofs.MergeLaws.{e-high, e-low, first-no}
 use Rattle.image_merge.proofs.merge.Goals as goal

@@ -1,6 +1,5 @@
 -- `image_merge::with_second` meets its contract. Assumes nothing.
 use mathlib.Core.Path.{subst, ◌∙◌}
-use borrow.Author.Rules.{rules}
 use Rattle.image_check.specs.Code.Access.{Accesses}
 use Rattle.image_merge.proofs.MergeLaws.{past_all, second-no}
 use Rattle.image_merge.proofs.with_second.Goals as goal

@@ -1,7 +1,6 @@
 -- `image_page::known_before` meets its contract. Assumes nothing.
 use mathlib.Core.Path.{◌∙◌}
 use native.Mathlib.Omega.{arith}
-use borrow.Author.Rules.{rules}
 use Rattle.image_page.proofs.AcceptedPage.{before-first, before-next}
 use Rattle.image_page.proofs.known_before.Goals as goal
 

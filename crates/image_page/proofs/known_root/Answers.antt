@@ -2,24 +2,20 @@
 use mathlib.Core.Path.{ap₂, ◌∙◌}
 use Prim.Native.Nat.{ℕ, ◌+◌}
 use native.Mathlib.Omega.{arith}
-use borrow.Author.Rules.{rules}
 use Rattle.lists.specs.Lists.{part}
 use Rattle.bits.specs.Bits.{bits, value}
 use Rattle.image.specs.Read.{root_at}
-use Rattle.image_page.proofs.AcceptedPage.{Page, accepted-page}
+use Rattle.image_page.proofs.AcceptedPage.{accepted-page}
 use Rattle.image_page.proofs.known_root.Goals as goal
-
-page : (c : goal.Start) → Page c.args.s.now c.args.p
-page c = accepted-page c.args.s.now c.requires.0 c.args.p c.requires.2
 
 pub overflow_add-code : goal.overflow_add-code
 overflow_add-code c =
-    let g = page c.before.before in
+    let g = accepted-page c.args.s.now c.requires.0 c.args.p c.requires.2 in
     omega (arith, g.end_low, g.code-low, c.requires.1.code_is, c.start_of.ensures)
 
 pub get_field-requires : goal.get_field-requires
 get_field-requires c =
-    let g = page c.before.before in
+    let g = accepted-page c.args.s.now c.requires.0 c.args.p c.requires.2 in
     omega (arith, g.end_low, g.code-low, g.end-in, g.narrow, g.entry_in, g.head-low, c.requires.1.code_is, c.requires.1.width_is, c.start_of.ensures)
 
 pub returns : goal.returns

@@ -1,6 +1,5 @@
 -- `image_page::page_root` meets its contract. Assumes nothing.
 use mathlib.Core.Path.{◌∙◌}
-use borrow.Author.Rules.{rules}
 use Rattle.image_page.proofs.AcceptedPage.{places, roots}
 use Rattle.image_page.proofs.page_root.Goals as goal
 

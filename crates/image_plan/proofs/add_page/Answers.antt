@@ -1,7 +1,6 @@
 -- `image_plan::add_page` meets its contract. Assumes nothing.
 use mathlib.Core.Path.{refl}
 use native.Mathlib.Omega.{arith}
-use borrow.Author.Rules.{rules}
 use Rattle.image_plan.proofs.PlanLaws.{added, reserve-low, sizes}
 use Rattle.image_plan.proofs.add_page.Goals as goal
 

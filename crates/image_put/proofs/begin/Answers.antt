@@ -1,7 +1,6 @@
 -- `image_put::begin` meets its contract. Assumes nothing.
 use mathlib.Core.Path.{refl}
 use native.Mathlib.Omega.{arith}
-use borrow.Author.Rules.{rules}
 use Rattle.image_put.proofs.PagesLaid.{begun, ends}
 use Rattle.image_put.proofs.begin.Goals as goal
 

@@ -1,29 +1,23 @@
 -- `image_put::end` meets its contract: header, pages and zeros are the image (`ended`). Assumes nothing.
 use native.Mathlib.Omega.{arith}
-use borrow.Author.Rules.{rules}
-use lib.ListN.{length}
-use Rattle.image_put.proofs.PagesLaid.{Ends, ended, ends}
+use Rattle.image_put.proofs.PagesLaid.{ended, ends}
 use Rattle.image_put.proofs.end.Goals as goal
 
--- the end of the image
-end_is : (c : goal.Start) → Ends c.args.r (length c.requires.first)
-end_is c = ends c.requires.so_far.room
-
 pub overflow_add-spare : goal.overflow_add-spare
-overflow_add-spare c = omega (arith, end_is c.before.before)
+overflow_add-spare c = omega (arith, ends c.requires.so_far.room)
 
 pub overflow_mul-spare : goal.overflow_mul-spare
-overflow_mul-spare c = omega (arith, end_is c.before.before)
+overflow_mul-spare c = omega (arith, ends c.requires.so_far.room)
 
 pub overflow_sub-spare : goal.overflow_sub-spare
 overflow_sub-spare c = omega arith
 
 pub overflow_add-r : goal.overflow_add-r
-overflow_add-r c = omega (arith, end_is c.before.before.before.before.before)
+overflow_add-r c = omega (arith, ends c.requires.so_far.room)
 
 pub clear_bits-requires : goal.clear_bits-requires
 clear_bits-requires c =
-    omega (arith, end_is c.before.before.before.before.before, c.requires.so_far.long)
+    omega (arith, ends c.requires.so_far.room, c.requires.so_far.long)
 
 pub returns : goal.returns
 returns c =

@@ -1,11 +1,6 @@
-use borrow.Author.Rules.{rules}
 use native.Mathlib.Omega.{arith}
 use lib.ListN.{length-set}
 use Rattle.image_put.proofs.Writing.{front-put}
-use borrow.Author.Rules.{rules}
-use Rattle.image_put.proofs.put_front.Reads as reads
-use Rattle.image_put.proofs.put_front.Lts as lts
-use Rattle.bits.proofs.numbers.put4.Reads as put4-reads
 use Rattle.image_put.proofs.put_front.Goals as goal
 
 pub bounds-out-1 : goal.bounds-out-1

@@ -1,14 +1,7 @@
-use borrow.Author.Rules.{rules}
 use native.Mathlib.Omega.{arith}
 use Rattle.image.specs.Image.{wide}
 use Rattle.image.proofs.Editions.{header-least}
 use Rattle.image_put.proofs.Writing.{header-narrow, header-wide, wide_room}
-use borrow.Author.Rules.{rules}
-use Rattle.image_put.proofs.put_header.Reads as reads
-use Rattle.image_put.proofs.put_header.Lts as lts
-use Rattle.image_put.proofs.put_front.Reads as put-front-reads
-use Rattle.image_put.proofs.put_narrow.Reads as put-narrow-reads
-use Rattle.image_put.proofs.put_wide.Reads as put-wide-reads
 use Rattle.image_put.proofs.put_header.Goals as goal
 
 pub put_front-requires : goal.put_front-requires

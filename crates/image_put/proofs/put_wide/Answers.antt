@@ -1,10 +1,5 @@
-use borrow.Author.Rules.{rules}
 use native.Mathlib.Omega.{arith}
 use Rattle.image_put.proofs.Writing.{wide-put}
-use borrow.Author.Rules.{rules}
-use Rattle.image_put.proofs.put_wide.Reads as reads
-use Rattle.image_put.proofs.put_wide.Lts as lts
-use Rattle.bits.proofs.numbers.put4.Reads as put4-reads
 use Rattle.image_put.proofs.put_wide.Goals as goal
 
 pub put4-requires-2 : goal.put4-requires-2

@@ -2,17 +2,12 @@
 use mathlib.Core.Bool.{false}
 use mathlib.Core.Path.{◌≡◌, subst, ◌∙◌}
 use native.Mathlib.Omega.{arith}
-use borrow.Author.Rules.{rules}
 use Rattle.answers.specs.Image.{told}
 use Rattle.image.specs.Check.{headed}
-use Rattle.image.specs.Code.Head.{Opened, Opens}
+use Rattle.image.specs.Code.Head.{Opens}
 use Rattle.image.proofs.HeadLaws.{bounds}
 use Rattle.image_query.proofs.LookSteps.{look-between, look-page, reading-five, reading-found, reading-none, reading-seven}
 use Rattle.image_query.proofs.reading.Goals as goal
-
--- past refusal 5
-past : (c : goal.In-Image-2) → Opened c.args.s.now c.in-Image.h
-past c = subst (Opens c.args.s.now) c.in-Image.is c.open_image.ensures
 
 -- at refusal 5
 wrong : (c : goal.In_default) → headed c.args.s.now ≡ false
@@ -27,40 +22,40 @@ returns-in_default c = reading-five _ _ (wrong c)
 
 pub returns-then-h-i : goal.returns-then-h-i
 unfolding told
-returns-then-h-i c = reading-seven (past c.before.before.before) _ c.if-h-i.true
+returns-then-h-i c = reading-seven c.in-Image.ensures _ c.if-h-i.true
 
 pub returns-then-i-eq0 : goal.returns-then-i-eq0
 unfolding told
-returns-then-i-eq0 c = reading-none (past c.before.before.before.before) _ c.if-i-eq0.true
+returns-then-i-eq0 c = reading-none c.in-Image.ensures _ c.if-i-eq0.true
 
 pub overflow_sub-hour : goal.overflow_sub-hour
 overflow_sub-hour c = omega (arith, c.if-i-eq0.false)
 
 pub page_with-p-requires : goal.page_with-p-requires
-page_with-p-requires c = (bounds _ _ (past c.before.before.before.before)).e-high
+page_with-p-requires c = (bounds _ _ c.in-Image.ensures).e-high
 
 pub root_of-requires : goal.root_of-requires
 root_of-requires c =
-    let o = past c.before.before.before.before.before in
+    let o = c.in-Image.ensures in
     (o, look-page _ _ o _ 1 c.page_with-p.ensures (omega (arith, c.if-h-i.false, c.if-i-eq0.false)))
 
 pub root_before-requires : goal.root_before-requires
 root_before-requires c =
-    let o = past c.before.before.before.before.before.before in
+    let o = c.in-Image.ensures in
     (o, look-page _ _ o _ 1 c.page_with-p.ensures (omega (arith, c.if-h-i.false, c.if-i-eq0.false)))
 
 pub page_between-page-requires : goal.page_between-page-requires
 page_between-page-requires c = record {
   s = _;
   p = _;
-  opened = past c.before.before.before.before.before.before.before;
+  opened = c.in-Image.ensures;
   own_at = c.root_of.ensures;
   last-at = c.root_before.ensures;
 }
 
 pub look_through-requires : goal.look_through-requires
 look_through-requires c =
-    let o = past c.before.before.before.before.before.before.before.before in (
+    let o = c.in-Image.ensures in (
       o,
       look-between _ _ o _ 1 c.page_with-p.ensures c.root_of.ensures c.root_before.ensures c.page_between-page.ensures,
     )
@@ -71,4 +66,4 @@ answer_of-requires c = tt
 pub returns : goal.returns
 returns c =
     c.answer_of.ensures
-    ∙ reading-found (past c.before.before.before.before.before.before.before.before.before.before) _ (omega (arith, c.if-i-eq0.false)) c.if-h-i.false c.look_through.ensures
+    ∙ reading-found c.in-Image.ensures _ (omega (arith, c.if-i-eq0.false)) c.if-h-i.false c.look_through.ensures

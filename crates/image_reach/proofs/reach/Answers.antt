@@ -3,18 +3,13 @@ use mathlib.Core.Bool.{false}
 use mathlib.Core.Path.{◌≡◌, sym, subst}
 use Prim.Native.Nat.{ℕ}
 use native.Mathlib.Omega.{arith}
-use borrow.Author.Rules.{rules}
 use Rattle.answers.specs.Image.{told, given}
 use Rattle.image.specs.Check.{headed}
-use Rattle.image.specs.Code.Head.{Opened, Opens}
+use Rattle.image.specs.Code.Head.{Opens}
 use Rattle.image.specs.Reach.{Reach}
 use Rattle.image_find.proofs.SearchSteps.{reach-eight, reach-five}
 use Rattle.image_find.proofs.ReachLaws.{reach-zero}
 use Rattle.image_reach.proofs.reach.Goals as goal
-
--- past refusal 5
-past : (c : goal.In-Image-2) → Opened c.args.s.now c.in-Image.h
-past c = subst (Opens c.args.s.now) c.in-Image.is c.open_image.ensures
 
 -- at refusal 5
 wrong : (c : goal.In_default) → headed c.args.s.now ≡ false
@@ -29,21 +24,20 @@ returns-in_default c = reach-five _ _ (wrong c)
 
 pub returns-then-h-p : goal.returns-then-h-p
 unfolding told
-returns-then-h-p c = reach-eight (past c.before.before.before) _ c.if-h-p.true
+returns-then-h-p c = reach-eight c.in-Image.ensures _ c.if-h-p.true
 
 pub returns-then-p-eq0 : goal.returns-then-p-eq0
 unfolding told
 returns-then-p-eq0 c =
     let s = c.args.s.now in
-    subst (λ (q : ℕ). Reach s q (given 0)) (sym c.if-p-eq0.true) (reach-zero s (past c.before.before.before.before).passed)
+    subst (λ (q : ℕ). Reach s q (given 0)) (sym c.if-p-eq0.true) (reach-zero s c.in-Image.ensures.passed)
 
 pub find-requires : goal.find-requires
-find-requires c = (past c.before.before.before.before, omega (arith, c.if-p-eq0.false), c.if-h-p.false)
+find-requires c = (c.in-Image.ensures, omega (arith, c.if-p-eq0.false), c.if-h-p.false)
 
 pub reach_in-requires : goal.reach_in-requires
 reach_in-requires c =
-    let f = find-requires c κs in
-    (f.0, f.2, c.find.ensures)
+    (c.in-Image.ensures, c.if-h-p.false, c.find.ensures)
 
 pub returns : goal.returns
 returns c = c.reach_in.ensures

@@ -1,6 +1,5 @@
 -- `image_write::length` meets its contract. Assumes nothing.
 use Rattle.image_put.proofs.Answering.{laying, length-no, length-yes, sized}
-use borrow.Author.Rules.{rules}
 use Rattle.image_write.proofs.length.Goals as goal
 
 pub size-requires : goal.size-requires

@@ -3,7 +3,6 @@ use Rattle.store.specs.Plain.{Append}
 use Rattle.store.proofs.CallLaws.{passed, turned_down}
 use Rattle.coin_cost.specs.Cost.{by_append}
 use Rattle.coin_cost.proofs.CallCosts.{with-cost}
-use borrow.Author.Rules.{rules}
 use Rattle.live.proofs.append.Goals as goal
 
 pub returns-then-not-check : goal.returns-then-not-check
@@ -13,4 +12,6 @@ pub append-requires : goal.append-requires
 append-requires c = passed _ c.check.ensures c.if-not-check.false-raw
 
 pub returns : goal.returns
-returns c = with-cost (Append _) (by_append _ _) c.append.ensures
+returns c =
+    let w = with-cost (Append c.args.v) (by_append c.args.v _) c.append.ensures in
+    record { called = w.0; takes_at_most = w.1 }

@@ -1,7 +1,6 @@
 -- `live::count` meets its contract. Assumes nothing.
 use Rattle.store.specs.Plain.{Count}
 use Rattle.store.proofs.CallLaws.{passed, turned_down}
-use borrow.Author.Rules.{rules}
 use Rattle.live.proofs.count.Goals as goal
 
 pub returns-then-not-check : goal.returns-then-not-check

@@ -1,7 +1,6 @@
 -- `live::insert` meets its contract. Assumes nothing.
 use Rattle.store.specs.Plain.{Insert}
 use Rattle.store.proofs.CallLaws.{passed, turned_down}
-use borrow.Author.Rules.{rules}
 use Rattle.live.proofs.insert.Goals as goal
 
 pub returns-then-not-check : goal.returns-then-not-check

@@ -3,7 +3,6 @@ use Rattle.store.specs.Plain.{Set}
 use Rattle.store.proofs.CallLaws.{passed, turned_down}
 use Rattle.coin_cost.specs.Cost.{by-set}
 use Rattle.coin_cost.proofs.CallCosts.{with-cost}
-use borrow.Author.Rules.{rules}
 use Rattle.live.proofs.set.Goals as goal
 
 pub returns-then-not-check : goal.returns-then-not-check
@@ -13,4 +12,6 @@ pub set-requires : goal.set-requires
 set-requires c = passed _ c.check.ensures c.if-not-check.false-raw
 
 pub returns : goal.returns
-returns c = with-cost (Set _ _) (by-set _ _ _) c.set.ensures
+returns c =
+    let w = with-cost (Set c.args.i c.args.v) (by-set c.args.i c.args.v _) c.set.ensures in
+    record { called = w.0; takes_at_most = w.1 }

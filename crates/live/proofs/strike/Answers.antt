@@ -1,7 +1,6 @@
 -- `live::strike` meets its contract. Assumes nothing.
 use Rattle.store.specs.Plain.{Strike}
 use Rattle.store.proofs.CallLaws.{passed, turned_down}
-use borrow.Author.Rules.{rules}
 use Rattle.live.proofs.strike.Goals as goal
 
 pub returns-then-not-check : goal.returns-then-not-check

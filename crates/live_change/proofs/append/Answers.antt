@@ -3,7 +3,6 @@ use native.Mathlib.Omega.{arith}
 use Rattle.store.proofs.SoundFacts.{facts}
 use Rattle.store.proofs.CallLaws.{append-11, append-asks, append-go}
 use Rattle.live_change.proofs.AppendTotal.{append-3}
-use borrow.Author.Rules.{rules}
 use Rattle.live_change.proofs.append.Goals as goal
 
 pub of-head-requires : goal.of-head-requires

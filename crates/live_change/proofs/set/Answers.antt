@@ -2,7 +2,6 @@
 use native.Mathlib.Omega.{arith}
 use Rattle.store.proofs.SoundFacts.{facts}
 use Rattle.store.proofs.CallLaws.{set-7, set-asks, set-go}
-use borrow.Author.Rules.{rules}
 use Rattle.live_change.proofs.set.Goals as goal
 
 pub of-head-requires : goal.of-head-requires

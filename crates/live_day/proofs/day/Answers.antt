@@ -3,7 +3,6 @@ use native.Mathlib.Omega.{arith}
 use Rattle.store.specs.Reading.{list_in}
 use Rattle.store.proofs.SoundFacts.{facts}
 use Rattle.live_day.proofs.DayCall.{day-16, day-7, day-fits, day-is, fitting, reading-mono}
-use borrow.Author.Rules.{rules}
 use Rattle.live_day.proofs.day.Goals as goal
 
 pub returns-then-not-fit : goal.returns-then-not-fit

@@ -4,7 +4,6 @@ use native.Mathlib.Omega.{arith}
 use Rattle.pages.proofs.Coding.{lies}
 use Rattle.pages.proofs.SoundPage.{as_said, sum-small}
 use Rattle.live_page.proofs.PageTree.{search-told}
-use borrow.Author.Rules.{rules}
 use Rattle.live_page.proofs.search_page.Goals as goal
 
 pub gather_at-code-requires : goal.gather_at-code-requires

@@ -2,7 +2,6 @@
 use native.Mathlib.Omega.{arith}
 use Rattle.store.proofs.SoundFacts.{facts}
 use Rattle.live_page.proofs.Questions.{count-7, count-is}
-use borrow.Author.Rules.{rules}
 use Rattle.live_query.proofs.count.Goals as goal
 
 pub of-head-requires : goal.of-head-requires

@@ -6,7 +6,6 @@ use Rattle.store.proofs.SoundFacts.{facts}
 use Rattle.pages.proofs.Prefix.{before-fits}
 use Rattle.live_page.proofs.PageSums.{reading-first, reading-inside}
 use Prim.Native.Nat.{◌*◌, ◌/◌, ◌%◌, ◌≤◌}
-use borrow.Author.Rules.{rules}
 use Rattle.live_query.proofs.reading_in.Goals as goal
 
 pub before-all-requires : goal.before-all-requires

@@ -1,9 +1,8 @@
 -- `live_search::page_of` meets its contract. The loop's invariant: the pages before do not reach the figure. Assumes nothing.
-use Prim.Native.Nat.{◌+◌, ◌-◌, ◌≤◌, ◌<◌}
+use Prim.Native.Nat.{◌+◌, ◌≤◌, ◌<◌}
 use native.Mathlib.Omega.{arith}
-use Rattle.store.specs.Reading.{list_in, page_count_of}
 use Rattle.store.proofs.SoundFacts.{facts}
-use Rattle.live_search.proofs.SpotLaws.{Going, goes, more, small, starts, stops}
+use Rattle.live_search.proofs.SpotLaws.{goes, more, small, starts, stops}
 use Rattle.live_search.proofs.page_of.Goals as goal
 
 pub entry_at-requires : goal.entry_at-requires

@@ -2,7 +2,6 @@
 use native.Mathlib.Omega.{arith}
 use Rattle.store.proofs.SoundFacts.{facts}
 use Rattle.live_page.proofs.Questions.{reach-8, reach-is}
-use borrow.Author.Rules.{rules}
 use Rattle.live_search.proofs.reach.Goals as goal
 
 pub link-requires : goal.link-requires

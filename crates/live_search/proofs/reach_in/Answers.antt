@@ -7,7 +7,6 @@ use Rattle.lists.proofs.Reach.{reached-zero}
 use Rattle.store.specs.Reading.{list_in}
 use Rattle.store.proofs.SoundFacts.{facts}
 use Rattle.live_search.proofs.SpotLaws.{spot-reached}
-use borrow.Author.Rules.{rules}
 use Rattle.live_search.proofs.reach_in.Goals as goal
 
 pub returns-then-q-eq0 : goal.returns-then-q-eq0

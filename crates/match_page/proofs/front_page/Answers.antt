@@ -1,7 +1,6 @@
 -- `match_page::front_page` meets its contract. Assumes nothing.
 use mathlib.Core.Path.{refl}
 use native.Mathlib.Omega.{arith}
-use borrow.Author.Rules.{rules}
 use Rattle.image_cursor.proofs.CursorLaws.{page-in, small}
 use Rattle.match_page.proofs.PageLaws.{front-page-is, root-above}
 use Rattle.match_page.proofs.front_page.Goals as goal

@@ -1,23 +1,16 @@
 -- `match_seek::first_above` meets its contract. Assumes nothing.
-use Prim.Native.Nat.{◌+◌, ◌≤◌}
 use native.Mathlib.Omega.{arith}
-use borrow.Author.Rules.{rules}
 use Rattle.match_seek.proofs.AboveLaws.{bit-small, first_of}
 use Rattle.match_seek.proofs.first_above.Goals as goal
-
-past-small : (c : goal.After-either-3) → c.either.result + c.either-2.result + c.either-3.result ≤ 3
-past-small c =
-    let e = c.either.ensures in
-    omega (arith, bit-small _ _ e, bit-small _ _ c.either-2.ensures, bit-small _ _ c.either-3.ensures)
 
 pub overflow_add-past : goal.overflow_add-past
 overflow_add-past c = omega (arith, bit-small _ _ c.either.ensures, bit-small _ _ c.either-2.ensures)
 
 pub overflow_add-past-2 : goal.overflow_add-past-2
-overflow_add-past-2 c = omega (arith, past-small c)
+overflow_add-past-2 c = omega (arith, bit-small _ _ c.either.ensures, bit-small _ _ c.either-2.ensures, bit-small _ _ c.either-3.ensures)
 
 pub overflow_add-result-2 : goal.overflow_add-result-2
-overflow_add-result-2 c = omega (arith, past-small c.before.before)
+overflow_add-result-2 c = omega (arith, bit-small _ _ c.either.ensures, bit-small _ _ c.either-2.ensures, bit-small _ _ c.either-3.ensures)
 
 pub returns : goal.returns
 returns c =

@@ -1,25 +1,13 @@
 -- `match_seek::pass` meets its contract. Assumes nothing.
-use mathlib.Core.Logic.{⊎_elim}
-use Prim.Native.Nat.{◌+◌, ◌-◌, ◌≤◌, ◌<◌}
+use Prim.Native.Nat.{◌+◌}
 use native.Mathlib.Omega.{arith}
-use borrow.Author.Rules.{rules}
 use Rattle.image.specs.Read.{list_of}
 use Rattle.image_cursor.proofs.CursorLaws.{small}
 use Rattle.match_page.proofs.PageLaws.{hours, page-small}
-use Rattle.match_seek.specs.Code.Seek.{Passing}
 use Rattle.match_seek.proofs.PassLaws.{ends-all, ends_as, ends-here, later-above, later_of, passing-first, passing-on, place_here}
 use Rattle.match_seek.proofs.SeekLaws.{first-low}
+use Rattle.match_seek.proofs.pass.Goals.{else-loop-i-test, then-loop-i-test+then-page-want, then-loop-i-test+else-page-want+then-carries}
 use Rattle.match_seek.proofs.pass.Goals as goal
-
--- a turn of the loop
-module _ (c : goal.At-loop-i) where
-    -- where it is known how many hours the page has from hour lo on
-
--- the place of the next count
-place : (c : goal.In-loop-i) → c.low_bits-b.result + c.loop-i.i < 256
-place c =
-    let a = c.requires.s_value in
-    place_here _ a.0 a.1 _ _ _ c.ahead-n.ensures c.low_bits-b.ensures _ c.loop-i-test.true
 
 pub low_bits-b-requires : goal.low_bits-b-requires
 low_bits-b-requires c =
@@ -52,13 +40,13 @@ loop-i-init c =
     (v.1, (v.2.0, l, v.2.1 l))
 
 pub overflow_add-want : goal.overflow_add-want
-overflow_add-want c = record { fits = omega (arith, place c) }
+overflow_add-want c = record { fits = omega (arith, place_here _ c.requires.s_value.0 c.requires.s_value.1 _ _ _ c.ahead-n.ensures c.low_bits-b.ensures _ c.loop-i-test.true) }
 
 pub offset_bounds-back-b : goal.offset_bounds-back-b
-offset_bounds-back-b c = record { fits = omega (arith, place c) }
+offset_bounds-back-b c = record { fits = omega (arith, place_here _ c.requires.s_value.0 c.requires.s_value.1 _ _ _ c.ahead-n.ensures c.low_bits-b.ensures _ c.loop-i-test.true) }
 
 pub bounds-back-b : goal.bounds-back-b
-bounds-back-b c = omega (arith, place c.before, c.requires.ready.0.long)
+bounds-back-b c = omega (arith, place_here _ c.requires.s_value.0 c.requires.s_value.1 _ _ _ c.ahead-n.ensures c.low_bits-b.ensures _ c.loop-i-test.true, c.requires.ready.0.long)
 
 pub overflow_cast-want : goal.overflow_cast-want
 overflow_cast-want c =
@@ -95,12 +83,14 @@ returns c =
     let f = first-low _ _ _ a.s_value.3 _ a.seeks.0 a.seeks.1 a.s_value.2 in
     let y = ends-all _ a.s_value.0 a.s_value.1 _ _ _ k m _ c.args.page _ a.ready.0 _ _ v.1 f v.0 in
     let n = ends-here _ a.s_value.0 a.s_value.1 _ _ _ k m _ c.args.page _ a.ready.0 _ _ v.1 in
-    later_of _ _ _ _ _ _ _ k
-    (⊎_elim (λ x. ends_as _ _ _ _ _ _ _ _ _ x.1 x.2 (y x.0.left))
-    (⊎_elim (λ x. ends_as _ _ _ _ _ _ _ _ _ x.4 x.5 (n x.0.taken)) (λ x. ends_as _ _ _ _ _ _ _ _ _ x.6 x.7 (n x.0.taken)))
-    c.loop-i-test.branch)
+    later_of (list_of c.args.s.now) c.args.q c.args.page.first c.ahead-n.result c.loop-i-test.i c.loop-i-test.want c.args.at k
+    (elim c.loop-i-test.branch [
+      | else-loop-i-test w ↦ ends_as _ _ _ _ _ _ _ _ _ w.want-is w.i-is (y w.loop-i-test.false)
+      | then-loop-i-test+then-page-want w ↦ ends_as _ _ _ _ _ _ _ _ _ w.want-is w.i-is (n w.loop-i-test.true)
+      | then-loop-i-test+else-page-want+then-carries w ↦ ends_as _ _ _ _ _ _ _ _ _ w.want-is w.i-is (n w.loop-i-test.true)
+    ])
 
 pub overflow_add-result : goal.overflow_add-result
 overflow_add-result c =
     let a = c.requires.s_value in
-    record { fits = omega (arith, (returns-2 c).seeks.inside, hours _ a.0 a.1, a.1.hours-small) }
+    omega (arith, (returns c).seeks.inside, hours _ a.0 a.1, a.1.hours-small)

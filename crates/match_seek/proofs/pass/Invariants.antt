@@ -1,13 +1,7 @@
 -- `match_seek::pass` meets its contract. Assumes nothing.
-use mathlib.Core.Logic.{⊎_elim}
-use Prim.Native.Nat.{◌+◌, ◌-◌, ◌≤◌, ◌<◌}
-use native.Mathlib.Omega.{arith}
+use Prim.Native.Nat.{◌-◌, ◌≤◌}
 use Rattle.image.specs.Read.{list_of}
-use Rattle.image_cursor.proofs.CursorLaws.{small}
-use Rattle.match_page.proofs.PageLaws.{hours, page-small}
 use Rattle.match_seek.specs.Code.Seek.{Passing}
-use Rattle.match_seek.proofs.PassLaws.{ends-all, ends_as, ends-here, later-above, later_of, passing-first, passing-on, place_here}
-use Rattle.match_seek.proofs.SeekLaws.{first-low}
 use Rattle.match_seek.proofs.pass.Given as goal
 
 abbrev pub invariant-loop-i : goal.invariant-loop-i

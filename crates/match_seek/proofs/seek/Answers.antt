@@ -2,10 +2,6 @@
 use mathlib.Core.Path.{◌≡◌}
 use Prim.Native.Nat.{◌+◌, ◌-◌, ◌≤◌}
 use native.Mathlib.Omega.{arith}
-use Rattle.image.specs.Read.{list_of}
-use Rattle.image_cursor.specs.Code.Cursor.{Ready}
-use Rattle.sum_marks.specs.Code.Prefix.{PrefixOf}
-use Rattle.match_seek.specs.Code.Seek.{Seeks}
 use Rattle.match_page.proofs.PageLaws.{counts-small, hours}
 use Rattle.sum_marks.proofs.PrefixLaws.{prefix-first, prefix-wider}
 use Rattle.match_seek.proofs.SeekLaws.{counts-marked, found_here, over-missed, want-grows}
@@ -36,7 +32,7 @@ returns-then-there-at c =
     c.if-there-at.true
 
 pub overflow_sub-result : goal.overflow_sub-result
-overflow_sub-result c = omega (arith, (returns c).matches.some)
+overflow_sub-result c = omega (arith, (returns-then-there-at c).matches.some)
 
 pub pass-next-requires : goal.pass-next-requires
 pass-next-requires c =

@@ -1,14 +1,9 @@
 -- `match_seek::seek` meets its contract. Assumes nothing.
-use mathlib.Core.Path.{◌≡◌}
-use Prim.Native.Nat.{◌+◌, ◌-◌, ◌≤◌}
-use native.Mathlib.Omega.{arith}
+use Prim.Native.Nat.{◌-◌}
 use Rattle.image.specs.Read.{list_of}
 use Rattle.image_cursor.specs.Code.Cursor.{Ready}
 use Rattle.sum_marks.specs.Code.Prefix.{PrefixOf}
 use Rattle.match_seek.specs.Code.Seek.{Seeks}
-use Rattle.match_page.proofs.PageLaws.{counts-small, hours}
-use Rattle.sum_marks.proofs.PrefixLaws.{prefix-first, prefix-wider}
-use Rattle.match_seek.proofs.SeekLaws.{counts-marked, found_here, over-missed, want-grows}
 use Rattle.match_seek.proofs.seek.Given as goal
 
 abbrev pub invariant-loop-at : goal.invariant-loop-at

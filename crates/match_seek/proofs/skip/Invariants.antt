@@ -1,12 +1,7 @@
 -- `match_seek::skip` meets its contract. Assumes nothing.
-use mathlib.Core.Path.{◌≡◌, refl, sym, subst}
-use Prim.Native.Nat.{ℕ, ◌+◌, ◌-◌, ◌≤◌, ◌<◌}
-use native.Mathlib.Omega.{arith}
+use Prim.Native.Nat.{◌-◌, ◌≤◌}
 use Rattle.image.specs.Read.{list_of}
-use Rattle.image_cursor.proofs.CursorLaws.{page-small}
-use Rattle.match_page.proofs.PageLaws.{hours, page-small as sum-small}
-use Rattle.match_seek.specs.Code.Seek.{Passing, Reached}
-use Rattle.match_seek.proofs.PassLaws.{above-four, passing-four, place_here}
+use Rattle.match_seek.specs.Code.Seek.{Passing}
 use Rattle.match_seek.proofs.skip.Given as goal
 
 abbrev pub invariant-loop-i : goal.invariant-loop-i

@@ -1,13 +1,11 @@
 -- `match_seek::visit` meets its contract. Assumes nothing.
 use native.Mathlib.Omega.{arith}
-use borrow.Author.Rules.{rules}
 use Rattle.match_seek.proofs.visit.Goals as goal
 
 pub returns-then-page-at : goal.returns-then-page-at
 returns-then-page-at c =
-    let p = c.requires.1 in
-    let a = p.1 in
-    ((a.0, omega (arith, c.if-page-at.true), a.1), p.0.0)
+    let a = c.requires.seeks in
+    ((a.0, omega (arith, c.if-page-at.true), a.1), c.requires.front_len.0)
 
 pub seek-requires : goal.seek-requires
 seek-requires c =

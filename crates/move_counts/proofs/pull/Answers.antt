@@ -1,11 +1,10 @@
 -- `move_counts::pull` meets its contract. The loop's invariant: what is left to do gives what all of it gives. Assumes nothing.
 use mathlib.Core.Path.{◌≡◌, refl, sym, ap, ◌∙◌}
-use Prim.Native.Nat.{ℕ, ◌-◌, ◌≤◌}
+use Prim.Native.Nat.{ℕ}
 use native.Mathlib.Omega.{arith}
 use lib.ListN.{length, set, length-set}
 use Rattle.move_counts.specs.Code.Turned.{pulled}
 use Rattle.move_counts.proofs.Turning.{pull-last, pull-on}
-use borrow.Author.Rules.{rules}
 use Rattle.move_counts.proofs.pull.Goals as goal
 
 pub loop-k-init : goal.loop-k-init

@@ -1,10 +1,8 @@
 -- `move_counts::pull` meets its contract. The loop's invariant: what is left to do gives what all of it gives. Assumes nothing.
-use mathlib.Core.Path.{◌≡◌, refl, sym, ap, ◌∙◌}
-use Prim.Native.Nat.{ℕ, ◌-◌, ◌≤◌}
-use native.Mathlib.Omega.{arith}
-use lib.ListN.{length, set, length-set}
+use mathlib.Core.Path.{◌≡◌}
+use Prim.Native.Nat.{◌-◌, ◌≤◌}
+use lib.ListN.{length}
 use Rattle.move_counts.specs.Code.Turned.{pulled}
-use Rattle.move_counts.proofs.Turning.{pull-last, pull-on}
 use Rattle.move_counts.proofs.pull.Given as goal
 
 abbrev pub invariant-loop-k : goal.invariant-loop-k

@@ -1,6 +1,5 @@
 -- `move_counts::turn` meets its contract. Assumes nothing.
 use Rattle.move_counts.proofs.Turning.{turned-insert, turned-strike}
-use borrow.Author.Rules.{rules}
 use Rattle.move_counts.proofs.turn.Goals as goal
 
 pub returns-then-strike : goal.returns-then-strike

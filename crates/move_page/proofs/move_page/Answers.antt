@@ -6,7 +6,6 @@ use native.Mathlib.Omega.{arith}
 use Rattle.lists.specs.Lists.{sum}
 use Rattle.move_counts.specs.Code.Turned.{turned}
 use Rattle.move_page.proofs.PageMoved.{can-rewrite, moved-now, of-page, out-low, pages-low, size_is, sum-now}
-use borrow.Author.Rules.{rules}
 use Rattle.move_page.proofs.move_page.Goals as goal
 
 pub entry_at-requires : goal.entry_at-requires

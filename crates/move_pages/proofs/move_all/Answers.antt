@@ -1,7 +1,6 @@
 -- `move_pages::move_all` meets its contract. Assumes nothing.
 use native.Mathlib.Omega.{arith}
 use Rattle.move_pages.proofs.PassSteps.{all-begins, all-ends, all-turns, header-in}
-use borrow.Author.Rules.{rules}
 use Rattle.move_pages.proofs.move_all.Goals as goal
 
 pub put_four-requires : goal.put_four-requires

@@ -1,12 +1,7 @@
 -- `move_pages::pass` meets its contract. The loop's invariant: the pass has come to page p. Assumes nothing.
-use mathlib.Core.Path.{◌≡◌, refl, ◌∙◌}
-use mathlib.Core.List.{List}
-use Prim.Native.Nat.{ℕ, ◌-◌, ◌≤◌}
+use mathlib.Core.Path.{refl, ◌∙◌}
 use native.Mathlib.Omega.{arith}
-use lib.ListN.{length}
-use Rattle.move_pages.specs.Code.Pass.{Enough, Stands}
 use Rattle.move_pages.proofs.PassSteps.{pass-begins, pass-ends, some-page}
-use borrow.Author.Rules.{rules}
 use Rattle.move_pages.proofs.pass.Goals as goal
 
 pub loop-p-init : goal.loop-p-init

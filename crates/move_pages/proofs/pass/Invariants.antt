@@ -1,11 +1,9 @@
 -- `move_pages::pass` meets its contract. The loop's invariant: the pass has come to page p. Assumes nothing.
-use mathlib.Core.Path.{◌≡◌, refl, ◌∙◌}
+use mathlib.Core.Path.{◌≡◌}
 use mathlib.Core.List.{List}
 use Prim.Native.Nat.{ℕ, ◌-◌, ◌≤◌}
-use native.Mathlib.Omega.{arith}
 use lib.ListN.{length}
 use Rattle.move_pages.specs.Code.Pass.{Enough, Stands}
-use Rattle.move_pages.proofs.PassSteps.{pass-begins, pass-ends, some-page}
 use Rattle.move_pages.proofs.pass.Given as goal
 
 abbrev pub invariant-loop-p : goal.invariant-loop-p

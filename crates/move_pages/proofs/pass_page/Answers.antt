@@ -3,7 +3,6 @@ use mathlib.Core.Path.{refl}
 use native.Mathlib.Omega.{arith}
 use borrow.Author.Tests.{not-false, not-true}
 use Rattle.move_pages.proofs.PassSteps.{asked_low, coming-asks, due-at, due-no, due-yes, had-low, movable, moves-on, stays_at}
-use borrow.Author.Rules.{rules}
 use Rattle.move_pages.proofs.pass_page.Goals as goal
 
 pub overflow_cast-has : goal.overflow_cast-has

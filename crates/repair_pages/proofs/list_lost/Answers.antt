@@ -1,13 +1,12 @@
 -- `repair_pages::list_lost` meets its contract. The invariant: the marks, the total and the list are those of the pages passed. Assumes nothing.
 use mathlib.Core.Path.{ap}
-use mathlib.Core.Logic.{⊎_elim}
-use Prim.Native.Nat.{ℕ, ◌-◌, ◌≤◌}
+use Prim.Native.Nat.{ℕ}
 use native.Mathlib.Omega.{arith}
 use lib.ListN.{length, length-replicate}
 use Rattle.store.specs.Code.Checked.{marks_length}
-use Rattle.repair_pages.proofs.ListSteps.{Turn, along-fits, along-start, noted-few, noted-start, turn-fits, turn-no, turn-yes, turns-done}
-use borrow.Author.Rules.{rules}
+use Rattle.repair_pages.proofs.ListSteps.{along-fits, along-start, noted-few, noted-start, turn-fits, turn-no, turn-yes, turns-done}
 use Rattle.repair_pages.proofs.list_lost.Goals as goal
+use Rattle.repair_pages.proofs.list_lost.Goals.{then-keep_page, else-keep_page}
 
 pub of-h-requires : goal.of-h-requires
 of-h-requires c = omega (arith, c.requires.fitting.long)
@@ -80,12 +79,14 @@ loop-p-preserved c =
     let few = q.fitting.limits.cells-high in
     let lt = c.loop-p-test.true in (
       omega arith,
-      ⊎_elim
-          (λ w. turn-yes _ _ _ _ _ _ l.p l.total l.n few l.invariant.1 k.ensures w.0.taken w.1.ensures w.2.ensures w.3 w.4 w.5)
-          (λ w.
-          turn-no _ _ _ _ _ _ l.p l.total l.n few l.invariant.1 k.ensures w.0.left
-          (omega (arith, noted-few _ _ _ l.n l.p l.invariant.1.noted, q.room, h.pages-is)) w.1 w.2 w.3)
-          c.if-keep_page.branch,
+      elim c.if-keep_page.branch [
+        | then-keep_page w ↦
+            turn-yes _ _ _ _ _ _ l.p l.total l.n few l.invariant.1 k.ensures w.if-keep_page.true w.entry_at.ensures w.get4-total.ensures
+            w.lost-is w.total-is w.n-is
+        | else-keep_page w ↦
+            turn-no _ _ _ _ _ _ l.p l.total l.n few l.invariant.1 k.ensures w.if-keep_page.false
+            (omega (arith, noted-few _ _ _ l.n l.p l.invariant.1.noted, q.room, h.pages-is)) w.lost-is w.total-is w.n-is
+      ],
     )
 
 pub shape_of-marks : goal.shape_of-marks

@@ -3,13 +3,11 @@ use mathlib.Core.Path.{refl, sym, ap}
 use native.Mathlib.Omega.{arith}
 use lib.Seq.{length-take-le}
 use mathlib.Core.Path.{◌≡◌}
-use mathlib.Core.List.{[], ◌∷◌}
-use types.Run.{OneOf, miss}
+use Prim.Native.Nat.{ℕ}
 use Rattle.answers.specs.Store.{refused, told}
 use Rattle.answers.specs.declared.store.Answer.{Answer}
 use Rattle.answers.specs.declared.store.Answer.TheVariants.{Changed, Number, Refused}
 use Rattle.replies.proofs.TurnLaws.{renew-refuses, renew-starts, not-changed, not-answered}
-use borrow.Author.Rules.{rules}
 use Rattle.replies.proofs.renew.Goals as goal
 
 pub slice_bounds-fresh-end-2 : goal.slice_bounds-fresh-end-2
@@ -27,10 +25,10 @@ returns-in-Refused c =
     _ _ (ap told c.in-Refused.is) refl refl
 
 -- an answer of the other two cases
-other : (x : Answer) → OneOf (0 ∷ 1 ∷ []) (denote.Enum.Declared.tag_of Rattle.answers.specs.contracts.store.Answer.the_type x) → told x ≡ refused 9 → ⊥
+other : (x : Answer) → ((k : ℕ) → x ≡ Refused k → ⊥) → told x ≡ refused 9 → ⊥
 other (Changed x y) k e = not-changed x y 9 e
 other (Number n) k e = not-answered n 9 e
-other (Refused n) k e = miss (0 ∷ 1 ∷ []) 2 tt k
+other (Refused n) k e = k n refl
 
 pub returns-in_default : goal.returns-in_default
 returns-in_default c =
@@ -38,4 +36,4 @@ returns-in_default c =
     let k = c.size_of-n in
     let f = c.fresh-answer in
     renew-starts a.pages a.cells a.store.now a.used k.result c.requires k.ensures.value k.ensures.upper_bound
-    (told f.result) f.new.s f.ensures _ (other f.result c.in_default.in_default-own.keys2) refl refl f.auto.s
+    (told f.result) f.new.s f.ensures _ (other f.result c.in_default.not-Refused) refl refl f.auto.s

@@ -3,7 +3,6 @@ use mathlib.Core.Path.{sym, ap}
 use Rattle.answers.specs.Store.{told}
 use Rattle.answers.specs.declared.store.Answer.{Answer}
 use Rattle.replies.specs.Session.{reply_for}
-use borrow.Author.Rules.{rules}
 use Rattle.replies.proofs.reply_to.Goals as goal
 
 pub returns-in-Changed : goal.returns-in-Changed

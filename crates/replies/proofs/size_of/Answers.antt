@@ -4,7 +4,6 @@ use mathlib.Core.Bool.{and-false}
 use native.Mathlib.Omega.{arith}
 use borrow.Author.Tests.{le-leb, lt-leb}
 use Rattle.lists.specs.Lists.{pick}
-use borrow.Author.Rules.{rules}
 use Rattle.store.specs.Limits.{max_cells, max_pages}
 use Rattle.replies.proofs.size_of.Goals as goal
 

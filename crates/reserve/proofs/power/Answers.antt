@@ -1,6 +1,5 @@
 -- `reserve::power` meets its contract. Assumes nothing.
 use Rattle.reserve.proofs.Bounds.{power-is}
-use borrow.Author.Rules.{rules}
 use Rattle.reserve.proofs.power.Goals as goal
 
 pub returns : goal.returns

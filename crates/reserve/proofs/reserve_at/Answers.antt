@@ -1,6 +1,5 @@
 -- `reserve::reserve_at` meets its contract. Assumes nothing.
 use Rattle.reserve.proofs.Bounds.{bounded, one-formula}
-use borrow.Author.Rules.{rules}
 use Rattle.reserve.proofs.reserve_at.Goals as goal
 
 pub formula-requires : goal.formula-requires

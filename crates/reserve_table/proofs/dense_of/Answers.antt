@@ -2,7 +2,6 @@
 use Prim.Native.Nat.{◌-◌, ◌*◌, ◌≤◌}
 use native.Mathlib.Omega.{arith}
 use lib.Pow.{shr_le}
-use borrow.Author.Rules.{rules}
 use Rattle.reserve.specs.Code.Formula.{Bounded}
 use Rattle.reserve_table.proofs.Dense.{above, parts, dense-is}
 use Rattle.reserve_table.proofs.dense_of.Goals as goal

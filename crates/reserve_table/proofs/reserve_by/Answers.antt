@@ -1,6 +1,5 @@
 -- `reserve_table::reserve_by` meets its contract. Assumes nothing.
 use mathlib.Core.Path.{◌∙◌}
-use borrow.Author.Rules.{rules}
 use Rattle.reserve_table.proofs.reserve_by.Goals as goal
 
 pub returns-then-s-lt64 : goal.returns-then-s-lt64

@@ -3,7 +3,6 @@ use mathlib.Core.Path.{refl}
 use Rattle.store.specs.Plain.{Call}
 use Rattle.replies.specs.Session.{turn}
 use Rattle.replies.proofs.TurnLaws.{asks-it, changes-it, front_long, leaves-it, of_part}
-use borrow.Author.Rules.{rules}
 use Rattle.respond.proofs.respond.Goals as goal
 
 pub slice_bounds-append-end-in-Append : goal.slice_bounds-append-end-in-Append
@@ -23,9 +22,6 @@ slice_bounds-reach-end-in-Reach c = front_long _ _ _ c.smaller-n.ensures
 
 pub slice_bounds-day-end-in-Day : goal.slice_bounds-day-end-in-Day
 slice_bounds-day-end-in-Day c = front_long _ _ _ c.smaller-n.ensures
-
-slice-aggregate-day-2 : tie.Need-slice-aggregate-day-2
-slice-aggregate-day-2 c = search rules
 
 pub slice_bounds-free-end-in-Free : goal.slice_bounds-free-end-in-Free
 slice_bounds-free-end-in-Free c = front_long _ _ _ c.smaller-n.ensures

@@ -3,7 +3,6 @@ use mathlib.Core.Path.{sym}
 use native.Mathlib.Omega.{arith}
 use lib.Seq.{length-take-le}
 use Rattle.session_input.proofs.GatherLaws.{ends-none, ends-line}
-use borrow.Author.Rules.{rules}
 use Rattle.session_input.proofs.finish.Goals as goal
 
 pub returns-then-held-eq0 : goal.returns-then-held-eq0

@@ -3,7 +3,6 @@ use mathlib.Core.Path.{sym}
 use native.Mathlib.Omega.{arith}
 use lib.Seq.{length-take-le}
 use Rattle.session_input.proofs.GatherLaws.{gathers-end, gathers-more, gathers-full}
-use borrow.Author.Rules.{rules}
 use Rattle.session_input.proofs.gather.Goals as goal
 
 pub slice_bounds-parse-end-then-byte-eq10 : goal.slice_bounds-parse-end-then-byte-eq10

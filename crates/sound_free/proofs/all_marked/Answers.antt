@@ -1,8 +1,7 @@
 -- `sound_free::all_marked` meets its contract. The loop's invariant: the cells that were passed are marked. Assumes nothing.
-use Prim.Native.Nat.{◌+◌, ◌-◌, ◌≤◌}
 use native.Mathlib.Omega.{arith}
 use Rattle.sound_free.specs.Code.Free.{every_cell_marked}
-use Rattle.sound_free.proofs.Blocks.{MarkedTo, mark-missing, mark-next, marks-whole}
+use Rattle.sound_free.proofs.Blocks.{mark-missing, mark-next, marks-whole}
 use borrow.Author.Rules.{rules}
 use Rattle.sound_free.proofs.all_marked.Goals as goal
 

@@ -1,8 +1,6 @@
 -- `sound_free::all_marked` meets its contract. The loop's invariant: the cells that were passed are marked. Assumes nothing.
 use Prim.Native.Nat.{◌+◌, ◌-◌, ◌≤◌}
-use native.Mathlib.Omega.{arith}
-use Rattle.sound_free.specs.Code.Free.{every_cell_marked}
-use Rattle.sound_free.proofs.Blocks.{MarkedTo, mark-missing, mark-next, marks-whole}
+use Rattle.sound_free.proofs.Blocks.{MarkedTo}
 use Rattle.sound_free.proofs.all_marked.Given as goal
 
 abbrev pub invariant-loop-c : goal.invariant-loop-c

@@ -1,20 +1,10 @@
 -- `sound_free::free_fits` meets its contract. The loop's invariant: the answer is that of the cells that are left. Assumes nothing.
-use mathlib.Core.Path.{◌≡◌, sym, ◌∙◌}
-use Prim.Native.Nat.{◌+◌, ◌-◌, ◌≤◌}
+use mathlib.Core.Path.{sym, ◌∙◌}
 use native.Mathlib.Omega.{arith}
-use lib.ListN.{length, length-set}
-use borrow.Author.Rules.{rules}
-use Rattle.sound_free.specs.Code.Free.{free_chain_fits, free_from}
+use lib.ListN.{length-set}
 use Rattle.sound_free.proofs.CellTest.{cell-range, good-cell, met-cell, no_cell}
 use Rattle.sound_free.proofs.FreeTest.{free-broken, free-ends, free-next, free_open, free-set, free-start}
-use Rattle.store.specs.Code.Checked.{marks_length}
 use Rattle.sound_free.proofs.free_fits.Goals as goal
-
--- the cell that a link names, once it was tested
-cell-of : (fine : goal.Else-not-one_to)
-    → (1 ≤ fine.link-c.result)
-    × (fine.link-c.result ≤ fine.args.cells)
-cell-of fine = cell-range _ fine.link-c.result fine.one_to.ensures fine.if-not-one_to.false-raw
 
 pub loop-j-init : goal.loop-j-init
 loop-j-init c =
@@ -31,7 +21,7 @@ returns-then-not-one_to c =
     ∙ sym l.invariant.3
 
 pub bounds-marks-c : goal.bounds-marks-c
-bounds-marks-c c = omega (arith, cell-of c)
+bounds-marks-c c = omega (arith, cell-range _ c.link-c.result c.one_to.ensures c.if-not-one_to.false-raw)
 
 pub returns-then-marks-c-ne0 : goal.returns-then-marks-c-ne0
 returns-then-marks-c-ne0 c =
@@ -42,24 +32,24 @@ returns-then-marks-c-ne0 c =
     ∙ sym l.invariant.3
 
 pub bounds-marks-c-in-loop-j : goal.bounds-marks-c-in-loop-j
-bounds-marks-c-in-loop-j c = omega (arith, cell-of c.before)
+bounds-marks-c-in-loop-j c = omega (arith, cell-range _ c.link-c.result c.one_to.ensures c.if-not-one_to.false-raw)
 
 pub cell_at-at-requires : goal.cell_at-at-requires
 cell_at-at-requires c =
-    let w = cell-of c.before in
+    let w = cell-range _ c.link-c.result c.one_to.ensures c.if-not-one_to.false-raw in
     (omega arith, w.0, omega arith)
 
 pub overflow_add-at : goal.overflow_add-at
-overflow_add-at c = omega (arith, cell-of c.before.before)
+overflow_add-at c = omega (arith, cell-range _ c.link-c.result c.one_to.ensures c.if-not-one_to.false-raw)
 
 pub zero_block-requires : goal.zero_block-requires
-zero_block-requires c = omega (arith, cell-of c.before.before)
+zero_block-requires c = omega (arith, cell-range _ c.link-c.result c.one_to.ensures c.if-not-one_to.false-raw)
 
 pub returns-then-not-zero_block : goal.returns-then-not-zero_block
 returns-then-not-zero_block c =
     let k = c.link-c in
     let l = c.loop-j in
-    let w = cell-of c.before.before.before.before in
+    let w = cell-range _ c.link-c.result c.one_to.ensures c.if-not-one_to.false-raw in
     free-set _ _ _ l.j l.marks k.ensures (omega arith)
     c.cell_at-at.ensures (omega arith) c.zero_block.ensures c.if-not-zero_block.true-raw
     ∙ sym l.invariant.3
@@ -69,7 +59,7 @@ loop-j-preserved c =
     let t = c.one_to in
     let k = c.link-c in
     let l = c.loop-j in
-    let w = cell-of c.before.before.before.before in
+    let w = cell-range _ c.link-c.result c.one_to.ensures c.if-not-one_to.false-raw in
     let good = good-cell _ k.result t.ensures l.marks c.if-not-one_to.false-raw c.if-marks-c-ne0.false in (
       omega arith,
       length-set l.marks k.result 1 ∙ l.invariant.1,

@@ -1,11 +1,8 @@
 -- `sound_free::free_fits` meets its contract. The loop's invariant: the answer is that of the cells that are left. Assumes nothing.
-use mathlib.Core.Path.{◌≡◌, sym, ◌∙◌}
+use mathlib.Core.Path.{◌≡◌}
 use Prim.Native.Nat.{◌+◌, ◌-◌, ◌≤◌}
-use native.Mathlib.Omega.{arith}
-use lib.ListN.{length, length-set}
+use lib.ListN.{length}
 use Rattle.sound_free.specs.Code.Free.{free_chain_fits, free_from}
-use Rattle.sound_free.proofs.CellTest.{cell-range, good-cell, met-cell, no_cell}
-use Rattle.sound_free.proofs.FreeTest.{free-broken, free-ends, free-next, free_open, free-set, free-start}
 use Rattle.store.specs.Code.Checked.{marks_length}
 use Rattle.sound_free.proofs.free_fits.Given as goal
 

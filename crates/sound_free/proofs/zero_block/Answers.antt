@@ -1,13 +1,11 @@
 -- `sound_free::zero_block` meets its contract. The loop's invariant: the sum is 0 just where the bytes that were passed are. Assumes
 -- nothing.
 use mathlib.Core.Path.{◌≡◌, ap, ◌∙◌}
-use Prim.Native.Nat.{ℕ, ◌-◌, ◌*◌, ◌%◌, ◌≤◌}
+use Prim.Native.Nat.{ℕ}
 use native.Mathlib.Omega.{arith}
 use lib.ListN.{replicate}
-use lib.Dec.{eqb}
 use Rattle.lists.specs.Lists.{part, same}
 use Rattle.sound_free.proofs.Blocks.{block-next, block-zero}
-use borrow.Author.Rules.{rules}
 use Rattle.sound_free.proofs.zero_block.Goals as goal
 
 pub loop-i-init : goal.loop-i-init

@@ -5,7 +5,6 @@ use borrow.Author.Tests.{not-false, not-true}
 use Rattle.store.specs.Fitting.{Fitting, fits}
 use Rattle.store.proofs.LimitLaws.{fitting}
 use Rattle.sound_head.proofs.HeadTest.{pair-number, shape-last, shape-no, unfit}
-use borrow.Author.Rules.{rules}
 use Rattle.sound_head.proofs.shape_fits.Goals as goal
 
 pub returns-then-s-lt-SIZE : goal.returns-then-s-lt-SIZE

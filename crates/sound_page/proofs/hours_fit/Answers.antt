@@ -1,6 +1,5 @@
 -- `sound_page::hours_fit` meets its contract: each return is one case of the hours logged. Assumes nothing.
 use native.Mathlib.Omega.{arith}
-use borrow.Author.Rules.{rules}
 use Rattle.sound_page.proofs.PageTest.{hours-all, hours-none, hours-some, page-lies}
 use Rattle.sound_page.proofs.hours_fit.Goals as goal
 

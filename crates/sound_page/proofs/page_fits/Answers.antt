@@ -1,11 +1,7 @@
 -- `sound_page::page_fits` meets its contract: each return is one of the three tests of a page's code. Assumes nothing.
-use mathlib.Core.Path.{◌≡◌, sym, ◌∙◌}
-use mathlib.Core.Bool.{true}
+use mathlib.Core.Path.{sym, ◌∙◌}
 use native.Mathlib.Omega.{arith}
-use borrow.Author.Rules.{rules}
 use borrow.Author.Tests.{not-false}
-use Rattle.bits.specs.Bits.{bits}
-use Rattle.tree.specs.Code.Exact.{exact}
 use Rattle.sound_page.proofs.PageTest.{few, fits-hours, fits-no-rest, fits-no-tree, fits-none, holds, page-lies}
 use Rattle.sound_page.proofs.page_fits.Goals as goal
 
@@ -41,23 +37,18 @@ zero_bits-requires c =
     let long = pre.0.long in
     (omega arith, omega arith, omega arith)
 
--- past the test of its tree
-tree-fits : (t : goal.Else-not-check)
-    → exact 6 t.args.s (bits t.args.code.now) 0 ≡ true
-tree-fits t = sym t.check.ensures ∙ not-false t.check.result t.if-not-check.false-raw
-
 pub returns-then-not-zero_bits : goal.returns-then-not-zero_bits
 returns-then-not-zero_bits c =
     let pre = c.requires in
-    fits-no-rest pre.0 pre.1 (λ i. omega (arith, c.type_inv.code i)) (tree-fits c.before.before.before)
+    fits-no-rest pre.0 pre.1 (λ i. omega (arith, c.type_inv.code i)) (sym c.check.ensures ∙ not-false c.check.result c.if-not-check.false-raw)
     c.reserve_of-used.ensures c.zero_bits.ensures c.if-not-zero_bits.true-raw
 
 pub hours_fit-requires : goal.hours_fit-requires
 hours_fit-requires c =
-    (c.requires.0, tree-fits c.before.before.before)
+    (c.requires.0, sym c.check.ensures ∙ not-false c.check.result c.if-not-check.false-raw)
 
 pub returns : goal.returns
 returns c =
     let pre = c.requires in
-    fits-hours pre.0 pre.1 (λ i. omega (arith, c.type_inv.code i)) (tree-fits c.before.before.before.before)
+    fits-hours pre.0 pre.1 (λ i. omega (arith, c.type_inv.code i)) (sym c.check.ensures ∙ not-false c.check.result c.if-not-check.false-raw)
     c.reserve_of-used.ensures c.zero_bits.ensures c.if-not-zero_bits.false-raw c.hours_fit.ensures

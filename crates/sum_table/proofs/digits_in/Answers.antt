@@ -1,6 +1,5 @@
 -- `sum_table::digits_in` meets its contract. Assumes nothing.
 use mathlib.Core.Path.{◌∙◌}
-use borrow.Author.Rules.{rules}
 use Rattle.sum_table.proofs.digits_in.Goals as goal
 
 pub returns : goal.returns

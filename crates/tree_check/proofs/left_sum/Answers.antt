@@ -1,7 +1,6 @@
 -- `tree_check::left_sum` meets its contract. Assumes nothing.
 use native.Mathlib.Omega.{arith}
 use Rattle.tree.proofs.Rooting.{halves, front-sum}
-use borrow.Author.Rules.{rules}
 use Rattle.tree_check.proofs.left_sum.Goals as goal
 
 pub part-requires : goal.part-requires

@@ -1,6 +1,5 @@
 -- `tree_check::nodes` meets its contract. Assumes nothing.
 use Rattle.tree_check.proofs.CheckSteps.{exact-leaf}
-use borrow.Author.Rules.{rules}
 use Rattle.tree_check.proofs.nodes.Goals as goal
 
 pub returns-then-h-eq0 : goal.returns-then-h-eq0

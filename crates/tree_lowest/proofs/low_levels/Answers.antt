@@ -4,7 +4,6 @@ use Prim.Native.Nat.{ℕ}
 use native.Mathlib.Omega.{arith}
 use Rattle.reserve.specs.Reserve.{reserve}
 use Rattle.tree_lowest.proofs.Lowest.{own-lt, own_pair, own-four}
-use borrow.Author.Rules.{rules}
 use Rattle.tree_lowest.proofs.low_levels.Goals as goal
 
 pub returns-then-h-eq1 : goal.returns-then-h-eq1

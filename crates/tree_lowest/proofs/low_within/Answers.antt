@@ -4,7 +4,6 @@ use Prim.Native.Nat.{ℕ}
 use native.Mathlib.Omega.{arith}
 use Rattle.reserve.specs.Reserve.{reserve}
 use Rattle.tree_lowest.proofs.Lowest.{own-lt, own-pair-not, own-pair-within, own-four-not, own-four-wide, own-four-within}
-use borrow.Author.Rules.{rules}
 use borrow.Author.Tests.{not-false, not-true}
 use Rattle.tree_lowest.proofs.low_within.Goals as goal
 
@@ -29,25 +28,23 @@ four_of-f-requires c =
       c.requires.0.total,
     )
 
--- four counts
-module _ (c : goal.After-four_of-f) where
-  four : c.args.h ≡ 2
-  four = omega (arith, c.if-h-eq1.false)
-
 pub returns-then-not-f : goal.returns-then-not-f
 returns-then-not-f c =
+    let four : c.args.h ≡ 2 = omega arith in
     own-four-not c.args.b.now c.args.at c.args.h c.args.s _ _ c.requires.0 c.requires.1 c.get_field-v.ensures c.args.widest
-    (four c.before.before) c.four_of-f.result c.four_of-f.ensures (not-true c.four_of-f.result.ok c.if-not-f.true)
+    four c.four_of-f.result c.four_of-f.ensures (not-true c.four_of-f.result.ok c.if-not-f.true)
 
 pub returns-then-not-both_within : goal.returns-then-not-both_within
 returns-then-not-both_within c =
+    let four : c.args.h ≡ 2 = omega arith in
     own-four-wide c.args.b.now c.args.at c.args.h c.args.s _ _ c.requires.0 c.requires.1 c.get_field-v.ensures c.args.widest
-    (four c.before.before.before.before) c.four_of-f.result c.four_of-f.ensures (not-false c.four_of-f.result.ok c.if-not-f.false)
-    (sym c.both_within-2.ensures ∙ not-true c.both_within-2.result c.if-not-both_within.true-raw)
+    four c.four_of-f.result c.four_of-f.ensures (not-false c.four_of-f.result.ok c.if-not-f.false)
+    (sym c.both_within-2.ensures ∙ c.if-not-both_within.true)
 
 pub returns : goal.returns
 returns c =
+    let four : c.args.h ≡ 2 = omega arith in
     c.both_within-3.ensures
     ∙ own-four-within c.args.b.now c.args.at c.args.h c.args.s _ _ c.requires.0 c.requires.1 c.get_field-v.ensures c.args.widest
-    (four c.before.before.before.before.before) c.four_of-f.result c.four_of-f.ensures (not-false c.four_of-f.result.ok c.if-not-f.false)
-    (sym c.both_within-2.ensures ∙ not-false c.both_within-2.result c.if-not-both_within.false-raw)
+    four c.four_of-f.result c.four_of-f.ensures (not-false c.four_of-f.result.ok c.if-not-f.false)
+    (sym c.both_within-2.ensures ∙ c.if-not-both_within.false)

@@ -1,11 +1,9 @@
 -- `tree_lowest::zero_bits` meets its contract. The loop's invariant: the answer is that of the bits that are left to be looked at.
 -- Assumes nothing.
-use mathlib.Core.Path.{◌≡◌, sym, ap₂, ◌∙◌}
+use mathlib.Core.Path.{◌≡◌}
 use Prim.Native.Nat.{◌+◌, ◌-◌, ◌≤◌}
-use native.Mathlib.Omega.{arith}
 use Rattle.bits.specs.Bits.{bits}
 use Rattle.tree.specs.Code.Exact.{clear}
-use Rattle.tree.proofs.Clearing.{clear-on, clear-not, clear_none}
 use Rattle.tree_lowest.proofs.zero_bits.Given as goal
 
 abbrev pub invariant-loop-done : goal.invariant-loop-done

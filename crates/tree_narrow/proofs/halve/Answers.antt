@@ -2,41 +2,54 @@
 use Prim.Native.Nat.{◌+◌, ◌≤◌, ◌<◌}
 use native.Mathlib.Omega.{arith}
 use Rattle.tree_narrow.proofs.NodeSteps.{read_above, read_whole, spare-in}
-use borrow.Author.Rules.{rules}
 use Rattle.tree_narrow.proofs.halve.Goals as goal
 
 pub returns-then-s-left : goal.returns-then-s-left
 returns-then-s-left c = read_above c.damaged.ensures c.left_sum-left.ensures c.if-s-left.true
 
--- where both halves' reserves are known
-module _ (c : goal.After-reserve_by-rest) where
-  spare-at : c.args.at + c.digits_of-t.result + c.reserve_by-own.result + c.reserve_by-rest.result ≤ c.args.at + c.args.r
-  spare-at =
-      spare-in c.args.h c.left_sum-left.result c.digits_of-t.ensures c.if-s-left.false c.reserve_by-own.ensures
-      c.reserve_by-rest.ensures c.requires.0 c.requires.2
-
-  -- all is far below the end of the numbers
-  small : c.args.at + c.args.r < 9223372036854775808
-  small = omega (arith, c.requires.0.small, c.requires.2)
-
 pub overflow_add-first : goal.overflow_add-first
-overflow_add-first c = omega (arith, spare-at c, small c)
+overflow_add-first c =
+    let small : c.args.at + c.args.r < 9223372036854775808 = omega (arith, c.requires.0.small, c.requires.2) in
+    let spare_at : c.args.at + c.digits_of-t.result + c.reserve_by-own.result + c.reserve_by-rest.result ≤ c.args.at + c.args.r =
+    spare-in c.args.h c.left_sum-left.result c.digits_of-t.ensures c.if-s-left.false c.reserve_by-own.ensures
+    c.reserve_by-rest.ensures c.requires.0 c.requires.2 in
+    omega (arith, spare_at, small)
 
 pub overflow_add-second : goal.overflow_add-second
-overflow_add-second c = omega (arith, spare-at c, small c)
+overflow_add-second c =
+    let small : c.args.at + c.args.r < 9223372036854775808 = omega (arith, c.requires.0.small, c.requires.2) in
+    let spare_at : c.args.at + c.digits_of-t.result + c.reserve_by-own.result + c.reserve_by-rest.result ≤ c.args.at + c.args.r =
+    spare-in c.args.h c.left_sum-left.result c.digits_of-t.ensures c.if-s-left.false c.reserve_by-own.ensures
+    c.reserve_by-rest.ensures c.requires.0 c.requires.2 in
+    omega (arith, spare_at, small)
 
 pub overflow_add-spare : goal.overflow_add-spare
-overflow_add-spare c = omega (arith, spare-at c, small c)
+overflow_add-spare c =
+    let small : c.args.at + c.args.r < 9223372036854775808 = omega (arith, c.requires.0.small, c.requires.2) in
+    let spare_at : c.args.at + c.digits_of-t.result + c.reserve_by-own.result + c.reserve_by-rest.result ≤ c.args.at + c.args.r =
+    spare-in c.args.h c.left_sum-left.result c.digits_of-t.ensures c.if-s-left.false c.reserve_by-own.ensures
+    c.reserve_by-rest.ensures c.requires.0 c.requires.2 in
+    omega (arith, spare_at, small)
 
 pub overflow_add-at : goal.overflow_add-at
-overflow_add-at c = omega (arith, small c)
+overflow_add-at c =
+    let small : c.args.at + c.args.r < 9223372036854775808 = omega (arith, c.requires.0.small, c.requires.2) in
+    omega (arith, small)
 
 pub overflow_sub-at : goal.overflow_sub-at
-overflow_sub-at c = omega (arith, spare-at c)
+overflow_sub-at c =
+    let spare_at : c.args.at + c.digits_of-t.result + c.reserve_by-own.result + c.reserve_by-rest.result ≤ c.args.at + c.args.r =
+    spare-in c.args.h c.left_sum-left.result c.digits_of-t.ensures c.if-s-left.false c.reserve_by-own.ensures
+    c.reserve_by-rest.ensures c.requires.0 c.requires.2 in
+    omega (arith, spare_at)
 
 pub zero_bits-requires : goal.zero_bits-requires
 zero_bits-requires c =
-    omega (arith, spare-at c, small c, c.requires.2, c.requires.0.inside, c.requires.0.long)
+    let small : c.args.at + c.args.r < 9223372036854775808 = omega (arith, c.requires.0.small, c.requires.2) in
+    let spare_at : c.args.at + c.digits_of-t.result + c.reserve_by-own.result + c.reserve_by-rest.result ≤ c.args.at + c.args.r =
+    spare-in c.args.h c.left_sum-left.result c.digits_of-t.ensures c.if-s-left.false c.reserve_by-own.ensures
+    c.reserve_by-rest.ensures c.requires.0 c.requires.2 in
+    omega (arith, spare_at, small, c.requires.2, c.requires.0.inside, c.requires.0.long)
 
 pub returns : goal.returns
 returns c =

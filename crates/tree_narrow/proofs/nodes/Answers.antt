@@ -1,7 +1,6 @@
 -- `tree_narrow::nodes` meets its contract. Assumes nothing.
 use mathlib.Core.Path.{◌∙◌}
 use Rattle.tree_narrow.proofs.NodeSteps.{exact-few, leaf-narrow}
-use borrow.Author.Rules.{rules}
 use Rattle.tree_narrow.proofs.nodes.Goals as goal
 
 pub returns-then-h-eq0 : goal.returns-then-h-eq0

@@ -8,19 +8,13 @@ use Rattle.tree.specs.Code.InWord.{InWord}
 use Rattle.tree.proofs.OneWord.{four-fits, loaded, left-read}
 use Rattle.tree_walk.proofs.LowPairs.{pick-le}
 use Rattle.tree_search.proofs.SeekPairs.{seek-above, passed-le, seek-two-bad, seek-two}
-use borrow.Author.Rules.{rules}
 use Rattle.tree_search.proofs.search_four.Goals as goal
 
--- where the left sum was read
-module _ (c : goal.After-part-left) where
-  low : InWord (bits c.args.b.now) c.args.at 2 c.args.s c.load-w.result 0
-  low = loaded c.requires.0 (four-fits c.args.s c.requires.1) c.load-w.ensures
-
-  left_is : left_of c.args.s (bits c.args.b.now) c.args.at ≡ c.part-left.result
-  left_is = left-read low _ _ c.digits_of.ensures c.part-left.ensures
-
 pub returns-then-s-left : goal.returns-then-s-left
-returns-then-s-left c = seek-above 1 _ _ _ _ (left_is c.before) c.if-s-left.true _ _
+returns-then-s-left c =
+    let low : InWord (bits c.args.b.now) c.args.at 2 c.args.s c.load-w.result 0 = loaded c.requires.0 (four-fits c.args.s c.requires.1) c.load-w.ensures in
+    let left_is : left_of c.args.s (bits c.args.b.now) c.args.at ≡ c.part-left.result = left-read low _ _ c.digits_of.ensures c.part-left.ensures in
+    seek-above 1 _ _ _ _ left_is c.if-s-left.true _ _
 
 pub one_pair-p-requires : goal.one_pair-p-requires
 one_pair-p-requires c =
@@ -28,7 +22,9 @@ one_pair-p-requires c =
 
 pub returns-then-p : goal.returns-then-p
 returns-then-p c =
-    seek-two-bad c.requires.0 (low c.before.before.before.before) _ (left_is c.before.before.before.before) c.if-s-left.false _ _ c.one_pair-p.ensures c.if-p.true
+    let low : InWord (bits c.args.b.now) c.args.at 2 c.args.s c.load-w.result 0 = loaded c.requires.0 (four-fits c.args.s c.requires.1) c.load-w.ensures in
+    let left_is : left_of c.args.s (bits c.args.b.now) c.args.at ≡ c.part-left.result = left-read low _ _ c.digits_of.ensures c.part-left.ensures in
+    seek-two-bad c.requires.0 low _ left_is c.if-s-left.false _ _ c.one_pair-p.ensures c.if-p.true
 
 pub overflow_add-result : goal.overflow_add-result
 overflow_add-result c =
@@ -37,7 +33,9 @@ overflow_add-result c =
 
 pub overflow_sub-q : goal.overflow_sub-q
 overflow_sub-q c =
-    passed-le c.requires.0 (low c.before.before.before.before.before.before) _ (left_is c.before.before.before.before.before.before) c.if-s-left.false _ c.args.n c.one_pair-p.ensures
+    let low : InWord (bits c.args.b.now) c.args.at 2 c.args.s c.load-w.result 0 = loaded c.requires.0 (four-fits c.args.s c.requires.1) c.load-w.ensures in
+    let left_is : left_of c.args.s (bits c.args.b.now) c.args.at ≡ c.part-left.result = left-read low _ _ c.digits_of.ensures c.part-left.ensures in
+    passed-le c.requires.0 low _ left_is c.if-s-left.false _ c.args.n c.one_pair-p.ensures
 
 pub overflow_add-result-2 : goal.overflow_add-result-2
 overflow_add-result-2 c =
@@ -47,5 +45,7 @@ overflow_add-result-2 c =
 
 pub returns : goal.returns
 returns c =
-    seek-two c.requires.0 (low c.before.before.before.before.before.before.before.before) _ (left_is c.before.before.before.before.before.before.before.before) c.if-s-left.false _ _ c.one_pair-p.ensures c.if-p.false _ _
+    let low : InWord (bits c.args.b.now) c.args.at 2 c.args.s c.load-w.result 0 = loaded c.requires.0 (four-fits c.args.s c.requires.1) c.load-w.ensures in
+    let left_is : left_of c.args.s (bits c.args.b.now) c.args.at ≡ c.part-left.result = left-read low _ _ c.digits_of.ensures c.part-left.ensures in
+    seek-two c.requires.0 low _ left_is c.if-s-left.false _ _ c.one_pair-p.ensures c.if-p.false _ _
     c.either.ensures c.either-2.ensures

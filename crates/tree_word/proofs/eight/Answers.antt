@@ -2,7 +2,6 @@
 use mathlib.Core.Path.{refl}
 use Rattle.bits.specs.Bits.{field}
 use Rattle.tree_word.proofs.Empty.{zeros-written}
-use borrow.Author.Rules.{rules}
 use Rattle.tree_word.proofs.eight.Goals as goal
 
 pub returns-then-s-eq0 : goal.returns-then-s-eq0

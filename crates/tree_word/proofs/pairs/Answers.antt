@@ -2,21 +2,7 @@
 use Prim.Native.Nat.{◌-◌, ◌≤◌, ◌<◌}
 use native.Mathlib.Omega.{arith}
 use Rattle.tree_word.proofs.FourCounts.{left_le, wide, small, first-le, third-le, four-written}
-use borrow.Author.Rules.{rules}
 use Rattle.tree_word.proofs.pairs.Goals as goal
-
--- where both fields were read
-module _ (c : goal.After-part-third) where
-  fits :
-      (c.part-first.result ≤ c.args.left) × (c.part-third.result ≤ c.args.s - c.args.left) × (c.args.left ≤ c.args.s)
-      × (c.args.s < 4294967296)
-  fits =
-      let q = c.requires.0 in (
-        first-le q _ _ c.part-first.ensures c.part-third.ensures,
-        third-le q _ _ c.part-first.ensures c.part-third.ensures,
-        left_le q.read,
-        small q.read,
-      )
 
 pub overflow_sub-right : goal.overflow_sub-right
 overflow_sub-right c = left_le c.requires.0.read
@@ -31,22 +17,70 @@ pub part-third-requires : goal.part-third-requires
 part-third-requires c = omega (arith, wide c.requires.0)
 
 pub overflow_cast-out : goal.overflow_cast-out
-overflow_cast-out c = omega (arith, fits c)
+overflow_cast-out c =
+    let fits : (c.part-first.result ≤ c.args.left) × (c.part-third.result ≤ c.args.s - c.args.left) × (c.args.left ≤ c.args.s)
+    × (c.args.s < 4294967296) = let q = c.requires.0 in (
+      first-le q _ _ c.part-first.ensures c.part-third.ensures,
+      third-le q _ _ c.part-first.ensures c.part-third.ensures,
+      left_le q.read,
+      small q.read,
+    ) in
+    omega (arith, fits)
 
 pub overflow_sub-out : goal.overflow_sub-out
-overflow_sub-out c = omega (arith, fits c.before)
+overflow_sub-out c =
+    let fits : (c.part-first.result ≤ c.args.left) × (c.part-third.result ≤ c.args.s - c.args.left) × (c.args.left ≤ c.args.s)
+    × (c.args.s < 4294967296) = let q = c.requires.0 in (
+      first-le q _ _ c.part-first.ensures c.part-third.ensures,
+      third-le q _ _ c.part-first.ensures c.part-third.ensures,
+      left_le q.read,
+      small q.read,
+    ) in
+    omega (arith, fits)
 
 pub overflow_cast-out-2 : goal.overflow_cast-out-2
-overflow_cast-out-2 c = omega (arith, fits c.before)
+overflow_cast-out-2 c =
+    let fits : (c.part-first.result ≤ c.args.left) × (c.part-third.result ≤ c.args.s - c.args.left) × (c.args.left ≤ c.args.s)
+    × (c.args.s < 4294967296) = let q = c.requires.0 in (
+      first-le q _ _ c.part-first.ensures c.part-third.ensures,
+      third-le q _ _ c.part-first.ensures c.part-third.ensures,
+      left_le q.read,
+      small q.read,
+    ) in
+    omega (arith, fits)
 
 pub overflow_cast-out-3 : goal.overflow_cast-out-3
-overflow_cast-out-3 c = omega (arith, fits c.before)
+overflow_cast-out-3 c =
+    let fits : (c.part-first.result ≤ c.args.left) × (c.part-third.result ≤ c.args.s - c.args.left) × (c.args.left ≤ c.args.s)
+    × (c.args.s < 4294967296) = let q = c.requires.0 in (
+      first-le q _ _ c.part-first.ensures c.part-third.ensures,
+      third-le q _ _ c.part-first.ensures c.part-third.ensures,
+      left_le q.read,
+      small q.read,
+    ) in
+    omega (arith, fits)
 
 pub overflow_sub-out-2 : goal.overflow_sub-out-2
-overflow_sub-out-2 c = omega (arith, fits c.before)
+overflow_sub-out-2 c =
+    let fits : (c.part-first.result ≤ c.args.left) × (c.part-third.result ≤ c.args.s - c.args.left) × (c.args.left ≤ c.args.s)
+    × (c.args.s < 4294967296) = let q = c.requires.0 in (
+      first-le q _ _ c.part-first.ensures c.part-third.ensures,
+      third-le q _ _ c.part-first.ensures c.part-third.ensures,
+      left_le q.read,
+      small q.read,
+    ) in
+    omega (arith, fits)
 
 pub overflow_cast-out-4 : goal.overflow_cast-out-4
-overflow_cast-out-4 c = omega (arith, fits c.before)
+overflow_cast-out-4 c =
+    let fits : (c.part-first.result ≤ c.args.left) × (c.part-third.result ≤ c.args.s - c.args.left) × (c.args.left ≤ c.args.s)
+    × (c.args.s < 4294967296) = let q = c.requires.0 in (
+      first-le q _ _ c.part-first.ensures c.part-third.ensures,
+      third-le q _ _ c.part-first.ensures c.part-third.ensures,
+      left_le q.read,
+      small q.read,
+    ) in
+    omega (arith, fits)
 
 pub returns : goal.returns
 returns c =

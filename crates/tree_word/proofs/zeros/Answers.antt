@@ -1,13 +1,12 @@
 -- `tree_word::zeros` meets its contract. The loop's invariant: the counts that were passed are zeros, and nothing else changed.
 -- Assumes nothing.
 use mathlib.Core.Path.{◌≡◌, refl, sym, ap, ◌∙◌}
-use Prim.Native.Nat.{ℕ, ◌-◌, ◌≤◌}
+use Prim.Native.Nat.{ℕ}
 use native.Mathlib.Omega.{arith}
-use lib.ListN.{length, replicate, length-set}
+use lib.ListN.{replicate, length-set}
 use Rattle.lists.specs.Lists.{splice}
 use Rattle.lists.proofs.Parts.{splice-nil}
 use Rattle.tree_word.proofs.Empty.{zero_more}
-use borrow.Author.Rules.{rules}
 use Rattle.tree_word.proofs.zeros.Goals as goal
 
 pub loop-i-init : goal.loop-i-init

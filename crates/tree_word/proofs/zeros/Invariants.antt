@@ -1,12 +1,9 @@
 -- `tree_word::zeros` meets its contract. The loop's invariant: the counts that were passed are zeros, and nothing else changed.
 -- Assumes nothing.
-use mathlib.Core.Path.{◌≡◌, refl, sym, ap, ◌∙◌}
-use Prim.Native.Nat.{ℕ, ◌-◌, ◌≤◌}
-use native.Mathlib.Omega.{arith}
-use lib.ListN.{length, replicate, length-set}
+use mathlib.Core.Path.{◌≡◌}
+use Prim.Native.Nat.{◌-◌, ◌≤◌}
+use lib.ListN.{length, replicate}
 use Rattle.lists.specs.Lists.{splice}
-use Rattle.lists.proofs.Parts.{splice-nil}
-use Rattle.tree_word.proofs.Empty.{zero_more}
 use Rattle.tree_word.proofs.zeros.Given as goal
 
 abbrev pub invariant-loop-i : goal.invariant-loop-i

@@ -11,11 +11,7 @@ use Rattle.reserve.specs.Reserve.{reserve}
 use Rattle.tree.specs.Tree.{tree}
 use Rattle.tree.proofs.Shape.{length-tree}
 use Rattle.tree_write.proofs.Blank.{blank-cleared}
-use borrow.Author.Rules.{rules}
 use Rattle.tree_write.proofs.write.Goals as goal
-
-room : (c : goal.Start) → c.args.at + c.args.r ≤ length (bits c.args.out.now)
-room c = omega (arith, length-bits c.args.out.now, c.requires.lies.0.inside, c.requires.r_value)
 
 pub clear_bits-requires : goal.clear_bits-requires
 clear_bits-requires c =
@@ -23,11 +19,13 @@ clear_bits-requires c =
 
 pub nodes-requires : goal.nodes-requires
 nodes-requires c =
+    let room : c.args.at + c.args.r ≤ length (bits c.args.out.now) = omega (arith, length-bits c.args.out.now, c.requires.lies.0.inside, c.requires.r_value) in
     let z = c.clear_bits in
-    let blank = blank-cleared (bits c.args.out.now) (bits z.new.out) c.args.at c.args.r (room c.before.before.before.before.before.before.before) z.ensures in record { lies = (omega (arith, c.requires.lies.0, z.auto.out), c.requires.lies.1, c.requires.lies.2); blank = rw (sym c.requires.r_value) blank }
+    let blank = blank-cleared (bits c.args.out.now) (bits z.new.out) c.args.at c.args.r room z.ensures in record { lies = (omega (arith, c.requires.lies.0, z.auto.out), c.requires.lies.1, c.requires.lies.2); blank = rw (sym c.requires.r_value) blank }
 
 pub returns : goal.returns
 returns c =
+    let room : c.args.at + c.args.r ≤ length (bits c.args.out.now) = omega (arith, length-bits c.args.out.now, c.requires.lies.0.inside, c.requires.r_value) in
     let n = c.nodes in
     let z = c.clear_bits in
     let a = c.args in
@@ -35,4 +33,4 @@ returns c =
     let lz = length-replicate {A = ℕ} a.r 0 in
     let lT : length T ≡ a.r = length-tree a.h (window a.counts.now a.from (2 ^ a.h)) ∙ ap (reserve a.h) (sym c.requires.lies.1) ∙ sym c.requires.r_value in
     n.ensures ∙ ap (λ y. splice y a.at T) z.ensures
-    ∙ splice-over (bits a.out.now) (replicate a.r 0) T a.at (omega (arith, lz, lT)) (omega (arith, lz, room c.before.before.before.before.before.before.before.before.before.before))
+    ∙ splice-over (bits a.out.now) (replicate a.r 0) T a.at (omega (arith, lz, lT)) (omega (arith, lz, room))

@@ -1,5 +1,5 @@
 -- `words::of_bag` meets its contract. Assumes nothing.
-use Rattle.std.proofs.Common.{sym, ap, ◌∙◌, rules}
+use Rattle.std.proofs.Common.{sym, ap, ◌∙◌}
 use Rattle.words.specs.End.{end_of_bag}
 use Rattle.words.specs.Words.{word_of}
 use Rattle.words.proofs.of_bag.Goals as goal

@@ -1,5 +1,5 @@
 -- `words::of_store` meets its contract. Assumes nothing.
-use Rattle.std.proofs.Common.{sym, ap, ◌∙◌, rules}
+use Rattle.std.proofs.Common.{sym, ap, ◌∙◌}
 use Rattle.answers.specs.Store.{told}
 use Rattle.words.specs.End.{end_of_store}
 use Rattle.words.specs.Words.{word_of}

@@ -1,7 +1,6 @@
 -- `words::pair` meets its contract. Assumes nothing.
 use Rattle.words.proofs.WordLaws.{pair_is}
-use Rattle.std.proofs.Common.{rules}
 use Rattle.words.proofs.pair.Goals as goal
 
 pub returns : goal.returns
-returns c = pair_is _ _ _ _ c.wrapping_add_u64.ensures
+returns c = pair_is _ _ _ _ c.wrapping_add_u64.ensures.value

@@ -1,6 +1,5 @@
 -- `bits::numbers::get2` meets its contract. Assumes nothing.
 use Rattle.bits.proofs.Little.{number2}
-use borrow.Author.Rules.{rules}
 use Rattle.bits.proofs.numbers.get2.Goals as goal
 
 pub returns : goal.returns

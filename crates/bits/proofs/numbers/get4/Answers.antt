@@ -1,6 +1,5 @@
 -- `bits::numbers::get4` meets its contract. Assumes nothing.
 use Rattle.bits.proofs.Little.{number4}
-use borrow.Author.Rules.{rules}
 use Rattle.bits.proofs.numbers.get4.Goals as goal
 
 pub returns : goal.returns

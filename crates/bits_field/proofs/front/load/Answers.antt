@@ -1,6 +1,5 @@
 -- `bits_field::front::load` meets its contract. Assumes nothing.
 use Rattle.bits_field.proofs.Leading.{front-is}
-use borrow.Author.Rules.{rules}
 use Rattle.bits_field.proofs.front.load.Goals as goal
 
 pub returns : goal.returns

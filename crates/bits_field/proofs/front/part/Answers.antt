@@ -1,6 +1,5 @@
 -- `bits_field::front::part` meets its contract. Assumes nothing.
 use Rattle.bits_field.proofs.Leading.{part-is}
-use borrow.Author.Rules.{rules}
 use Rattle.bits_field.proofs.front.part.Goals as goal
 
 pub returns : goal.returns

@@ -1,9 +1,6 @@
 -- `book_in::plan::add_pages` meets its contract. Assumes nothing.
-use Prim.Native.Nat.{ℕ, ◌-◌, ◌*◌, ◌≤◌, ◌<◌}
-use native.Mathlib.Omega.{arith}
-use Rattle.image_plan.specs.Code.Planning.{Awaits, Drafted}
-use Rattle.image_plan.specs.declared.Plan.{Plan}
-use Rattle.image_plan.proofs.PageByPage.{awaited, fewer, page-from}
+use Prim.Native.Nat.{◌-◌}
+use Rattle.image_plan.specs.Code.Planning.{Drafted}
 use Rattle.book.specs.Book.{list_of_book}
 use Rattle.book_in.proofs.plan.add_pages.Given as goal
 

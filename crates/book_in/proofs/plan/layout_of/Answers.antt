@@ -3,9 +3,7 @@ use Prim.Native.Nat.{◌/◌}
 use lib.ListN.{length}
 use Rattle.book.specs.Book.{list_of_book}
 use Rattle.book.proofs.BookLaws.{length-listed}
-use Rattle.image_plan.specs.Code.Planning.{Whole}
 use Rattle.image_plan.proofs.PlanLaws.{opened, unopened}
-use borrow.Author.Rules.{rules}
 use Rattle.book_in.proofs.plan.layout_of.Goals as goal
 
 pub add_pages-requires : goal.add_pages-requires
@@ -15,13 +13,10 @@ add_pages-requires c =
     c.in-Open.is (length-listed a.book.now)
 
 -- all pages were added
-abbrev whole : (c : goal.After-add_pages) → Whole c.add_pages.result
-whole c =
+pub finish-requires : goal.finish-requires
+finish-requires c =
     let a = c.args in
     record { e = a.e; xs = list_of_book a.book.now; drafted = c.add_pages.ensures.0; all = c.add_pages.ensures.1 }
-
-pub finish-requires : goal.finish-requires
-finish-requires c = whole c
 
 pub returns-in-Refused : goal.returns-in-Refused
 returns-in-Refused c =
@@ -30,4 +25,4 @@ returns-in-Refused c =
     c.in-Refused.is (length-listed a.book.now)
 
 pub returns-in-Open : goal.returns-in-Open
-returns-in-Open c = c.finish.ensures (whole c.before)
+returns-in-Open c = c.finish.ensures record { e = c.args.e; xs = list_of_book c.args.book.now; drafted = c.add_pages.ensures.0; all = c.add_pages.ensures.1 }

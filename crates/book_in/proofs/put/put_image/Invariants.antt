@@ -1,16 +1,11 @@
 -- `book_in::put::put_image` meets its contract. The loop's invariant: whatever buffer the pages so far were put into, they are still. Assumes
 -- nothing.
-use mathlib.Core.Path.{◌≡◌, refl, sym}
+use mathlib.Core.Path.{◌≡◌}
 use mathlib.Core.List.{List}
-use Prim.Native.Nat.{ℕ, ◌-◌, ◌*◌, ◌≤◌, ◌<◌}
+use Prim.Native.Nat.{ℕ, ◌-◌}
 use lib.ListN.{length}
-use native.Mathlib.Omega.{arith}
 use Rattle.book.specs.Book.{list_of_book}
-use Rattle.image_put.specs.Code.Writing.{Filled, Handed, Laid}
-use Rattle.image_put.specs.declared.Place.{Place}
-use Rattle.image_plan.proofs.PageByPage.{page-from}
-use Rattle.image_put.proofs.PageByPage.{filled, laid-since}
-use Rattle.book_in.proofs.BookPages.{page-front}
+use Rattle.image_put.specs.Code.Writing.{Laid}
 use Rattle.book_in.proofs.put.put_image.Given as goal
 
 abbrev pub invariant-loop-at : goal.invariant-loop-at

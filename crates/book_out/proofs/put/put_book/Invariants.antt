@@ -1,16 +1,10 @@
 -- `book_out::put::put_book` meets its contract. The loop's invariant: the hours of the pages before p are put. Assumes nothing.
-use mathlib.Core.List.{List}
-use mathlib.Core.Path.{◌≡◌, refl, sym}
-use Prim.Native.Nat.{ℕ, ◌*◌, ◌-◌, ◌^◌, ◌<◌}
-use native.Mathlib.Nat.{mul-le-mul_left}
-use native.Mathlib.Omega.{arith}
+use mathlib.Core.Path.{◌≡◌}
+use Prim.Native.Nat.{◌*◌, ◌-◌, ◌^◌}
 use lib.ListN.{length, take}
 use Rattle.lists.specs.Lists.{splice}
 use Rattle.book.specs.Book.{book_of}
 use Rattle.image.specs.Read.{e_of, list_of}
-use Rattle.image.proofs.Accepted.{accepted-only, length-list}
-use Rattle.image_page.proofs.AcceptedPage.{page-room, places}
-use Rattle.book_out.proofs.OutLaws.{Sizes, all-put, none-put, put-long, read-four, read-long, read_more, sizes}
 use Rattle.book_out.proofs.put.put_book.Given as goal
 
 abbrev pub invariant-loop-p : goal.invariant-loop-p

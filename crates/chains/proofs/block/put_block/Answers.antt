@@ -1,12 +1,11 @@
 -- `chains::block::put_block` meets its contract. Assumes nothing.
 use mathlib.Core.Path.{◌≡◌, refl, ap, ◌∙◌}
-use Prim.Native.Nat.{ℕ, ◌+◌, ◌-◌, ◌≤◌}
+use Prim.Native.Nat.{ℕ, ◌+◌}
 use native.Mathlib.Omega.{arith}
-use lib.ListN.{length, get_or, set, length-set}
+use lib.ListN.{get_or, set, length-set}
 use lib.Seq.{sets}
 use Rattle.lists.specs.Lists.{part}
 use Rattle.lists.proofs.Parts.{sets-next}
-use borrow.Author.Rules.{rules}
 use Rattle.chains.proofs.block.put_block.Goals as goal
 
 pub loop-i-init : goal.loop-i-init

@@ -1,11 +1,9 @@
 -- `chains::block::put_block` meets its contract. Assumes nothing.
-use mathlib.Core.Path.{◌≡◌, refl, ap, ◌∙◌}
-use Prim.Native.Nat.{ℕ, ◌+◌, ◌-◌, ◌≤◌}
-use native.Mathlib.Omega.{arith}
-use lib.ListN.{length, get_or, set, length-set}
+use mathlib.Core.Path.{◌≡◌}
+use Prim.Native.Nat.{◌-◌, ◌≤◌}
+use lib.ListN.{length}
 use lib.Seq.{sets}
 use Rattle.lists.specs.Lists.{part}
-use Rattle.lists.proofs.Parts.{sets-next}
 use Rattle.chains.proofs.block.put_block.Given as goal
 
 abbrev pub invariant-loop-i : goal.invariant-loop-i

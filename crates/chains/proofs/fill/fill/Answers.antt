@@ -1,13 +1,11 @@
 -- `chains::fill::fill` meets its contract. Assumes nothing.
 use mathlib.Core.Path.{◌≡◌, refl, sym, ap, ◌∙◌}
-use Prim.Native.Nat.{ℕ, ◌+◌, ◌-◌, ◌*◌, ◌≤◌}
+use Prim.Native.Nat.{ℕ, ◌+◌, ◌-◌, ◌*◌}
 use native.Mathlib.Omega.{arith}
-use lib.ListN.{length, drop}
+use lib.ListN.{drop}
 use lib.Seq.{sets}
 use Rattle.lists.specs.Lists.{part}
-use Rattle.store.specs.Code.Links.{Steps, filled}
 use Rattle.store.proofs.Filling.{fill-next, fill-again, fill_done}
-use borrow.Author.Rules.{rules}
 use Rattle.chains.proofs.fill.fill.Goals as goal
 
 pub loop-j-init : goal.loop-j-init

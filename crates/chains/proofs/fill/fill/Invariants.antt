@@ -1,12 +1,8 @@
 -- `chains::fill::fill` meets its contract. Assumes nothing.
-use mathlib.Core.Path.{◌≡◌, refl, sym, ap, ◌∙◌}
-use Prim.Native.Nat.{ℕ, ◌+◌, ◌-◌, ◌*◌, ◌≤◌}
-use native.Mathlib.Omega.{arith}
+use mathlib.Core.Path.{◌≡◌}
+use Prim.Native.Nat.{◌-◌, ◌*◌, ◌≤◌}
 use lib.ListN.{length, drop}
-use lib.Seq.{sets}
-use Rattle.lists.specs.Lists.{part}
 use Rattle.store.specs.Code.Links.{Steps, filled}
-use Rattle.store.proofs.Filling.{fill-next, fill-again, fill_done}
 use Rattle.chains.proofs.fill.fill.Given as goal
 
 abbrev pub invariant-loop-j : goal.invariant-loop-j

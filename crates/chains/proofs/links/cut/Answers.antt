@@ -1,6 +1,5 @@
 -- `chains::links::cut` meets its contract. Assumes nothing.
 use Rattle.store.specs.Code.Links.{cut}
-use borrow.Author.Rules.{rules}
 use Rattle.chains.proofs.links.cut.Goals as goal
 
 pub returns : goal.returns

@@ -1,6 +1,5 @@
 -- `chains::links::join` meets its contract. Assumes nothing.
 use Rattle.store.specs.Code.Links.{joined}
-use borrow.Author.Rules.{rules}
 use Rattle.chains.proofs.links.join.Goals as goal
 
 pub returns : goal.returns

@@ -1,10 +1,7 @@
 -- `chains::links::link_after` meets its contract. Assumes nothing.
-use Prim.Native.Nat.{◌≤◌}
-use mathlib.Core.Path.{◌≡◌, refl, sym, ◌∙◌}
+use mathlib.Core.Path.{refl, sym, ◌∙◌}
 use native.Mathlib.Omega.{arith}
-use Rattle.store.specs.Code.Links.{nth_link, Steps}
 use Rattle.chains.proofs.LinkSteps.{step_of, steps-fit}
-use borrow.Author.Rules.{rules}
 use Rattle.chains.proofs.links.link_after.Goals as goal
 
 pub loop-left-init : goal.loop-left-init
@@ -14,20 +11,20 @@ pub link-requires : goal.link-requires
 link-requires c =
     let a = c.args in
     let l = c.loop-left in
-    (step_of a.s.now a.base l.at l.false c.loop-left-test.true l.invariant.1).fits
+    (step_of a.s.now a.base l.at l.left c.loop-left-test.true l.invariant.1).fits
 
 pub cell_at-at-requires : goal.cell_at-at-requires
 cell_at-at-requires c =
     let a = c.args in
     let l = c.loop-left in
-    let w = step_of a.s.now a.base l.at l.false c.loop-left-test.true l.invariant.1 in
+    let w = step_of a.s.now a.base l.at l.left c.loop-left-test.true l.invariant.1 in
     omega (arith, w.cell, c.link.ensures.is, c.link.ensures.small)
 
 pub loop-left-preserved : goal.loop-left-preserved
 loop-left-preserved c =
     let a = c.args in
     let l = c.loop-left in
-    let w = step_of a.s.now a.base l.at l.false c.loop-left-test.true l.invariant.1 in
+    let w = step_of a.s.now a.base l.at l.left c.loop-left-test.true l.invariant.1 in
     let e = c.cell_at-at.ensures in
     let i = c.link.ensures.is in
     (omega arith, rw (e, i) w.more, rw (e, i) (l.invariant.2 ∙ w.same))
@@ -36,5 +33,5 @@ pub returns : goal.returns
 returns c =
     let a = c.args in
     let l = c.loop-left in
-    let w = steps-fit a.s.now a.base l.at l.false (omega arith) l.invariant.1 in
+    let w = steps-fit a.s.now a.base l.at l.left (omega arith) l.invariant.1 in
     (sym (l.invariant.2 ∙ w.1), w.0)

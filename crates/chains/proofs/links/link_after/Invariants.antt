@@ -1,9 +1,7 @@
 -- `chains::links::link_after` meets its contract. Assumes nothing.
 use Prim.Native.Nat.{◌≤◌}
-use mathlib.Core.Path.{◌≡◌, refl, sym, ◌∙◌}
-use native.Mathlib.Omega.{arith}
+use mathlib.Core.Path.{◌≡◌}
 use Rattle.store.specs.Code.Links.{nth_link, Steps}
-use Rattle.chains.proofs.LinkSteps.{step_of, steps-fit}
 use Rattle.chains.proofs.links.link_after.Given as goal
 
 abbrev pub invariant-loop-left : goal.invariant-loop-left

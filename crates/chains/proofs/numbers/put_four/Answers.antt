@@ -1,7 +1,6 @@
 -- `chains::numbers::put_four` meets its contract. Assumes nothing.
 use Rattle.store.proofs.Writes.{put-splice}
 use mathlib.Core.Path.{◌∙◌}
-use borrow.Author.Rules.{rules}
 use Rattle.chains.proofs.numbers.put_four.Goals as goal
 
 pub returns : goal.returns

@@ -1,7 +1,6 @@
 -- `chains::rewrite::rewrite` meets its contract. Assumes nothing.
 use native.Mathlib.Omega.{arith}
 use Rattle.chains.proofs.LinkSteps.{rewritten-is}
-use borrow.Author.Rules.{rules}
 use Rattle.chains.proofs.rewrite.rewrite.Goals as goal
 
 pub join-requires : goal.join-requires

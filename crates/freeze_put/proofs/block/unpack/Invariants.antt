@@ -1,19 +1,10 @@
 -- `freeze_put::block::unpack` meets its contract. Assumes nothing.
-use mathlib.Core.Path.{refl, ap, ◌∙◌}
-use Prim.Native.Nat.{◌<◌}
-use lib.ListN.{length-replicate}
-use Rattle.tree_decode.proofs.Limits.{small-fits}
-use Rattle.pages.proofs.Coding.{lies}
-use Rattle.pages.proofs.SoundPage.{as_said, sum-small}
-use Rattle.store.proofs.SoundFacts.{facts}
-use Rattle.lists.proofs.Blocks.{block-is, none-put, one-put, put-length, row}
-use Rattle.freeze_put.proofs.Listing.{page-decoded}
+use Rattle.lists.proofs.Blocks.{row}
 use mathlib.Core.Path.{◌≡◌}
-use Prim.Native.Nat.{ℕ, ◌+◌, ◌-◌, ◌*◌, ◌≤◌}
-use native.Mathlib.Omega.{arith}
+use Prim.Native.Nat.{◌-◌, ◌≤◌}
 use lib.ListN.{length}
 use Rattle.lists.specs.Lists.{splice}
-use Rattle.store.specs.Reading.{list_in, page_count_of}
+use Rattle.store.specs.Reading.{list_in}
 use Rattle.freeze_put.proofs.block.unpack.Given as goal
 
 abbrev pub invariant-loop-j : goal.invariant-loop-j

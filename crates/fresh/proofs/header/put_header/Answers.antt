@@ -1,6 +1,5 @@
 -- `fresh::header::put_header` meets its contract. Assumes nothing.
 use Rattle.fresh.proofs.FreshBytes.{headed-is}
-use borrow.Author.Rules.{rules}
 use Rattle.fresh.proofs.header.put_header.Goals as goal
 
 pub returns : goal.returns

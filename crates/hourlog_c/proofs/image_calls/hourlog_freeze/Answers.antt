@@ -1,7 +1,6 @@
 -- `hourlog_c::image_calls::hourlog_freeze` meets its contract. Assumes nothing.
 use Prim.Native.Nat.{ℕ}
 use Rattle.hourlog_c.proofs.Exports.{freeze-answers}
-use borrow.Author.Rules.{rules}
 use Rattle.hourlog_c.proofs.image_calls.hourlog_freeze.Goals as goal
 
 pub returns : goal.returns

@@ -1,6 +1,5 @@
 -- `hourlog_c::image_calls::hourlog_image_length` meets its contract. Assumes nothing.
 use Rattle.hourlog_c.proofs.Exports.{length-answers}
-use borrow.Author.Rules.{rules}
 use Rattle.hourlog_c.proofs.image_calls.hourlog_image_length.Goals as goal
 
 pub returns : goal.returns

@@ -1,7 +1,6 @@
 -- `hourlog_c::image_calls::hourlog_image_reading` meets its contract. Assumes nothing.
 use Prim.Native.Nat.{ℕ}
 use Rattle.hourlog_c.proofs.Exports.{reading-answers}
-use borrow.Author.Rules.{rules}
 use Rattle.hourlog_c.proofs.image_calls.hourlog_image_reading.Goals as goal
 
 pub returns : goal.returns

@@ -1,6 +1,5 @@
 -- `hourlog_c::image_calls::hourlog_image_to_bcd` meets its contract. Assumes nothing.
 use Rattle.hourlog_c.proofs.BookExports.{to-answers}
-use borrow.Author.Rules.{rules}
 use Rattle.hourlog_c.proofs.image_calls.hourlog_image_to_bcd.Goals as goal
 
 pub returns : goal.returns

@@ -1,7 +1,6 @@
 -- `hourlog_c::store_calls::hourlog_count` meets its contract. Assumes nothing.
 use Prim.Native.Nat.{ℕ}
 use Rattle.hourlog_c.proofs.Exports.{live-answers}
-use borrow.Author.Rules.{rules}
 use Rattle.hourlog_c.proofs.store_calls.hourlog_count.Goals as goal
 
 pub returns : goal.returns

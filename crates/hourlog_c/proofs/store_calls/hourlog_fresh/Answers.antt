@@ -1,6 +1,5 @@
 -- `hourlog_c::store_calls::hourlog_fresh` meets its contract. Assumes nothing.
 use Rattle.hourlog_c.proofs.Exports.{fresh-answers}
-use borrow.Author.Rules.{rules}
 use Rattle.hourlog_c.proofs.store_calls.hourlog_fresh.Goals as goal
 
 pub returns : goal.returns

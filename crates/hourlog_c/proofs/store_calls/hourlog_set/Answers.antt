@@ -1,8 +1,9 @@
 -- `hourlog_c::store_calls::hourlog_set` meets its contract. Assumes nothing.
 use Prim.Native.Nat.{ℕ}
 use Rattle.hourlog_c.proofs.Exports.{change-answers}
-use borrow.Author.Rules.{rules}
 use Rattle.hourlog_c.proofs.store_calls.hourlog_set.Goals as goal
 
 pub returns : goal.returns
-returns c = change-answers _ _ _ _ _ _ (λ (j : ℕ). (c.slice_known-1.given j).fits) c.of_store.ensures c.set.ensures
+returns c =
+    let r = change-answers _ _ _ _ _ _ (λ (j : ℕ). (c.slice_known-1.given j).fits) c.of_store.ensures (c.set.ensures.called, c.set.ensures.takes_at_most) in
+    record { answers = r.0; costs = r.1 }

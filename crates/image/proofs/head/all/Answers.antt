@@ -1,11 +1,7 @@
 -- `image::head::all` meets its contract. The loop's invariant: the tests from i on say what all say. Assumes nothing.
-use mathlib.Core.Path.{◌≡◌, refl, sym, ◌∙◌}
-use Prim.Native.Nat.{◌-◌, ◌≤◌}
+use mathlib.Core.Path.{refl, sym, ◌∙◌}
 use native.Mathlib.Omega.{arith}
-use lib.ListN.{length, drop}
-use borrow.Author.Rules.{rules}
 use borrow.Author.Tests.{not-true, not-false}
-use Rattle.lists.specs.Lists.{every}
 use Rattle.image.proofs.HeadLaws.{every-end, every-on, every-stop}
 use Rattle.image.proofs.head.all.Goals as goal
 

@@ -1,11 +1,8 @@
 -- `image::head::all` meets its contract. The loop's invariant: the tests from i on say what all say. Assumes nothing.
-use mathlib.Core.Path.{◌≡◌, refl, sym, ◌∙◌}
+use mathlib.Core.Path.{◌≡◌}
 use Prim.Native.Nat.{◌-◌, ◌≤◌}
-use native.Mathlib.Omega.{arith}
 use lib.ListN.{length, drop}
-use borrow.Author.Tests.{not-true, not-false}
 use Rattle.lists.specs.Lists.{every}
-use Rattle.image.proofs.HeadLaws.{every-end, every-on, every-stop}
 use Rattle.image.proofs.head.all.Given as goal
 
 abbrev pub invariant-loop-i : goal.invariant-loop-i

@@ -1,8 +1,4 @@
 use Rattle.image.proofs.TailLaws.{narrow-read}
-use borrow.Author.Rules.{rules}
-use Rattle.image.proofs.head.narrow_tail.Reads as reads
-use Rattle.image.proofs.head.narrow_tail.Lts as lts
-use Rattle.bits.proofs.numbers.get4.Reads as get4-reads
 use Rattle.image.proofs.head.narrow_tail.Goals as goal
 
 pub returns : goal.returns

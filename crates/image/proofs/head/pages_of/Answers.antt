@@ -1,7 +1,6 @@
 -- `image::head::pages_of` meets its contract. Assumes nothing.
 use native.Mathlib.Omega.{arith}
 use lib.Pow.{pow_pos, pow_mono}
-use borrow.Author.Rules.{rules}
 use Rattle.image.proofs.HeadLaws.{pages-of-is}
 use Rattle.image.proofs.head.pages_of.Goals as goal
 

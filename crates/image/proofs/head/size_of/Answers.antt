@@ -1,5 +1,4 @@
 -- `image::head::size_of` meets its contract. Assumes nothing.
-use borrow.Author.Rules.{rules}
 use Rattle.image.proofs.HeadLaws.{size-of-is}
 use Rattle.image.proofs.head.size_of.Goals as goal
 

@@ -1,12 +1,6 @@
 use borrow.Author.Tests.{not-true, not-false}
 use mathlib.Core.Path.{sym, ◌∙◌}
 use Rattle.image.proofs.TailLaws.{unread, wide_read, wide_short, wide-wrong}
-use borrow.Author.Rules.{rules}
-use Rattle.image.proofs.head.wide_tail.Reads as reads
-use Rattle.image.proofs.head.wide_tail.Lts as lts
-use Rattle.bits.proofs.numbers.get4.Reads as get4-reads
-use Rattle.image.proofs.head.all.Reads as all-reads
-use Rattle.image.proofs.head.wrong_tail.Reads as wrong-tail-reads
 use Rattle.image.proofs.head.wide_tail.Goals as goal
 
 pub returns-then-s-lt-WIDE_SIZE : goal.returns-then-s-lt-WIDE_SIZE

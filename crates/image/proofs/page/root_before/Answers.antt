@@ -1,6 +1,5 @@
 -- `image::page::root_before` meets its contract. Assumes nothing.
 use native.Mathlib.Omega.{arith}
-use borrow.Author.Rules.{rules}
 use Rattle.image.proofs.RootLaws.{before-first, before-next}
 use Rattle.image.proofs.page.root_before.Goals as goal
 

@@ -1,21 +1,19 @@
 -- `image::page::root_of` meets its contract. Assumes nothing.
 use mathlib.Core.Path.{◌≡◌, ap, ◌∙◌}
+use mathlib.Core.List.{List}
 use Prim.Native.Nat.{ℕ, ◌+◌, ◌*◌}
 use native.Mathlib.Omega.{arith}
-use borrow.Author.Rules.{rules}
-use Rattle.bits.specs.Numbers.{number_at}
-use Rattle.image.specs.Image.{table_at}
+use Rattle.bits.specs.Numbers.{Number, number_at}
+use Rattle.image.specs.Image.{header_length, table_at}
 use Rattle.image.specs.Read.{wide_of}
 use Rattle.image.proofs.HeadLaws.{bounds}
 use Rattle.image.proofs.RootLaws.{root-bad, root-good}
 use Rattle.image.proofs.page.root_of.Goals as goal
 
 -- page p's start bit stands in the table
-start_is : (c : goal.After-get4-start)
-    → c.get4-start.result ≡ number_at c.args.s.now (table_at (wide_of c.args.s.now) c.args.p) 4
-start_is c =
-    c.get4-start.ensures.is
-    ∙ ap (λ (z : ℕ). number_at c.args.s.now z 4) (c.table_at.ensures ∙ ap (λ (z : ℕ). z + 4 * c.args.p) c.requires.0.head.table_is)
+start_is : {s : List ℕ} (p : ℕ) {t a r : ℕ} → Number s a 4 r → a ≡ t + 4 * p → t ≡ header_length (wide_of s)
+    → r ≡ number_at s (table_at (wide_of s) p) 4
+start_is {s} p g h k = g.is ∙ ap (λ (z : ℕ). number_at s z 4) (h ∙ ap (λ (z : ℕ). z + 4 * p) k)
 
 pub table_at-requires : goal.table_at-requires
 table_at-requires c =
@@ -28,7 +26,8 @@ get4-start-requires c =
 
 pub returns-then-h-end : goal.returns-then-h-end
 returns-then-h-end c =
-    root-bad c.args.s.now c.args.h c.requires.0 c.args.p _ _ (start_is c.before.before.before) c.digits_of-w.ensures
+    root-bad c.args.s.now c.args.h c.requires.0 c.args.p _ _ (start_is c.args.p c.get4-start.ensures c.table_at.ensures c.requires.0.head.table_is)
+    c.digits_of-w.ensures
     c.if-h-end.true
 
 pub overflow_add-h : goal.overflow_add-h
@@ -52,5 +51,5 @@ get_field-value-requires c =
 
 pub returns : goal.returns
 returns c =
-    root-good c.args.s.now c.args.h c.requires.0 c.args.p _ _ (start_is c.before.before.before.before.before)
+    root-good c.args.s.now c.args.h c.requires.0 c.args.p _ _ (start_is c.args.p c.get4-start.ensures c.table_at.ensures c.requires.0.head.table_is)
     c.digits_of-w.ensures c.get_field-value.result c.if-h-end.false c.get_field-value.ensures

@@ -1,12 +1,9 @@
 -- `image_busiest::window::best_window` meets its contract. Assumes nothing.
 use mathlib.Core.Path.{◌≡◌, sym}
-use Prim.Native.Nat.{◌+◌, ◌-◌}
+use Prim.Native.Nat.{◌+◌}
 use native.Mathlib.Nat.{zero-add}
 use native.Mathlib.Omega.{arith}
-use borrow.Author.Rules.{rules}
-use Rattle.image_cursor.specs.Code.Cursor.{Ready}
 use Rattle.image_cursor.proofs.CursorLaws.{small}
-use Rattle.image_busiest.specs.Code.{Looked}
 use Rattle.image_busiest.proofs.WindowLaws.{found, hours, looked-first}
 use Rattle.image_busiest.proofs.window.best_window.Goals as goal
 

@@ -1,6 +1,5 @@
 -- `image_busiest::window::first_sum` meets its contract. Assumes nothing.
 use native.Mathlib.Omega.{arith}
-use borrow.Author.Rules.{rules}
 use Rattle.image_busiest.proofs.ReadingLaws.{first-sum-is, opened}
 use Rattle.image_busiest.proofs.window.first_sum.Goals as goal
 

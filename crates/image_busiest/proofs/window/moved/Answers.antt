@@ -1,5 +1,4 @@
 -- `image_busiest::window::moved` meets its contract. Assumes nothing.
-use borrow.Author.Rules.{rules}
 use Rattle.image_busiest.proofs.WindowLaws.{later-new, later-old}
 use Rattle.image_busiest.proofs.window.moved.Goals as goal
 

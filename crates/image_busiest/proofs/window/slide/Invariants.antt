@@ -1,10 +1,7 @@
 -- `image_busiest::window::slide` meets its contract. Assumes nothing.
 use mathlib.Core.Path.{◌≡◌}
 use Prim.Native.Nat.{◌+◌, ◌-◌, ◌≤◌}
-use native.Mathlib.Omega.{arith}
-use Rattle.image_cursor.proofs.CursorLaws.{small}
 use Rattle.image_busiest.specs.Code.{Looked}
-use Rattle.image_busiest.proofs.WindowLaws.{back-place, can-move, front-place, moves}
 use Rattle.image_busiest.proofs.window.slide.Given as goal
 
 abbrev pub invariant-loop-i : goal.invariant-loop-i

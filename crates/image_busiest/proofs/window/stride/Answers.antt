@@ -1,5 +1,4 @@
 -- `image_busiest::window::stride` meets its contract. Assumes nothing.
-use borrow.Author.Rules.{rules}
 use Rattle.image_busiest.proofs.WindowLaws.{along-least}
 use Rattle.image_busiest.proofs.window.stride.Goals as goal
 

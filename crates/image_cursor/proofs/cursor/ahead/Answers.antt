@@ -1,5 +1,4 @@
 -- `image_cursor::cursor::ahead` meets its contract. Assumes nothing.
-use borrow.Author.Rules.{rules}
 use Rattle.image_cursor.proofs.CursorLaws.{ahead-least}
 use Rattle.image_cursor.proofs.cursor.ahead.Goals as goal
 

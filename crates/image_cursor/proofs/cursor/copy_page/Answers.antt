@@ -1,9 +1,7 @@
 -- `image_cursor::cursor::copy_page` meets its contract. Assumes nothing.
 use mathlib.Core.Path.{◌≡◌, refl, ◌∙◌}
-use Prim.Native.Nat.{◌-◌, ◌≤◌}
 use native.Mathlib.Omega.{arith}
-use lib.ListN.{length, take, length-set}
-use borrow.Author.Rules.{rules}
+use lib.ListN.{length-set}
 use Rattle.lists.proofs.Parts.{copied_next}
 use Rattle.image_cursor.proofs.cursor.copy_page.Goals as goal
 

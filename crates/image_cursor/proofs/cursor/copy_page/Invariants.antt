@@ -1,9 +1,7 @@
 -- `image_cursor::cursor::copy_page` meets its contract. Assumes nothing.
-use mathlib.Core.Path.{◌≡◌, refl, ◌∙◌}
+use mathlib.Core.Path.{◌≡◌}
 use Prim.Native.Nat.{◌-◌, ◌≤◌}
-use native.Mathlib.Omega.{arith}
-use lib.ListN.{length, take, length-set}
-use Rattle.lists.proofs.Parts.{copied_next}
+use lib.ListN.{length, take}
 use Rattle.image_cursor.proofs.cursor.copy_page.Given as goal
 
 abbrev pub invariant-loop-i : goal.invariant-loop-i

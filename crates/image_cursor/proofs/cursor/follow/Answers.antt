@@ -1,6 +1,5 @@
 -- `image_cursor::cursor::follow` meets its contract. Assumes nothing.
 use native.Mathlib.Omega.{arith}
-use borrow.Author.Rules.{rules}
 use Rattle.image.proofs.PageLaws.{hour-low}
 use Rattle.image_cursor.proofs.CursorLaws.{page-small, ready-copied, small}
 use Rattle.image_cursor.proofs.cursor.follow.Goals as goal

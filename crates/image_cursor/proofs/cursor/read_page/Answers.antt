@@ -1,6 +1,5 @@
 -- `image_cursor::cursor::read_page` meets its contract. Assumes nothing.
 use native.Mathlib.Omega.{arith}
-use borrow.Author.Rules.{rules}
 use Rattle.image_page.proofs.AcceptedPage.{page-room, places}
 use Rattle.image_cursor.proofs.CursorLaws.{page-in, ready-end, ready_read, small}
 use Rattle.image_cursor.proofs.cursor.read_page.Goals as goal

@@ -1,6 +1,5 @@
 -- `image_cursor::cursor::room` meets its contract. Assumes nothing.
 use native.Mathlib.Omega.{arith}
-use borrow.Author.Rules.{rules}
 use Rattle.image.proofs.PageLaws.{hour-low}
 use Rattle.image_cursor.proofs.cursor.room.Goals as goal
 

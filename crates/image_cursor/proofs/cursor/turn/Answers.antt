@@ -1,6 +1,5 @@
 -- `image_cursor::cursor::turn` meets its contract. Assumes nothing.
 use native.Mathlib.Omega.{arith}
-use borrow.Author.Rules.{rules}
 use Rattle.image_cursor.proofs.CursorLaws.{page-small, ready-stays, small}
 use Rattle.image_cursor.proofs.cursor.turn.Goals as goal
 

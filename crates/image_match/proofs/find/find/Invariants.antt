@@ -1,15 +1,13 @@
 -- `image_match::find::find` meets its contract. Assumes nothing.
-use mathlib.Core.Path.{◌≡◌, refl, ap, sym, subst}
-use Prim.Native.Nat.{ℕ, ◌+◌, ◌-◌}
-use native.Mathlib.Omega.{arith}
+use mathlib.Core.Path.{◌≡◌}
+use Prim.Native.Nat.{◌-◌}
 use lib.ListN.{length}
 use Rattle.lists.specs.Lists.{reading}
 use Rattle.image.specs.Read.{list_of}
 use Rattle.image_cursor.specs.Code.Cursor.{Ready}
 use Rattle.sum_marks.specs.Code.Marks.{marks_length}
-use Rattle.match_seek.specs.Code.Seek.{Brings, Seeks}
-use Rattle.match_page.proofs.PageLaws.{Border, border-first, border-next, coins-first, coins-next, coins-small, hours}
-use Rattle.match_seek.proofs.SeekLaws.{seeks-as, seeks-beyond, seeks-first, seeks-none}
+use Rattle.match_seek.specs.Code.Seek.{Seeks}
+use Rattle.match_page.proofs.PageLaws.{Border}
 use Rattle.image_match.proofs.find.find.Given as goal
 
 abbrev pub invariant-loop-first : goal.invariant-loop-first

@@ -1,10 +1,8 @@
 -- `image_merge::block::add` meets its contract. Assumes nothing.
-use Prim.Native.Nat.{◌+◌, ◌-◌}
+use Prim.Native.Nat.{◌+◌}
 use native.Mathlib.Omega.{arith}
-use mathlib.Core.Path.{◌≡◌, ap₂}
-use lib.ListN.{get_or}
-use borrow.Author.Rules.{rules}
-use Rattle.image_merge.proofs.BlockLaws.{Adding, added-all, added-not, adding-next, adding-none}
+use mathlib.Core.Path.{ap₂}
+use Rattle.image_merge.proofs.BlockLaws.{added-all, added-not, adding-next, adding-none}
 use Rattle.image_merge.proofs.block.add.Goals as goal
 
 pub loop-i-init : goal.loop-i-init
@@ -16,19 +14,14 @@ bounds-more-i c = omega (arith, c.requires.1, c.loop-i-test.true)
 pub overflow_add-sum : goal.overflow_add-sum
 overflow_add-sum c = omega (arith, c.wide.ensures, c.wide-in-loop-i.ensures)
 
--- the sum of this hour
-module _ (c : goal.After-wide-in-loop-i) where
-  sum_is : c.wide.result + c.wide-in-loop-i.result ≡ get_or c.loop-i.counts c.loop-i.i 0 + get_or c.args.more.now c.loop-i.i 0
-  sum_is = ap₂ ◌+◌ c.wide.ensures.0 c.wide-in-loop-i.ensures.0
-
 pub returns-then-sum-gt-MAX_COUNT : goal.returns-then-sum-gt-MAX_COUNT
-returns-then-sum-gt-MAX_COUNT c = added-not _ _ _ c.loop-i.i c.loop-i.invariant c.loop-i-test.true (omega (arith, sum_is c.before, c.if-sum-gt-MAX_COUNT.true))
+returns-then-sum-gt-MAX_COUNT c = added-not _ _ _ c.loop-i.i c.loop-i.invariant c.loop-i-test.true (omega (arith, ap₂ ◌+◌ c.wide.ensures.0 c.wide-in-loop-i.ensures.0, c.if-sum-gt-MAX_COUNT.true))
 
 pub loop-i-smaller : goal.loop-i-smaller
 loop-i-smaller c = omega (arith, c.loop-i-test.true)
 
 pub loop-i-preserved : goal.loop-i-preserved
-loop-i-preserved c = adding-next _ _ _ c.loop-i.i _ c.loop-i.invariant c.loop-i-test.true (sum_is c.before) c.if-sum-gt-MAX_COUNT.false
+loop-i-preserved c = adding-next _ _ _ c.loop-i.i _ c.loop-i.invariant c.loop-i-test.true (ap₂ ◌+◌ c.wide.ensures.0 c.wide-in-loop-i.ensures.0) c.if-sum-gt-MAX_COUNT.false
 
 pub returns : goal.returns
 returns c = added-all _ _ _ c.loop-i.i c.loop-i.invariant c.loop-i-test.false

@@ -1,9 +1,6 @@
 -- `image_merge::block::add` meets its contract. Assumes nothing.
-use Prim.Native.Nat.{◌+◌, ◌-◌}
-use native.Mathlib.Omega.{arith}
-use mathlib.Core.Path.{◌≡◌, ap₂}
-use lib.ListN.{get_or}
-use Rattle.image_merge.proofs.BlockLaws.{Adding, added-all, added-not, adding-next, adding-none}
+use Prim.Native.Nat.{◌-◌}
+use Rattle.image_merge.proofs.BlockLaws.{Adding}
 use Rattle.image_merge.proofs.block.add.Given as goal
 
 abbrev pub invariant-loop-i : goal.invariant-loop-i

@@ -1,19 +1,10 @@
 -- `image_merge::plan::draft` meets its contract. Assumes nothing.
-use mathlib.Core.List.{List}
-use mathlib.Core.Path.{◌≡◌, refl, sym}
-use mathlib.Core.Bool.{true}
+use mathlib.Core.Path.{◌≡◌}
 use Prim.Native.Nat.{ℕ, ◌-◌, ◌*◌, ◌^◌, ◌≤◌, ◌<◌, min}
-use native.Mathlib.Omega.{arith}
 use lib.ListN.{get_or}
-use lib.Pow.{pow_pos}
-use borrow.Author.Tests.{not-false, not-true}
 use Rattle.lists.specs.Counts.{max_count}
-use Rattle.image.specs.Read.{list_of}
-use Rattle.image_plan.specs.Code.Planning.{Drafted, Whole}
-use Rattle.image_merge.specs.Code.{Block, sums_of}
-use Rattle.image_merge.proofs.BlockLaws.{grown}
-use Rattle.image_merge.proofs.MergeLaws.{count_no}
-use Rattle.image_merge.proofs.PlanLaws.{fewer, k-few, merging_of, whole-within}
+use Rattle.image_plan.specs.Code.Planning.{Drafted}
+use Rattle.image_merge.specs.Code.{sums_of}
 use Rattle.image_merge.proofs.plan.draft.Given as goal
 
 abbrev pub invariant-loop-next : goal.invariant-loop-next

@@ -1,6 +1,5 @@
 -- `image_merge::plan::layout_of` meets its contract. Assumes nothing.
 use mathlib.Core.Path.{subst}
-use borrow.Author.Rules.{rules}
 use Rattle.image_plan.specs.Code.Planning.{Begun}
 use Rattle.image_plan.proofs.PlanLaws.{opened}
 use Rattle.image_merge.specs.Code.{sums_of}

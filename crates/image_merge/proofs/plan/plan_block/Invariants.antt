@@ -1,13 +1,8 @@
 -- `image_merge::plan::plan_block` meets its contract. Assumes nothing.
-use mathlib.Core.Path.{◌≡◌, refl, sym, ap, ◌∙◌}
-use Prim.Native.Nat.{ℕ, ◌+◌, ◌-◌, ◌*◌, ◌^◌, ◌≤◌, ◌<◌, min}
-use native.Mathlib.Nat.{mul-le-mul_left, mul-le-mul_right}
-use native.Mathlib.Omega.{arith}
-use Rattle.image_plan.specs.Code.Planning.{Awaits, Drafted}
-use Rattle.image_plan.specs.declared.Plan.{Plan}
-use Rattle.image.proofs.Blocks.{In, Sizes, in_block, sizes}
+use mathlib.Core.Path.{◌≡◌}
+use Prim.Native.Nat.{◌-◌, ◌*◌, ◌≤◌, ◌<◌}
+use Rattle.image_plan.specs.Code.Planning.{Drafted}
 use Rattle.image_merge.specs.Code.{Block}
-use Rattle.image_merge.proofs.BlockLaws.{block-sum}
 use Rattle.image_merge.proofs.plan.plan_block.Given as goal
 
 abbrev pub invariant-loop-next : goal.invariant-loop-next

@@ -1,17 +1,9 @@
 -- `image_merge::put::put_block` meets its contract. Assumes nothing.
-use mathlib.Core.Path.{refl, sym, ap, ◌∙◌}
-use Prim.Native.Nat.{min}
-use native.Mathlib.Nat.{mul-le-mul_left, mul-le-mul_right}
-use Rattle.image_put.specs.Code.Writing.{Handed, Laid}
-use Rattle.image_put.specs.declared.Place.{Place}
-use Rattle.image.proofs.Blocks.{In, Sizes, block-few, counts-in, in_block, sizes}
+use Rattle.image_put.specs.Code.Writing.{Laid}
 use Rattle.image_merge.specs.Code.{sums_of}
-use Rattle.image_merge.proofs.BlockLaws.{all-counts}
-use mathlib.Core.Bool.{true}
 use mathlib.Core.List.{List}
 use mathlib.Core.Path.{◌≡◌}
-use Prim.Native.Nat.{ℕ, ◌+◌, ◌-◌, ◌*◌, ◌≤◌}
-use native.Mathlib.Omega.{arith}
+use Prim.Native.Nat.{ℕ, ◌-◌, ◌*◌, ◌≤◌}
 use lib.ListN.{length}
 use Rattle.image_merge.proofs.put.put_block.Given as goal
 

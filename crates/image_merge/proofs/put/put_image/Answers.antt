@@ -4,10 +4,12 @@ use Rattle.image_merge.specs.Code.{Blocked, sums_of}
 use Rattle.image.proofs.Blocks.{block-few, sizes}
 use mathlib.Core.List.{List}
 use mathlib.Core.Path.{◌≡◌, refl}
-use Prim.Native.Nat.{ℕ, ◌-◌, ◌*◌, ◌^◌, ◌≤◌, ◌<◌}
+use Prim.Native.Nat.{ℕ, ◌-◌, ◌*◌, ◌^◌, ◌<◌}
 use native.Mathlib.Omega.{arith}
 use lib.ListN.{length}
-use Rattle.image_put.specs.Code.Writing.{Filled, Laid}
+use Rattle.image_put.specs.Code.Writing.{Laid}
+use Rattle.image_plan.specs.declared.Layout.{Layout}
+use Rattle.image_put.specs.declared.Place.{Place}
 use Rattle.image_put.proofs.PageByPage.{filled, laid-since}
 use Rattle.image_merge.proofs.put.put_image.Goals as goal
 
@@ -17,34 +19,23 @@ begin-at-requires c = record { xs = sums_of c.args.a.now c.args.b.now; room = c.
 pub loop-at-init : goal.loop-at-init
 loop-at-init c = (λ l. omega (arith, c.begin-at.ensures.0), λ first a. a)
 
--- the pages so far
-module _ (c : goal.After-put_block-arg-1) where
-  so_far : Laid (sums_of c.args.a.now c.args.b.now) c.args.out.now c.loop-at.out c.args.r c.loop-at.at
-  so_far =
-      laid-since c.requires.room c.begin-at.ensures.1
-      c.loop-at.invariant.1
-
-  abbrev blocked : (first : List ℕ) → Laid (sums_of c.args.a.now c.args.b.now) first c.loop-at.out c.args.r c.loop-at.at
-      → Blocked c.loop-at.out (sums_of c.args.a.now c.args.b.now) c.args.r c.loop-at.k c.loop-at.at
-  blocked first a = record {
-    first = first;
-    so_far = a;
-    more = c.loop-at-test.true;
-    at-is = c.loop-at.invariant.0 c.loop-at-test.true;
-  }
-
-  few : c.loop-at.k ≤ 255
-  few =
-      let m = c.requires.room in
-      block-few c.args.r.e _ _ c.loop-at.k c.loop-at.at.page
-      (length (sums_of c.args.a.now c.args.b.now)) (sizes c.args.r.e _ _ m.limits.e-high refl refl) refl
-      (c.loop-at.invariant.0 c.loop-at-test.true) (omega (arith, c.loop-at-test.true, m.layout.pages-are)) m.limits.hours
+-- the next block of the pages
+abbrev blocked : {zs first out : List ℕ} {r : Layout} {k : ℕ} {at : Place} → at.page < r.pages → (at.page < r.pages → at.page ≡ 2 ^ (8 - r.e) * k)
+    → Laid zs first out r at → Blocked out zs r k at
+blocked {first = first} l q a = record { first = first; so_far = a; more = l; at-is = q l }
 
 pub put_block-at-requires : goal.put_block-at-requires
-put_block-at-requires c = record { doors = c.requires.doors; blocked = blocked c c.args.out.now (so_far c) }
+put_block-at-requires c = record { doors = c.requires.doors; blocked = blocked c.loop-at-test.true c.loop-at.invariant.0 (laid-since c.requires.room c.begin-at.ensures.1 c.loop-at.invariant.1) }
 
 pub overflow_add-k : goal.overflow_add-k
-overflow_add-k c = omega (arith, few c.before.before.before)
+overflow_add-k c =
+    let m = c.requires.room in
+    omega (
+      arith,
+      block-few c.args.r.e _ _ c.loop-at.k c.loop-at.at.page (length (sums_of c.args.a.now c.args.b.now))
+          (sizes c.args.r.e _ _ m.limits.e-high refl refl) refl (c.loop-at.invariant.0 c.loop-at-test.true)
+          (omega (arith, c.loop-at-test.true, m.layout.pages-are)) m.limits.hours,
+    )
 
 pub loop-at-smaller : goal.loop-at-smaller
 loop-at-smaller c =
@@ -53,20 +44,13 @@ loop-at-smaller c =
 pub loop-at-preserved : goal.loop-at-preserved
 loop-at-preserved c =
     let p = c.put_block-at in
-    (λ (l : p.result.page < c.args.r.pages). omega (arith, l, p.ensures.0), λ first a. p.ensures.1 (blocked c.before.before.before first (c.loop-at.invariant.1 first a)))
-
--- all pages
-module _ (c : goal.After-end-arg-1) where
-  abbrev whole : Filled c.args.r c.loop-at.out
-  whole =
-      filled c.requires.room c.begin-at.ensures.1 c.loop-at.invariant.1
-      c.loop-at-test.false
+    (λ (l : p.result.page < c.args.r.pages). omega (arith, l, p.ensures.0), λ first a. p.ensures.1 (blocked c.loop-at-test.true c.loop-at.invariant.0 (c.loop-at.invariant.1 first a)))
 
 pub end-requires : goal.end-requires
-end-requires c = whole c
+end-requires c = filled c.requires.room c.begin-at.ensures.1 c.loop-at.invariant.1 c.loop-at-test.false
 
 pub shape_of-out : goal.shape_of-out
-shape_of-out c = omega (arith, c.end.auto.out, (whole c.before.before.before).so_far.long)
+shape_of-out c = omega (arith, c.end.auto.out, (filled c.requires.room c.begin-at.ensures.1 c.loop-at.invariant.1 c.loop-at-test.false).so_far.long)
 
 pub returns : goal.returns
-returns c = c.end.ensures (whole c.before.before.before)
+returns c = c.end.ensures (filled c.requires.room c.begin-at.ensures.1 c.loop-at.invariant.1 c.loop-at-test.false)

@@ -1,14 +1,9 @@
 -- `image_merge::put::put_image` meets its contract. Assumes nothing.
-use lib.Pow.{pow_pos}
-use Rattle.image_merge.specs.Code.{Blocked, sums_of}
-use Rattle.image.proofs.Blocks.{block-few, sizes}
+use Rattle.image_merge.specs.Code.{sums_of}
 use mathlib.Core.List.{List}
-use mathlib.Core.Path.{◌≡◌, refl}
-use Prim.Native.Nat.{ℕ, ◌-◌, ◌*◌, ◌^◌, ◌≤◌, ◌<◌}
-use native.Mathlib.Omega.{arith}
-use lib.ListN.{length}
-use Rattle.image_put.specs.Code.Writing.{Filled, Laid}
-use Rattle.image_put.proofs.PageByPage.{filled, laid-since}
+use mathlib.Core.Path.{◌≡◌}
+use Prim.Native.Nat.{ℕ, ◌-◌, ◌*◌, ◌^◌, ◌<◌}
+use Rattle.image_put.specs.Code.Writing.{Laid}
 use Rattle.image_merge.proofs.put.put_image.Given as goal
 
 abbrev pub invariant-loop-at : goal.invariant-loop-at

@@ -1,5 +1,10 @@
 -- `image_write::plan::add_pages` meets its contract. Assumes nothing.
-use Prim.Native.Nat.{ℕ, ◌-◌, ◌*◌, ◌≤◌, ◌<◌}
+use mathlib.Core.Path.{◌≡◌}
+use mathlib.Core.List.{List}
+use Prim.Native.Nat.{ℕ, ◌*◌, ◌^◌, ◌<◌}
+use lib.ListN.{get_or}
+use Rattle.std.proofs.Common.{Fits, w32}
+use Rattle.lists.specs.Lists.{sum, window}
 use native.Mathlib.Omega.{arith}
 use Rattle.image_plan.specs.Code.Planning.{Awaits, Drafted}
 use Rattle.image_plan.specs.declared.Plan.{Plan}
@@ -13,43 +18,38 @@ power-m-requires c = omega (arith, c.requires.e-high)
 pub loop-next-init : goal.loop-next-init
 loop-next-init c = c.requires
 
--- page done is one of the list
-module _ (c : goal.After-struct_known-in-loop-next-1) where
-  abbrev next : Plan
-  next = c.loop-next.next
-
-  abbrev m : ℕ
-  m = c.power-m.result
-
-  so_far : Drafted c.args.e c.args.counts.now next
-  so_far = c.loop-next.invariant
-
-  size : (m * next.done < 65536) × (m ≤ 256)
-  size =
-      page-from c.args.e c.args.counts.now next.done m so_far.e-high so_far.short
-      (omega (arith, c.loop-next-test.true, so_far.pages-are)) c.power-m.ensures
-
-abbrev awaits : (c : goal.After-sum_of-s) → Awaits (next c.before) c.sum_of-s.result
-awaits c =
-    awaited (m c.before) c.sum_of-s.result (so_far c.before) c.loop-next-test.true c.power-m.ensures c.sum_of-s.ensures
-    (window-most c.args.counts.now (m c.before * (next c.before).done) (m c.before) c.sum_of-s.result
-    (λ i. omega (arith, c.type_inv.counts i)) c.sum_of-s.ensures)
+-- the next page of the list
+abbrev awaits : {e : ℕ} {xs : List ℕ} {r : Plan} (m s : ℕ) → Drafted e xs r → r.done < r.pages → m ≡ 2 ^ e
+    → ((i : ℕ) → Fits w32 (get_or xs i 0)) → s ≡ sum (window xs (m * r.done) m) → Awaits r s
+awaits {xs = xs} {r = r} m s d l em b q = awaited m s d l em q (window-most xs (m * r.done) m s (λ i. omega (arith, b i)) q)
 
 pub overflow_mul-m : goal.overflow_mul-m
-overflow_mul-m c = omega (arith, size c)
+overflow_mul-m c =
+    let d = c.loop-next.invariant in
+    omega (
+      arith,
+      page-from c.args.e c.args.counts.now c.loop-next.next.done c.power-m.result d.e-high d.short
+          (omega (arith, c.loop-next-test.true, d.pages-are)) c.power-m.ensures,
+    )
 
 pub sum_of-s-requires : goal.sum_of-s-requires
-sum_of-s-requires c = omega (arith, size c)
+sum_of-s-requires c =
+    let d = c.loop-next.invariant in
+    omega (
+      arith,
+      page-from c.args.e c.args.counts.now c.loop-next.next.done c.power-m.result d.e-high d.short
+          (omega (arith, c.loop-next-test.true, d.pages-are)) c.power-m.ensures,
+    )
 
 pub add_page-next-requires : goal.add_page-next-requires
-add_page-next-requires c = awaits c
+add_page-next-requires c = awaits c.power-m.result c.sum_of-s.result c.loop-next.invariant c.loop-next-test.true c.power-m.ensures c.type_inv.counts c.sum_of-s.ensures
 
 pub loop-next-smaller : goal.loop-next-smaller
 loop-next-smaller c =
-    fewer (so_far c.before.before) c.loop-next-test.true c.add_page-next.ensures.0 (c.add_page-next.ensures.1 (awaits c.before))
+    fewer c.loop-next.invariant c.loop-next-test.true c.add_page-next.ensures.0 (c.add_page-next.ensures.1 (awaits c.power-m.result c.sum_of-s.result c.loop-next.invariant c.loop-next-test.true c.power-m.ensures c.type_inv.counts c.sum_of-s.ensures))
 
 pub loop-next-preserved : goal.loop-next-preserved
-loop-next-preserved c = c.add_page-next.ensures.1 (awaits c.before)
+loop-next-preserved c = c.add_page-next.ensures.1 (awaits c.power-m.result c.sum_of-s.result c.loop-next.invariant c.loop-next-test.true c.power-m.ensures c.type_inv.counts c.sum_of-s.ensures)
 
 pub returns : goal.returns
 returns c = (c.loop-next.invariant, c.loop-next-test.false)

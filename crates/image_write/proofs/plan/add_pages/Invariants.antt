@@ -1,10 +1,6 @@
 -- `image_write::plan::add_pages` meets its contract. Assumes nothing.
-use Prim.Native.Nat.{ℕ, ◌-◌, ◌*◌, ◌≤◌, ◌<◌}
-use native.Mathlib.Omega.{arith}
-use Rattle.image_plan.specs.Code.Planning.{Awaits, Drafted}
-use Rattle.image_plan.specs.declared.Plan.{Plan}
-use Rattle.image_plan.proofs.PageByPage.{awaited, fewer, page-from}
-use Rattle.image_write.proofs.ListPages.{window-most}
+use Prim.Native.Nat.{◌-◌}
+use Rattle.image_plan.specs.Code.Planning.{Drafted}
 use Rattle.image_write.proofs.plan.add_pages.Given as goal
 
 abbrev pub invariant-loop-next : goal.invariant-loop-next

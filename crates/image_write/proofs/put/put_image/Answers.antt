@@ -1,8 +1,10 @@
 -- `image_write::put::put_image` meets its contract. The loop's invariant: whatever list the pages so far are of, they are still. Assumes nothing.
 use mathlib.Core.List.{List}
-use Prim.Native.Nat.{ℕ, ◌-◌, ◌*◌, ◌<◌}
+use mathlib.Core.Path.{◌≡◌}
+use Prim.Native.Nat.{ℕ, ◌*◌, ◌^◌, ◌<◌}
 use native.Mathlib.Omega.{arith}
-use Rattle.image_put.specs.Code.Writing.{Filled, Handed, Laid}
+use Rattle.image_put.specs.Code.Writing.{Handed, Laid, Room}
+use Rattle.image_plan.specs.declared.Layout.{Layout}
 use Rattle.image_put.specs.declared.Place.{Place}
 use Rattle.image_plan.proofs.PageByPage.{page-from}
 use Rattle.image_put.proofs.PageByPage.{filled, laid-since}
@@ -18,43 +20,26 @@ begin-at-requires c = record { xs = c.args.counts.now; room = c.requires }
 pub loop-at-init : goal.loop-at-init
 loop-at-init c = λ first a. a
 
--- the pages so far
-module _ (c : goal.After-struct_known-in-loop-at-2-1) where
-  abbrev place : Place
-  place = c.loop-at.at
-
-  abbrev m : ℕ
-  m = c.power-m.result
-
-  so_far : Laid c.args.counts.now c.args.out.now c.loop-at.out c.args.r place
-  so_far =
-      laid-since c.requires c.begin-at.ensures.1
-      c.loop-at.invariant
-
-  size : m * place.page < 65536
-  size =
-      (page-from c.args.r.e c.args.counts.now place.page m c.requires.limits.e-high c.requires.limits.hours
-      (omega (arith, c.loop-at-test.true, c.requires.layout.pages-are))
-      c.power-m.ensures).0
-
-  abbrev handed : (first : List ℕ) → Laid c.args.counts.now first c.loop-at.out c.args.r place
-      → Handed c.args.r place c.args.counts.now (m * place.page)
-      c.loop-at.out
-  handed first a = record {
-    xs = c.args.counts.now;
-    first = first;
-    so_far = a;
-    more = c.loop-at-test.true;
-    counts-are = page-window c.args.r.e c.args.counts.now place.page m
-        c.power-m.ensures;
-    near = omega (arith, size);
-  }
+-- the next page of the list
+abbrev handed : {xs : List ℕ} {r : Layout} {at : Place} {first out : List ℕ} (m : ℕ) → Room xs r first → at.page < r.pages → m ≡ 2 ^ r.e
+    → {start : List ℕ} → Laid xs start out r at → Handed r at xs (m * at.page) out
+handed {xs} {r} {at} m g l em {start} a = record {
+  xs = xs;
+  first = start;
+  so_far = a;
+  more = l;
+  counts-are = page-window r.e xs at.page m em;
+  near =
+      let b = page-from r.e xs at.page m g.limits.e-high g.limits.hours (omega (arith, l, g.layout.pages-are)) em in
+      omega (arith, b.0);
+}
 
 pub overflow_mul-m : goal.overflow_mul-m
-overflow_mul-m c = omega (arith, size c)
+overflow_mul-m c =
+    omega (arith, (handed c.power-m.result c.requires c.loop-at-test.true c.power-m.ensures (laid-since c.requires c.begin-at.ensures.1 c.loop-at.invariant)).near)
 
 pub put_page-at-requires : goal.put_page-at-requires
-put_page-at-requires c = handed c c.args.out.now (so_far c)
+put_page-at-requires c = handed c.power-m.result c.requires c.loop-at-test.true c.power-m.ensures (laid-since c.requires c.begin-at.ensures.1 c.loop-at.invariant)
 
 pub loop-at-smaller : goal.loop-at-smaller
 loop-at-smaller c =
@@ -62,20 +47,13 @@ loop-at-smaller c =
 
 pub loop-at-preserved : goal.loop-at-preserved
 loop-at-preserved c =
-    λ first a. c.put_page-at.ensures.1 (handed c.before.before.before first (c.loop-at.invariant first a))
-
--- all pages
-module _ (c : goal.After-end-arg-1) where
-  abbrev whole : Filled c.args.r c.loop-at.out
-  whole =
-      filled c.requires c.begin-at.ensures.1 c.loop-at.invariant
-      c.loop-at-test.false
+    λ first a. c.put_page-at.ensures.1 (handed c.power-m.result c.requires c.loop-at-test.true c.power-m.ensures (c.loop-at.invariant first a))
 
 pub end-requires : goal.end-requires
-end-requires c = whole c
+end-requires c = filled c.requires c.begin-at.ensures.1 c.loop-at.invariant c.loop-at-test.false
 
 pub shape_of-out : goal.shape_of-out
-shape_of-out c = omega (arith, c.end.auto.out, (whole c.before.before.before).so_far.long)
+shape_of-out c = omega (arith, c.end.auto.out, (filled c.requires c.begin-at.ensures.1 c.loop-at.invariant c.loop-at-test.false).so_far.long)
 
 pub returns : goal.returns
-returns c = c.end.ensures (whole c.before.before.before)
+returns c = c.end.ensures (filled c.requires c.begin-at.ensures.1 c.loop-at.invariant c.loop-at-test.false)

@@ -1,12 +1,7 @@
 -- `image_write::put::put_image` meets its contract. The loop's invariant: whatever list the pages so far are of, they are still. Assumes nothing.
 use mathlib.Core.List.{List}
-use Prim.Native.Nat.{ℕ, ◌-◌, ◌*◌, ◌<◌}
-use native.Mathlib.Omega.{arith}
-use Rattle.image_put.specs.Code.Writing.{Filled, Handed, Laid}
-use Rattle.image_put.specs.declared.Place.{Place}
-use Rattle.image_plan.proofs.PageByPage.{page-from}
-use Rattle.image_put.proofs.PageByPage.{filled, laid-since}
-use Rattle.image_write.proofs.ListPages.{page-window}
+use Prim.Native.Nat.{ℕ, ◌-◌}
+use Rattle.image_put.specs.Code.Writing.{Laid}
 use Rattle.image_write.proofs.put.put_image.Given as goal
 
 abbrev pub invariant-loop-at : goal.invariant-loop-at

@@ -4,7 +4,6 @@ use native.Mathlib.Omega.{arith}
 use Rattle.store.specs.Layout.{cells_start}
 use Rattle.move_plan.proofs.PlanSteps.{pages-few}
 use Rattle.live_move.proofs.CarrySteps.{carried-12, carried-now, enough-now, header-in, sum-few}
-use borrow.Author.Rules.{rules}
 use Rattle.live_move.proofs.carry.carry_out.Goals as goal
 
 pub of-head-requires : goal.of-head-requires

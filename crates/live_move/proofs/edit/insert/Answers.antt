@@ -2,7 +2,6 @@
 use native.Mathlib.Omega.{arith}
 use Rattle.store.proofs.SoundFacts.{facts}
 use Rattle.live_move.proofs.EditSteps.{insert-11, insert-3, insert-7, insert-go, insert-shiftable, total-asks, total-low}
-use borrow.Author.Rules.{rules}
 use Rattle.live_move.proofs.edit.insert.Goals as goal
 
 pub of-head-requires : goal.of-head-requires

@@ -2,7 +2,6 @@
 use native.Mathlib.Omega.{arith}
 use Rattle.store.proofs.SoundFacts.{facts}
 use Rattle.live_move.proofs.EditSteps.{strike-7, strike-go, strike-shiftable}
-use borrow.Author.Rules.{rules}
 use Rattle.live_move.proofs.edit.strike.Goals as goal
 
 pub of-head-requires : goal.of-head-requires

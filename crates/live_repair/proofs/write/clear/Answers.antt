@@ -1,11 +1,10 @@
 -- `live_repair::clear` meets its contract. Assumes nothing.
 use mathlib.Core.Path.{◌≡◌, refl, ap, ◌∙◌}
-use Prim.Native.Nat.{ℕ, ◌-◌, ◌≤◌}
+use Prim.Native.Nat.{ℕ}
 use native.Mathlib.Omega.{arith}
-use lib.ListN.{length, replicate, length-set}
+use lib.ListN.{replicate, length-set}
 use lib.Seq.{sets}
 use Rattle.live_repair.proofs.WriteSteps.{clear_next}
-use borrow.Author.Rules.{rules}
 use Rattle.live_repair.proofs.write.clear.Goals as goal
 
 pub loop-i-init : goal.loop-i-init

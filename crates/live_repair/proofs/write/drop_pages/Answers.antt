@@ -1,13 +1,10 @@
 -- `live_repair::drop_pages` meets its contract. Assumes nothing.
-use mathlib.Core.Path.{◌≡◌, refl, ap, ◌∙◌}
-use Prim.Native.Nat.{◌-◌, ◌≤◌}
+use mathlib.Core.Path.{refl, ap, ◌∙◌}
 use native.Mathlib.Omega.{arith}
-use lib.ListN.{length, take, drop, replicate}
+use lib.ListN.{length, replicate}
 use lib.Seq.{length-sets}
 use Rattle.store.specs.Layout.{entry_size}
-use Rattle.live_repair.specs.Code.Writing.{dropped}
 use Rattle.live_repair.proofs.WriteSteps.{dropped-end, dropped-next, dropped-start}
-use borrow.Author.Rules.{rules}
 use Rattle.live_repair.proofs.write.drop_pages.Goals as goal
 
 pub loop-i-init : goal.loop-i-init

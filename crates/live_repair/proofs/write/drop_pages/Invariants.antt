@@ -1,12 +1,8 @@
 -- `live_repair::drop_pages` meets its contract. Assumes nothing.
-use mathlib.Core.Path.{◌≡◌, refl, ap, ◌∙◌}
+use mathlib.Core.Path.{◌≡◌}
 use Prim.Native.Nat.{◌-◌, ◌≤◌}
-use native.Mathlib.Omega.{arith}
-use lib.ListN.{length, take, drop, replicate}
-use lib.Seq.{length-sets}
-use Rattle.store.specs.Layout.{entry_size}
+use lib.ListN.{length, take, drop}
 use Rattle.live_repair.specs.Code.Writing.{dropped}
-use Rattle.live_repair.proofs.WriteSteps.{dropped-end, dropped-next, dropped-start}
 use Rattle.live_repair.proofs.write.drop_pages.Given as goal
 
 abbrev pub invariant-loop-i : goal.invariant-loop-i

@@ -1,14 +1,12 @@
 -- `live_repair::free_cells` meets its contract. The invariant: the cells above c are done. Assumes nothing.
 use mathlib.Core.Path.{ap, ◌∙◌}
-use mathlib.Core.Logic.{⊎_elim}
-use Prim.Native.Nat.{◌-◌, ◌≤◌}
 use native.Mathlib.Omega.{arith}
 use borrow.Author.Tests.{eq-eqb, ne_eqb}
 use lib.ListN.{length}
 use Rattle.store.proofs.Writes.{put-length}
-use Rattle.live_repair.proofs.WriteSteps.{Above, above-end, above-no, above-start, above-yes, put-twice}
-use borrow.Author.Rules.{rules}
+use Rattle.live_repair.proofs.WriteSteps.{above-end, above-no, above-start, above-yes, put-twice}
 use Rattle.live_repair.proofs.write.free_cells.Goals as goal
+use Rattle.live_repair.proofs.write.free_cells.Goals.{then-marks-c-eq0, else-marks-c-eq0}
 
 pub loop-c-init : goal.loop-c-init
 loop-c-init c =
@@ -65,15 +63,18 @@ loop-c-preserved c =
     let a = c.args in
     let t = c.loop-c-test.true in (
       omega (arith, l.invariant.0),
-      ⊎_elim (λ w. omega (arith, l.invariant.0, l.invariant.1, w.12, t)) (λ w. omega (arith, l.invariant.0, l.invariant.1, w.3, t)) c.if-marks-c-eq0.branch,
-      ⊎_elim
-          (λ w.
-          above-yes a.s.now l.s a.base a.marks.now a.cells l.c l.next l.free t l.invariant.0 l.invariant.2
-          (eq-eqb _ _ w.0.taken) w.1.ensures w.3.ensures w.7.ensures w.10 w.11 w.12)
-          (λ w.
-          above-no a.s.now l.s a.base a.marks.now a.cells l.c l.next l.free t l.invariant.0 l.invariant.2
-          (ne_eqb _ _ w.0.left) w.1 w.2 w.3)
-          c.if-marks-c-eq0.branch,
+      elim c.if-marks-c-eq0.branch [
+        | then-marks-c-eq0 w ↦ omega (arith, l.invariant.0, l.invariant.1, w.free-is, t)
+        | else-marks-c-eq0 w ↦ omega (arith, l.invariant.0, l.invariant.1, w.free-is, t)
+      ],
+      elim c.if-marks-c-eq0.branch [
+        | then-marks-c-eq0 w ↦
+            above-yes a.s.now l.s a.base a.marks.now a.cells l.c l.next l.free t l.invariant.0 l.invariant.2
+            (eq-eqb _ _ w.if-marks-c-eq0.true) w.cell_at-at.ensures w.put_two.ensures w.clear.ensures w.s-is w.next-is w.free-is
+        | else-marks-c-eq0 w ↦
+            above-no a.s.now l.s a.base a.marks.now a.cells l.c l.next l.free t l.invariant.0 l.invariant.2
+            (ne_eqb _ _ w.if-marks-c-eq0.false) w.s-is w.next-is w.free-is
+      ],
     )
 
 pub put_two-requires-2 : goal.put_two-requires-2

@@ -1,12 +1,6 @@
 -- `live_repair::free_cells` meets its contract. The invariant: the cells above c are done. Assumes nothing.
-use mathlib.Core.Path.{ap, ◌∙◌}
-use mathlib.Core.Logic.{⊎_elim}
 use Prim.Native.Nat.{◌-◌, ◌≤◌}
-use native.Mathlib.Omega.{arith}
-use borrow.Author.Tests.{eq-eqb, ne_eqb}
-use lib.ListN.{length}
-use Rattle.store.proofs.Writes.{put-length}
-use Rattle.live_repair.proofs.WriteSteps.{Above, above-end, above-no, above-start, above-yes, put-twice}
+use Rattle.live_repair.proofs.WriteSteps.{Above}
 use Rattle.live_repair.proofs.write.free_cells.Given as goal
 
 abbrev pub invariant-loop-c : goal.invariant-loop-c

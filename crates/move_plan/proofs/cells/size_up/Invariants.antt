@@ -1,13 +1,10 @@
 -- `move_plan::cells::size_up` meets its contract. The loop's invariant: the need of the pages that were passed. Assumes nothing.
-use mathlib.Core.Path.{◌≡◌, refl, ◌∙◌}
+use mathlib.Core.Path.{◌≡◌}
 use Prim.Native.Nat.{◌+◌, ◌-◌, ◌*◌, ◌≤◌}
-use native.Mathlib.Omega.{arith}
-use lib.ListN.{length, length-set}
+use lib.ListN.{length}
 use Rattle.store.specs.Plain.{need}
 use Rattle.store.specs.Reading.{list_in}
 use Rattle.move_plan.specs.Code.Plan.{Counted, shifted}
-use Rattle.move_plan.proofs.PlanSteps.{after-fits, cells-asked, counted_next, entry_in, had-few, had-more, need-most}
-use Rattle.move_plan.proofs.PlanSteps.{needs-begin, needs-end, needs-more, out-low, pages-few, sum_fits}
 use Rattle.move_plan.proofs.cells.size_up.Given as goal
 
 abbrev pub invariant-loop-p : goal.invariant-loop-p

@@ -7,7 +7,6 @@ use Rattle.store.specs.Reading.{list_in}
 use Rattle.store.proofs.HourLaws.{get_d_le}
 use Rattle.pages.proofs.SoundPage.{as_said, sum_same, sum-small}
 use Rattle.live_page.proofs.PageTree.{walk-told}
-use borrow.Author.Rules.{rules}
 use Rattle.move_plan.proofs.leaving.count_of.Goals as goal
 
 pub gather_at-code-requires : goal.gather_at-code-requires

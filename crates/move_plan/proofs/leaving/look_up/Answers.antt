@@ -1,14 +1,12 @@
 -- `move_plan::leaving::look_up` meets its contract. The loop's invariant: the pages that were passed have their entries. Assumes nothing.
 use mathlib.Core.Path.{◌≡◌, refl, ap, ◌∙◌}
-use Prim.Native.Nat.{ℕ, ◌-◌, ◌≤◌}
+use Prim.Native.Nat.{ℕ}
 use native.Mathlib.Omega.{arith}
-use lib.ListN.{length, get_or, length-set}
+use lib.ListN.{get_or, length-set}
 use Rattle.store.specs.Plain.{page}
 use Rattle.move_counts.specs.Code.Turned.{leaving_index}
 use Rattle.store.specs.Reading.{list_in}
-use Rattle.move_plan.specs.Code.Plan.{Counted, Leaves}
 use Rattle.move_plan.proofs.PlanSteps.{cells-had, counted_next, entry_in, leaves-is, leaves-next, of-page, pages-few, sum_fits}
-use borrow.Author.Rules.{rules}
 use Rattle.move_plan.proofs.leaving.look_up.Goals as goal
 
 pub loop-p-init : goal.loop-p-init

@@ -1,7 +1,6 @@
 -- `move_plan::shift::coming` meets its contract. Assumes nothing.
 use mathlib.Core.Path.{sym}
 use Rattle.move_plan.proofs.Shifting.{comes-above, comes-below, comes-new, comes-none}
-use borrow.Author.Rules.{rules}
 use Rattle.move_plan.proofs.shift.coming.Goals as goal
 
 pub returns-then-p-m : goal.returns-then-p-m

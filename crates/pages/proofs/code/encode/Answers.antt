@@ -5,7 +5,6 @@ use mathlib.Core.List.{List}
 use Prim.Native.Nat.{ℕ}
 use native.Mathlib.Omega.{arith}
 use lib.ListN.{length, length-replicate}
-use borrow.Author.Rules.{rules}
 use Rattle.lists.specs.Lists.{part, sum}
 use Rattle.lists.proofs.Zeros.{part-zeros}
 use Rattle.bits.specs.Bits.{bits}

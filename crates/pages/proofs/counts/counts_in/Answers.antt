@@ -8,7 +8,6 @@ use Rattle.store.proofs.Holds.{page-length}
 use Rattle.tree.proofs.Shape.{still-long}
 use Rattle.pages.proofs.Coding.{code-exact, decoded, lies}
 use Rattle.pages.proofs.SoundPage.{as_said, sum_same, sum-small}
-use borrow.Author.Rules.{rules}
 use Rattle.pages.proofs.counts.counts_in.Goals as goal
 
 pub gather_at-code-requires : goal.gather_at-code-requires

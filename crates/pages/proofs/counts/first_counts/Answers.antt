@@ -1,11 +1,9 @@
 -- `pages::counts::first_counts` meets its contract. Assumes nothing.
 use mathlib.Core.Path.{◌≡◌, refl, sym, ◌∙◌}
-use Prim.Native.Nat.{◌-◌, ◌≤◌}
 use native.Mathlib.Omega.{arith}
-use lib.ListN.{length, take, length-set}
+use lib.ListN.{length-set}
 use lib.Seq.{take_all}
 use Rattle.lists.proofs.Parts.{copied_next}
-use borrow.Author.Rules.{rules}
 use Rattle.pages.proofs.counts.first_counts.Goals as goal
 
 pub loop-i-init : goal.loop-i-init

@@ -1,10 +1,7 @@
 -- `pages::counts::first_counts` meets its contract. Assumes nothing.
-use mathlib.Core.Path.{◌≡◌, refl, sym, ◌∙◌}
+use mathlib.Core.Path.{◌≡◌}
 use Prim.Native.Nat.{◌-◌, ◌≤◌}
-use native.Mathlib.Omega.{arith}
-use lib.ListN.{length, take, length-set}
-use lib.Seq.{take_all}
-use Rattle.lists.proofs.Parts.{copied_next}
+use lib.ListN.{length, take}
 use Rattle.pages.proofs.counts.first_counts.Given as goal
 
 abbrev pub invariant-loop-i : goal.invariant-loop-i

@@ -3,7 +3,6 @@ use mathlib.Core.Path.{ap, ◌∙◌}
 use native.Mathlib.Omega.{arith}
 use Rattle.store.specs.Layout.{cells_start}
 use Rattle.store.proofs.SoundFacts.{facts, sound-holds, sum-read}
-use borrow.Author.Rules.{rules}
 use Rattle.pages.proofs.entry.entry_of.Goals as goal
 
 pub entry_at-requires : goal.entry_at-requires

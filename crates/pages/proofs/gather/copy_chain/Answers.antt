@@ -1,15 +1,10 @@
 -- `pages::gather::copy_chain` meets its contract. The loop's invariant: what the bytes will be in the end is what they are once the codes
 -- of the cells that are left are put behind those that were copied. Assumes nothing.
 use mathlib.Core.Path.{◌≡◌, refl, sym, ◌∙◌}
-use Prim.Native.Nat.{◌-◌, ◌*◌, ◌≤◌}
+use Prim.Native.Nat.{◌-◌, ◌*◌}
 use native.Mathlib.Omega.{arith}
-use lib.ListN.{length}
-use Rattle.lists.specs.Lists.{splice}
-use Rattle.store.specs.Code.Links.{Steps}
 use Rattle.chains.proofs.LinkSteps.{step_of}
-use Rattle.pages.specs.Gathered.{code_from}
 use Rattle.pages.proofs.Gathering.{all-copied, turned}
-use borrow.Author.Rules.{rules}
 use Rattle.pages.proofs.gather.copy_chain.Goals as goal
 
 pub loop-j-init : goal.loop-j-init

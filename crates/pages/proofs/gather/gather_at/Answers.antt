@@ -2,7 +2,6 @@
 -- (`gathered`). Assumes nothing.
 use native.Mathlib.Omega.{arith}
 use Rattle.pages.proofs.SoundPage.{base-low, few, gathered, page-steps, pages-few}
-use borrow.Author.Rules.{rules}
 use Rattle.pages.proofs.gather.gather_at.Goals as goal
 
 pub entry_at-requires : goal.entry_at-requires

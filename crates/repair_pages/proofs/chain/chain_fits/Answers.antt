@@ -1,25 +1,14 @@
 -- `repair_pages::chain::chain_fits` meets its contract. Assumes nothing.
 use mathlib.Core.Path.{◌≡◌, sym, ap, ◌∙◌}
-use Prim.Native.Nat.{ℕ, ◌+◌, ◌-◌, ◌*◌, ◌≤◌}
+use Prim.Native.Nat.{ℕ, ◌+◌, ◌*◌, ◌≤◌}
 use native.Mathlib.Omega.{arith}
 use lib.ListN.{length}
 use lib.Seq.{length-sets}
 use Rattle.lists.specs.Lists.{part}
-use Rattle.bits.specs.Numbers.{number_at}
-use Rattle.store.specs.PageCode.{page_room}
-use Rattle.store.specs.Reading.{chain_from, code_in}
 use Rattle.sound_free.proofs.CellTest.{cell-range, good-cell, met-cell, no_cell}
-use Rattle.repair_pages.specs.Code.Chain.{chain_kept}
-use Rattle.chains.proofs.Gathering.{SoFar, gather-end, gather-next}
-use Rattle.repair_pages.proofs.ChainSteps.{all_left, cell-broken, cell-next, chain-end, gather-start, kept_on}
-use borrow.Author.Rules.{rules}
+use Rattle.chains.proofs.Gathering.{gather-end, gather-next}
+use Rattle.repair_pages.proofs.ChainSteps.{all_left, cell-broken, cell-next, chain-end, gather-start}
 use Rattle.repair_pages.proofs.chain.chain_fits.Goals as goal
-
--- the cell that a link names, once it was tested
-cell-of : (fine : goal.Else-not-one_to)
-    → (1 ≤ fine.link-c.result)
-    × (fine.link-c.result ≤ fine.args.cells)
-cell-of fine = cell-range _ fine.link-c.result fine.one_to.ensures fine.if-not-one_to.false-raw
 
 pub loop-j-init : goal.loop-j-init
 loop-j-init c =
@@ -43,7 +32,7 @@ returns-then-not-one_to c =
     record { is = no; long = l.invariant.2; gathered = λ e. absurd (let z : ◌≡◌ {A = ℕ} 0 1 = cc in omega arith) }
 
 pub bounds-marks-c : goal.bounds-marks-c
-bounds-marks-c c = omega (arith, cell-of c.before)
+bounds-marks-c c = omega (arith, cell-range _ c.link-c.result c.one_to.ensures c.if-not-one_to.false-raw)
 
 pub returns-then-marks-c-ne0 : goal.returns-then-marks-c-ne0
 returns-then-marks-c-ne0 c =
@@ -56,18 +45,18 @@ returns-then-marks-c-ne0 c =
 
 pub cell_at-at-requires : goal.cell_at-at-requires
 cell_at-at-requires c =
-    let w = cell-of c.before.before in
+    let w = cell-range _ c.link-c.result c.one_to.ensures c.if-not-one_to.false-raw in
     (omega arith, w.0, omega arith)
 
 pub overflow_mul-j : goal.overflow_mul-j
 overflow_mul-j c = omega arith
 
 pub overflow_add-at : goal.overflow_add-at
-overflow_add-at c = omega (arith, c.cell_at-at.ensures, cell-of c.before.before.before.before)
+overflow_add-at c = omega (arith, c.cell_at-at.ensures, cell-range _ c.link-c.result c.one_to.ensures c.if-not-one_to.false-raw)
 
 pub put_block-requires : goal.put_block-requires
 put_block-requires c =
-    let w = cell-of c.before.before.before.before in
+    let w = cell-range _ c.link-c.result c.one_to.ensures c.if-not-one_to.false-raw in
     (omega arith, omega (arith, c.cell_at-at.ensures))
 
 pub loop-j-preserved : goal.loop-j-preserved
@@ -79,7 +68,7 @@ loop-j-preserved c =
     let l = c.loop-j in
     let a = c.args in
     let q = c.requires.0 in
-    let w = cell-of c.before.before.before.before.before.before.before in
+    let w = cell-range _ c.link-c.result c.one_to.ensures c.if-not-one_to.false-raw in
     let good = good-cell _ k.result t.ensures a.marks.now c.if-not-one_to.false-raw c.if-marks-c-ne0.false in
     let far : r.result + 32 ≤ length a.s.now = omega (arith, r.ensures, q.size, w) in
     let room : 30 * l.j + 30 ≤ length l.code = omega (arith, l.invariant.2, q.short) in (

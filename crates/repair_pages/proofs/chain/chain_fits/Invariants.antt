@@ -1,17 +1,13 @@
 -- `repair_pages::chain::chain_fits` meets its contract. Assumes nothing.
-use mathlib.Core.Path.{◌≡◌, sym, ap, ◌∙◌}
-use Prim.Native.Nat.{ℕ, ◌+◌, ◌-◌, ◌*◌, ◌≤◌}
-use native.Mathlib.Omega.{arith}
+use mathlib.Core.Path.{◌≡◌}
+use Prim.Native.Nat.{◌+◌, ◌-◌, ◌≤◌}
 use lib.ListN.{length}
-use lib.Seq.{length-sets}
-use Rattle.lists.specs.Lists.{part}
 use Rattle.bits.specs.Numbers.{number_at}
 use Rattle.store.specs.PageCode.{page_room}
 use Rattle.store.specs.Reading.{chain_from, code_in}
-use Rattle.sound_free.proofs.CellTest.{cell-range, good-cell, met-cell, no_cell}
 use Rattle.repair_pages.specs.Code.Chain.{chain_kept}
-use Rattle.chains.proofs.Gathering.{SoFar, gather-end, gather-next}
-use Rattle.repair_pages.proofs.ChainSteps.{all_left, cell-broken, cell-next, chain-end, gather-start, kept_on}
+use Rattle.chains.proofs.Gathering.{SoFar}
+use Rattle.repair_pages.proofs.ChainSteps.{kept_on}
 use Rattle.repair_pages.proofs.chain.chain_fits.Given as goal
 
 abbrev pub invariant-loop-j : goal.invariant-loop-j

@@ -1,23 +1,9 @@
 -- `repair_pages::chain::mark_chain` meets its contract. Assumes nothing.
-use mathlib.Core.Path.{◌≡◌, refl, ◌∙◌}
-use mathlib.Core.Bool.{true}
-use Prim.Native.Nat.{◌+◌, ◌-◌, ◌≤◌}
+use mathlib.Core.Path.{refl, ◌∙◌}
 use native.Mathlib.Omega.{arith}
-use lib.ListN.{length, length-set}
-use Rattle.bits.specs.Numbers.{number_at}
-use Rattle.store.specs.Code.Checked.{marks_length}
-use Rattle.repair_pages.proofs.ChainSteps.{MarkedOn, all_left, kept_on, kept_next, mark-next, mark-start, marks-end}
-use borrow.Author.Rules.{rules}
+use lib.ListN.{length-set}
+use Rattle.repair_pages.proofs.ChainSteps.{all_left, kept_next, mark-next, mark-start, marks-end}
 use Rattle.repair_pages.proofs.chain.mark_chain.Goals as goal
-
--- the cell that a link names is one
-cell-of : (o : goal.After-link-c)
-    → (1 ≤ o.link-c.result) × (o.link-c.result ≤ o.args.cells)
-cell-of o =
-    let l = o.loop-i in
-    let a = o.args in
-    let w = kept_next a.s.now a.base a.cells a.marks.now a.k l.i o.link-c.ensures (omega arith) refl l.invariant.3 in
-    (w.0, w.1)
 
 pub loop-i-init : goal.loop-i-init
 loop-i-init c =
@@ -31,11 +17,11 @@ loop-i-init c =
     )
 
 pub bounds-marks-c : goal.bounds-marks-c
-bounds-marks-c c = omega (arith, cell-of c)
+bounds-marks-c c = omega (arith, kept_next c.args.s.now c.args.base c.args.cells c.args.marks.now c.args.k c.loop-i.i c.link-c.ensures (omega arith) refl c.loop-i.invariant.3)
 
 pub cell_at-at-requires : goal.cell_at-at-requires
 cell_at-at-requires c =
-    let w = cell-of c in
+    let w = kept_next c.args.s.now c.args.base c.args.cells c.args.marks.now c.args.k c.loop-i.i c.link-c.ensures (omega arith) refl c.loop-i.invariant.3 in
     (omega arith, w.0, omega arith)
 
 pub loop-i-preserved : goal.loop-i-preserved
@@ -43,7 +29,7 @@ loop-i-preserved c =
     let r = c.cell_at-at in
     let l = c.loop-i in
     let a = c.args in
-    let w = cell-of c.before in
+    let w = kept_next c.args.s.now c.args.base c.args.cells c.args.marks.now c.args.k c.loop-i.i c.link-c.ensures (omega arith) refl c.loop-i.invariant.3 in
     let v = kept_next a.s.now a.base a.cells a.marks.now a.k l.i c.link-c.ensures (omega arith) r.ensures l.invariant.3 in (
       omega arith,
       omega (arith, r.ensures),

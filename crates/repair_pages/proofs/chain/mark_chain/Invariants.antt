@@ -1,12 +1,11 @@
 -- `repair_pages::chain::mark_chain` meets its contract. Assumes nothing.
-use mathlib.Core.Path.{◌≡◌, refl, ◌∙◌}
+use mathlib.Core.Path.{◌≡◌}
 use mathlib.Core.Bool.{true}
 use Prim.Native.Nat.{◌+◌, ◌-◌, ◌≤◌}
-use native.Mathlib.Omega.{arith}
-use lib.ListN.{length, length-set}
+use lib.ListN.{length}
 use Rattle.bits.specs.Numbers.{number_at}
 use Rattle.store.specs.Code.Checked.{marks_length}
-use Rattle.repair_pages.proofs.ChainSteps.{MarkedOn, all_left, kept_on, kept_next, mark-next, mark-start, marks-end}
+use Rattle.repair_pages.proofs.ChainSteps.{MarkedOn, kept_on}
 use Rattle.repair_pages.proofs.chain.mark_chain.Given as goal
 
 abbrev pub invariant-loop-i : goal.invariant-loop-i

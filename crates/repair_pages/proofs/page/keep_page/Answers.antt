@@ -2,7 +2,6 @@
 use mathlib.Core.Path.{refl}
 use native.Mathlib.Omega.{arith}
 use Rattle.repair_pages.proofs.PageSteps.{chain-no, chain-yes, code-no, page-yes, total-no}
-use borrow.Author.Rules.{rules}
 use Rattle.repair_pages.proofs.page.keep_page.Goals as goal
 
 pub returns-then-total-sum : goal.returns-then-total-sum

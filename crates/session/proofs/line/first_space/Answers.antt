@@ -1,8 +1,5 @@
 -- `session::line::first_space` meets its contract. Assumes nothing.
-use Prim.Native.Nat.{◌-◌, ◌≤◌}
-use lib.ListN.{length}
 use borrow.Author.Count.{below_more}
-use Rattle.session.proofs.SplitLaws.{Free}
 use borrow.Author.Rules.{rules}
 use Rattle.session.proofs.line.first_space.Goals as goal
 

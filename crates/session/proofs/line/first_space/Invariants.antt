@@ -1,7 +1,6 @@
 -- `session::line::first_space` meets its contract. Assumes nothing.
 use Prim.Native.Nat.{◌-◌, ◌≤◌}
 use lib.ListN.{length}
-use borrow.Author.Count.{below_more}
 use Rattle.session.proofs.SplitLaws.{Free}
 use Rattle.session.proofs.line.first_space.Given as goal
 

@@ -1,6 +1,5 @@
 -- `session::line::pair` meets its contract. Assumes nothing.
 use Rattle.session.proofs.LetterLaws.{first-wrong, second-wrong, of_two}
-use borrow.Author.Rules.{rules}
 use Rattle.session.proofs.line.pair.Goals as goal
 
 pub returns-in_default : goal.returns-in_default

@@ -7,7 +7,6 @@ use Rattle.session.specs.Number.{number}
 use Rattle.session.specs.Line.{split_on, by_letter}
 use Rattle.session.proofs.LineLaws.{command-long, command-empty, command-alone, command-worded, command-spaced, rest}
 use lib.ListN.{get_or}
-use borrow.Author.Rules.{rules}
 use Rattle.session.proofs.line.parse.Goals as goal
 
 pub returns-then-line-eq0 : goal.returns-then-line-eq0

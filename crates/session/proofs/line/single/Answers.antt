@@ -1,6 +1,5 @@
 -- `session::line::single` meets its contract. Assumes nothing.
 use Rattle.session.proofs.LetterLaws.{single-wrong, of_one}
-use borrow.Author.Rules.{rules}
 use Rattle.session.proofs.line.single.Goals as goal
 
 pub returns-in_default : goal.returns-in_default

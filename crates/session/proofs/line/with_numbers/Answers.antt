@@ -8,7 +8,6 @@ use lib.Seq.{length-take-le}
 use Rattle.session.specs.Number.{number}
 use Rattle.session.specs.Line.{by_letter}
 use Rattle.session.proofs.LineLaws.{numbers-one, numbers-two, rest}
-use borrow.Author.Rules.{rules}
 use Rattle.session.proofs.line.with_numbers.Goals as goal
 
 pub returns-then-k-rest : goal.returns-then-k-rest

@@ -1,30 +1,23 @@
 -- `session::number::number` meets its contract. Assumes nothing.
-use borrow.Author.Rules.{rules}
 use mathlib.Core.Path.{◌≡◌, sym, ap, ◌∙◌}
-use mathlib.Core.Bool.{true}
+use mathlib.Core.Bool.{Bool, true, false, not}
+use mathlib.Core.List.{List}
 use borrow.Author.Tests.{not-true, not-false}
-use Prim.Native.Nat.{ℕ, ◌+◌, ◌-◌, ◌*◌, ◌≤◌}
+use Prim.Native.Nat.{ℕ, ◌+◌, ◌-◌, ◌*◌, ◌<◌}
 use native.Mathlib.Omega.{arith}
 use lib.ListN.{length, get_or, drop}
 use Rattle.session.specs.Number.{is_decimal_digit, number}
 use Rattle.session.proofs.DigitLaws.{number_from, number-all, number-none, from_end, from-over, at_other, at-digit, digit-bounds}
 use Rattle.session.proofs.number.number.Goals as goal
 
--- past the test the byte is a digit, and the number is that of the longer value and the rest
-is_one : (c : goal.Else-not-is_digit) →
-    let s = c.args.s.now in
-    is_decimal_digit (get_or s c.loop-i.i 0) ≡ true
-is_one c = sym c.is_digit.ensures ∙ not-false c.is_digit.result c.if-not-is_digit.false-raw
+-- past the test the byte is a digit
+is_one : (r : Bool) (b : ℕ) → r ≡ is_decimal_digit b → not r ≡ false → is_decimal_digit b ≡ true
+is_one r b e n = sym e ∙ not-false r n
 
-longer : (c : goal.Else-not-is_digit) (d : ℕ) →
-    let s = c.args.s.now in
-    let i = c.loop-i.i in
-    d ≡ get_or s i 0 - 48 → number s ≡ number_from (10 * c.loop-i.value + d) (drop (i + 1) s)
-longer c d e =
-    let s = c.args.s.now in
-    let l = c.loop-i in
-    l.invariant.2 ∙ at-digit l.value s l.i c.loop-i-test.true (is_one c)
-    ∙ ap (λ (x : ℕ). number_from (10 * l.value + x) (drop (l.i + 1) s)) (sym e)
+-- past a digit the number is that of the longer value and the rest
+longer : (s : List ℕ) (v i d : ℕ) → number s ≡ number_from v (drop i s) → i < length s → is_decimal_digit (get_or s i 0) ≡ true →
+    d ≡ get_or s i 0 - 48 → number s ≡ number_from (10 * v + d) (drop (i + 1) s)
+longer s v i d h q o e = h ∙ at-digit v s i q o ∙ ap (λ (x : ℕ). number_from (10 * v + x) (drop (i + 1) s)) (sym e)
 
 pub returns-then-s-eq0 : goal.returns-then-s-eq0
 returns-then-s-eq0 c = sym (number-none c.args.s.now c.if-s-eq0.true)
@@ -40,16 +33,16 @@ returns-then-not-is_digit c =
     (sym c.is_digit.ensures ∙ not-true c.is_digit.result c.if-not-is_digit.true-raw))
 
 pub digit-requires : goal.digit-requires
-digit-requires c = (digit-bounds _ (is_one c)).0
+digit-requires c = (digit-bounds _ (is_one c.is_digit.result _ c.is_digit.ensures c.if-not-is_digit.false-raw)).0
 
 pub overflow_add-value : goal.overflow_add-value
-overflow_add-value c = omega (arith, digit-bounds _ (is_one c.before), c.digit.ensures, c.loop-i.invariant.1)
+overflow_add-value c = omega (arith, digit-bounds _ (is_one c.is_digit.result _ c.is_digit.ensures c.if-not-is_digit.false-raw), c.digit.ensures, c.loop-i.invariant.1)
 
 pub returns-then-value-gt4294967295 : goal.returns-then-value-gt4294967295
-returns-then-value-gt4294967295 c = sym (longer c.before.before c.digit.result c.digit.ensures ∙ from-over _ _ c.if-value-gt4294967295.true)
+returns-then-value-gt4294967295 c = sym (longer c.args.s.now c.loop-i.value c.loop-i.i c.digit.result c.loop-i.invariant.2 c.loop-i-test.true (is_one c.is_digit.result _ c.is_digit.ensures c.if-not-is_digit.false-raw) c.digit.ensures ∙ from-over _ _ c.if-value-gt4294967295.true)
 
 pub loop-i-preserved : goal.loop-i-preserved
-loop-i-preserved c = (omega arith, c.if-value-gt4294967295.false, longer c.before.before c.digit.result c.digit.ensures)
+loop-i-preserved c = (omega arith, c.if-value-gt4294967295.false, longer c.args.s.now c.loop-i.value c.loop-i.i c.digit.result c.loop-i.invariant.2 c.loop-i-test.true (is_one c.is_digit.result _ c.is_digit.ensures c.if-not-is_digit.false-raw) c.digit.ensures)
 
 pub returns : goal.returns
 returns c =

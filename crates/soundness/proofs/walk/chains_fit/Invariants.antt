@@ -1,27 +1,17 @@
 -- `soundness::walk::chains_fit` meets its contract. The invariants: the answer is that of the pages, and of the page's cells, that are
 -- left; the code of the cells that were passed is gathered. Assumes nothing.
-use mathlib.Core.Path.{◌≡◌, refl, sym, ap, ap₂, ◌∙◌}
-use mathlib.Core.Bool.{Bool, true, false}
-use mathlib.Core.List.{List}
-use mathlib.Core.Logic.{⊎_elim}
-use Prim.Native.Nat.{ℕ, ◌+◌, ◌-◌, ◌*◌, ◌≤◌}
-use native.Mathlib.Omega.{arith}
-use lib.ListN.{get_or, length, length-set}
-use lib.Seq.{length-sets}
-use lib.Dec.{eqb}
-use borrow.Author.Tests.{eqb-false, eqb-true, not-false, not-true}
-use Rattle.lists.specs.Lists.{part}
+use mathlib.Core.Path.{◌≡◌}
+use mathlib.Core.Bool.{true}
+use Prim.Native.Nat.{◌+◌, ◌-◌, ◌≤◌}
+use lib.ListN.{length}
 use Rattle.store.specs.PageCode.{page_room}
-use Rattle.store.specs.Layout.{cell_at, cells_start}
+use Rattle.store.specs.Layout.{cells_start}
 use Rattle.store.specs.Reading.{chain_in, code_in}
 use Rattle.store.specs.Code.Checked.{marks_length}
-use Rattle.sound_free.specs.Code.Free.{free_chain_fits}
 use Rattle.soundness.specs.Code.Chains.{all_chains_fit}
-use Rattle.sound_head.proofs.HeadTest.{Bounds, bounds, headed}
-use Rattle.chains.proofs.Gathering.{SoFar, gather-next}
-use Rattle.soundness.proofs.ChainTest.{cell-broken, cell-next, cells_on, gather-start, page-next, page-open, page-start, page-wrong, pages-end}
-use Rattle.soundness.proofs.ChainTest.{pages-start, pages_on}
-use Rattle.sound_free.proofs.CellTest.{cell-range, good-cell, met-cell, no_cell}
+use Rattle.chains.proofs.Gathering.{SoFar}
+use Rattle.soundness.proofs.ChainTest.{cells_on}
+use Rattle.soundness.proofs.ChainTest.{pages_on}
 use Rattle.soundness.proofs.walk.chains_fit.Given as goal
 
 abbrev pub invariant-loop-j : goal.invariant-loop-j

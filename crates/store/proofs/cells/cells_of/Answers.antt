@@ -4,7 +4,6 @@ use Prim.Native.Nat.{ℕ, ◌+◌, ◌/◌}
 use native.Mathlib.Omega.{arith}
 use Rattle.reserve.proofs.Fit.{most}
 use Rattle.store.proofs.PageCodeLaws.{cells_is, cells-most}
-use borrow.Author.Rules.{rules}
 use Rattle.store.proofs.cells.cells_of.Goals as goal
 
 pub overflow_add-result : goal.overflow_add-result

@@ -9,7 +9,6 @@ use borrow.Author.Tests.{leb-true, not-false, not-true}
 use Rattle.lists.proofs.Tests.{right}
 use Rattle.store.specs.Limits.{max_cells, max_pages}
 use Rattle.store.proofs.LimitLaws.{just-length, wrong-cells, wrong-pages}
-use borrow.Author.Rules.{rules}
 use Rattle.store.proofs.limits.fits.Goals as goal
 
 most : (n m : ℕ) → (leb 1 n && leb n m) ≡ true → n ≤ m

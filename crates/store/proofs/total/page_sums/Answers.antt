@@ -1,6 +1,6 @@
 -- `store::total::page_sums` meets its contract. The loop's invariant: the sum of the pages that were passed. Assumes nothing.
 use mathlib.Core.Path.{◌≡◌, sym, ap, ◌∙◌}
-use Prim.Native.Nat.{ℕ, ◌+◌, ◌-◌, ◌*◌, ◌≤◌}
+use Prim.Native.Nat.{ℕ, ◌+◌}
 use native.Mathlib.Omega.{arith}
 use Rattle.lists.specs.Lists.{sum, tabulate}
 use Rattle.bits.specs.Numbers.{number_at}
@@ -8,6 +8,10 @@ use Rattle.store.specs.Reading.{sum_in}
 use Rattle.lists.proofs.Sums.{sum-next}
 use borrow.Author.Rules.{rules}
 use Rattle.store.proofs.total.page_sums.Goals as goal
+
+pub loop-p-init : goal.loop-p-init
+unfolding sum tabulate
+loop-p-init c = search rules
 
 pub loop-p-preserved : goal.loop-p-preserved
 unfolding sum_in

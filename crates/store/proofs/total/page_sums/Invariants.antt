@@ -1,11 +1,8 @@
 -- `store::total::page_sums` meets its contract. The loop's invariant: the sum of the pages that were passed. Assumes nothing.
-use mathlib.Core.Path.{◌≡◌, sym, ap, ◌∙◌}
-use Prim.Native.Nat.{ℕ, ◌+◌, ◌-◌, ◌*◌, ◌≤◌}
-use native.Mathlib.Omega.{arith}
+use mathlib.Core.Path.{◌≡◌}
+use Prim.Native.Nat.{◌-◌, ◌*◌, ◌≤◌}
 use Rattle.lists.specs.Lists.{sum, tabulate}
-use Rattle.bits.specs.Numbers.{number_at}
 use Rattle.store.specs.Reading.{sum_in}
-use Rattle.lists.proofs.Sums.{sum-next}
 use Rattle.store.proofs.total.page_sums.Given as goal
 
 abbrev pub invariant-loop-p : goal.invariant-loop-p

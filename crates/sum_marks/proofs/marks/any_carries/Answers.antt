@@ -1,5 +1,4 @@
 -- `sum_marks::marks::any_carries` meets its contract. Assumes nothing.
-use borrow.Author.Rules.{rules}
 use Rattle.sum_marks.proofs.MarkLaws.{none_of}
 use Rattle.sum_marks.proofs.marks.any_carries.Goals as goal
 

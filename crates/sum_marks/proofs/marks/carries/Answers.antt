@@ -1,5 +1,4 @@
 -- `sum_marks::marks::carries` meets its contract. Assumes nothing.
-use borrow.Author.Rules.{rules}
 use Rattle.sum_marks.proofs.MarkLaws.{unmarked}
 use Rattle.sum_marks.proofs.marks.carries.Goals as goal
 

@@ -1,8 +1,7 @@
 -- `sum_marks::marks::mark` meets its contract. Assumes nothing.
 use mathlib.Core.Path.{◌≡◌, subst}
-use Prim.Native.Nat.{ℕ, ◌-◌, ◌≤◌}
+use Prim.Native.Nat.{ℕ}
 use native.Mathlib.Omega.{arith}
-use borrow.Author.Rules.{rules}
 use Rattle.sum_marks.proofs.MarkLaws.{Marking, marking-first, marking-next, sum_fits}
 use Rattle.sum_marks.proofs.marks.mark.Goals as goal
 

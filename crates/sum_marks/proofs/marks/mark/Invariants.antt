@@ -1,8 +1,6 @@
 -- `sum_marks::marks::mark` meets its contract. Assumes nothing.
-use mathlib.Core.Path.{◌≡◌, subst}
-use Prim.Native.Nat.{ℕ, ◌-◌, ◌≤◌}
-use native.Mathlib.Omega.{arith}
-use Rattle.sum_marks.proofs.MarkLaws.{Marking, marking-first, marking-next, sum_fits}
+use Prim.Native.Nat.{◌-◌, ◌≤◌}
+use Rattle.sum_marks.proofs.MarkLaws.{Marking}
 use Rattle.sum_marks.proofs.marks.mark.Given as goal
 
 abbrev pub invariant-loop-i : goal.invariant-loop-i

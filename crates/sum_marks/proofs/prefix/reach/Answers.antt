@@ -1,9 +1,6 @@
 -- `sum_marks::prefix::reach` meets its contract. Assumes nothing.
 use mathlib.Core.Path.{refl}
-use Prim.Native.Nat.{◌-◌}
 use native.Mathlib.Omega.{arith}
-use borrow.Author.Rules.{rules}
-use Rattle.sum_marks.specs.Code.Prefix.{PrefixOf}
 use Rattle.sum_marks.proofs.MarkLaws.{sum_fits}
 use Rattle.sum_marks.proofs.PrefixLaws.{prefix-more, tried-reached}
 use Rattle.sum_marks.proofs.prefix.reach.Goals as goal

@@ -5,7 +5,6 @@ use Prim.Native.Nat.{ℕ}
 use native.Mathlib.Omega.{arith}
 use borrow.Author.Tests.{lt-leb, le-leb}
 use Rattle.tree.proofs.Rooting.{left-fits}
-use borrow.Author.Rules.{rules}
 use Rattle.tree.proofs.node.node.Goals as goal
 
 no : false ≡ true → ⊥

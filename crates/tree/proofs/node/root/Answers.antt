@@ -1,7 +1,6 @@
 -- `tree::node::root` meets its contract. Assumes nothing.
 use native.Mathlib.Omega.{arith}
 use Rattle.tree.proofs.Rooting.{halves, left-sum, rooted}
-use borrow.Author.Rules.{rules}
 use Rattle.tree.proofs.node.root.Goals as goal
 
 pub get_field-requires : goal.get_field-requires

@@ -1,7 +1,6 @@
 -- `tree::node::root_by_shifts` meets its contract. Assumes nothing.
 use native.Mathlib.Omega.{arith}
 use Rattle.tree.proofs.Rooting.{halves, front-sum, rooted}
-use borrow.Author.Rules.{rules}
 use Rattle.tree.proofs.node.root_by_shifts.Goals as goal
 
 pub part-requires : goal.part-requires

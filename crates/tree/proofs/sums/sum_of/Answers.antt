@@ -1,9 +1,8 @@
 -- `tree::sums::sum_of` meets its contract. The loop's invariant: the total is the sum of the window that was passed, and a count is
 -- below 2^32. Assumes nothing.
-use mathlib.Core.Path.{◌≡◌, ◌∙◌}
-use Prim.Native.Nat.{◌-◌, ◌*◌, ◌≤◌, max}
+use mathlib.Core.Path.{◌∙◌}
+use Prim.Native.Nat.{◌-◌}
 use native.Mathlib.Omega.{arith}
-use Rattle.lists.specs.Lists.{sum, window}
 use Rattle.lists.proofs.Sums.{window-whole}
 use Rattle.tree.proofs.Windows.{window-none, window_more}
 use Rattle.tree.proofs.sums.sum_of.Goals as goal

@@ -3,7 +3,6 @@ use mathlib.Core.Path.{refl}
 use Prim.Native.Nat.{◌-◌, ◌/◌, ◌^◌}
 use native.Mathlib.Omega.{arith}
 use Rattle.tree_lowest.proofs.Lowest.{Quad, high_fits, quad-above, widths, quad-left, quad-right, quad-last}
-use borrow.Author.Rules.{rules}
 use Rattle.tree_lowest.proofs.four.four_of.Goals as goal
 
 -- the four counts' numbers, once the digits of their sum are known

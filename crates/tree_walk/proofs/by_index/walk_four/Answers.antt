@@ -1,36 +1,10 @@
 -- `tree_walk::by_index::walk_four` meets its contract. Assumes nothing.
-use mathlib.Core.Path.{◌≡◌}
-use mathlib.Core.List.{List}
-use Prim.Native.Nat.{ℕ, ◌+◌, ◌*◌, ◌≤◌}
+use Prim.Native.Nat.{◌+◌, ◌*◌, ◌≤◌}
 use native.Mathlib.Omega.{arith}
-use Rattle.tree.specs.Read.{left_of}
-use Rattle.tree.specs.Code.InWord.{InWord}
-use Rattle.tree_walk.specs.declared.pairs.Pair.{Pair}
 use Rattle.tree_walk.proofs.WalkSteps.{kept}
 use Rattle.tree.proofs.OneWord.{left-read, three-fields}
 use Rattle.tree_walk.proofs.LowPairs.{pick-le, skipped, in_sum, walk-above, walk-two-bad, walk-two}
-use borrow.Author.Rules.{rules}
 use Rattle.tree_walk.proofs.by_index.walk_four.Goals as goal
-
--- where the left sum was read
-module _ (c : goal.After-part-left) where
-  left_is : (b : List ℕ) (a : ℕ) → InWord b a 2 c.args.s c.args.w c.args.k → left_of c.args.s b a ≡ c.part-left.result
-  left_is b a o = left-read o _ _ c.digits_of.ensures c.part-left.ensures
-
--- where the pair was read and is no damage
-module _ (c : goal.Else-p) where
-  abbrev p : Pair
-  p = c.one_pair-p.result
-
-  fits :
-      let k = c.args.keep in
-      (k * p.passed ≤ p.passed) × (k * p.count ≤ p.count) × (p.count ≤ p.sum) × (p.passed + p.sum ≤ c.args.s)
-  fits = (
-    kept _ _ c.requires.2,
-    kept _ _ c.requires.2,
-    c.if-p.false,
-    in_sum c.if-s-left.false _ c.one_pair-p.ensures.sum_is c.one_pair-p.ensures.passed_is,
-  )
 
 pub part-left-requires : goal.part-left-requires
 part-left-requires c =
@@ -38,34 +12,88 @@ part-left-requires c =
     omega (arith, c.requires.0, c.digits_of.ensures, three-fields s 0 (omega arith))
 
 pub returns-then-s-left : goal.returns-then-s-left
-returns-then-s-left c = λ b a o. walk-above 1 _ _ b a (left_is c.before b a o) c.if-s-left.true _ _ _
+returns-then-s-left c = λ b a o. walk-above 1 _ _ b a (left-read o _ _ c.digits_of.ensures c.part-left.ensures) c.if-s-left.true _ _ _
 
 pub returns-then-p : goal.returns-then-p
 returns-then-p c =
-    λ b a o. walk-two-bad o _ (left_is c.before.before.before.before b a o) c.if-s-left.false _ _ _ c.one_pair-p.ensures c.if-p.true
+    λ b a o. walk-two-bad o _ (left-read o _ _ c.digits_of.ensures c.part-left.ensures) c.if-s-left.false _ _ _ c.one_pair-p.ensures c.if-p.true
 
 pub overflow_sub-first : goal.overflow_sub-first
 overflow_sub-first c = rw c.either.ensures (skipped _)
 
 pub overflow_mul-result : goal.overflow_mul-result
-overflow_mul-result c = omega (arith, fits c.before.before, c.requires)
+overflow_mul-result c =
+    let fits :
+    let k = c.args.keep in
+    let p = c.one_pair-p.result in
+    (k * p.passed ≤ p.passed) × (k * p.count ≤ p.count) × (p.count ≤ p.sum) × (p.passed + p.sum ≤ c.args.s)
+    = (
+      kept _ _ c.requires.2,
+      kept _ _ c.requires.2,
+      c.if-p.false,
+      in_sum c.if-s-left.false _ c.one_pair-p.ensures.sum_is c.one_pair-p.ensures.passed_is,
+    ) in
+    omega (arith, fits, c.requires)
 
 pub overflow_add-result : goal.overflow_add-result
-overflow_add-result c = omega (arith, fits c.before.before, c.requires)
+overflow_add-result c =
+    let fits :
+    let k = c.args.keep in
+    let p = c.one_pair-p.result in
+    (k * p.passed ≤ p.passed) × (k * p.count ≤ p.count) × (p.count ≤ p.sum) × (p.passed + p.sum ≤ c.args.s)
+    = (
+      kept _ _ c.requires.2,
+      kept _ _ c.requires.2,
+      c.if-p.false,
+      in_sum c.if-s-left.false _ c.one_pair-p.ensures.sum_is c.one_pair-p.ensures.passed_is,
+    ) in
+    omega (arith, fits, c.requires)
 
 pub overflow_mul-keep : goal.overflow_mul-keep
-overflow_mul-keep c = omega (arith, fits c.before.before.before.before, c.requires)
+overflow_mul-keep c =
+    let fits :
+    let k = c.args.keep in
+    let p = c.one_pair-p.result in
+    (k * p.passed ≤ p.passed) × (k * p.count ≤ p.count) × (p.count ≤ p.sum) × (p.passed + p.sum ≤ c.args.s)
+    = (
+      kept _ _ c.requires.2,
+      kept _ _ c.requires.2,
+      c.if-p.false,
+      in_sum c.if-s-left.false _ c.one_pair-p.ensures.sum_is c.one_pair-p.ensures.passed_is,
+    ) in
+    omega (arith, fits, c.requires)
 
 pub overflow_add-p : goal.overflow_add-p
-overflow_add-p c = omega (arith, fits c.before.before.before.before, c.requires)
+overflow_add-p c =
+    let fits :
+    let k = c.args.keep in
+    let p = c.one_pair-p.result in
+    (k * p.passed ≤ p.passed) × (k * p.count ≤ p.count) × (p.count ≤ p.sum) × (p.passed + p.sum ≤ c.args.s)
+    = (
+      kept _ _ c.requires.2,
+      kept _ _ c.requires.2,
+      c.if-p.false,
+      in_sum c.if-s-left.false _ c.one_pair-p.ensures.sum_is c.one_pair-p.ensures.passed_is,
+    ) in
+    omega (arith, fits, c.requires)
 
 pub overflow_add-result-2 : goal.overflow_add-result-2
 overflow_add-result-2 c =
-    let z : c.either-2.result ≤ (p c.before.before.before.before.before).sum = rw c.either-2.ensures (pick-le _ (omega (arith, fits c.before.before.before.before.before)) (omega (arith, fits c.before.before.before.before.before))) in
-    omega (arith, fits c.before.before.before.before.before, c.requires)
+    let fits :
+    let k = c.args.keep in
+    let p = c.one_pair-p.result in
+    (k * p.passed ≤ p.passed) × (k * p.count ≤ p.count) × (p.count ≤ p.sum) × (p.passed + p.sum ≤ c.args.s)
+    = (
+      kept _ _ c.requires.2,
+      kept _ _ c.requires.2,
+      c.if-p.false,
+      in_sum c.if-s-left.false _ c.one_pair-p.ensures.sum_is c.one_pair-p.ensures.passed_is,
+    ) in
+    let z : c.either-2.result ≤ c.one_pair-p.result.sum = rw c.either-2.ensures (pick-le _ (omega (arith, fits)) (omega (arith, fits))) in
+    omega (arith, fits, c.requires)
 
 pub returns : goal.returns
 returns c =
     λ b a o.
-    walk-two o _ (left_is c b a o) c.if-s-left.false _ _ _ c.one_pair-p.ensures c.if-p.false _ _
+    walk-two o _ (left-read o _ _ c.digits_of.ensures c.part-left.ensures) c.if-s-left.false _ _ _ c.one_pair-p.ensures c.if-p.false _ _
     c.either.ensures c.either-2.ensures

@@ -3,25 +3,22 @@ use Prim.Native.Nat.{◌+◌, ◌≤◌}
 use native.Mathlib.Omega.{arith}
 use Rattle.reserve.specs.Reserve.{digits, reserve}
 use Rattle.tree_walk.proofs.LowPairs.{narrow, count_of}
-use borrow.Author.Rules.{rules}
 use Rattle.tree_walk.proofs.pairs.one_pair.Goals as goal
-
--- where both numbers are chosen
-module _ (c : goal.After-either-passed) where
-  within : digits c.args.s + digits c.either-passed.result + digits c.either-sum.result ≤ reserve 2 c.args.s
-  within = narrow c.requires.0 c.args.right c.either-sum.ensures c.either-passed.ensures
 
 pub overflow_add-k : goal.overflow_add-k
 overflow_add-k c =
-    omega (arith, within c.before, c.requires.1, c.digits_of.ensures)
+    let within : digits c.args.s + digits c.either-passed.result + digits c.either-sum.result ≤ reserve 2 c.args.s = narrow c.requires.0 c.args.right c.either-sum.ensures c.either-passed.ensures in
+    omega (arith, within, c.requires.1, c.digits_of.ensures)
 
 pub overflow_add-k-2 : goal.overflow_add-k-2
 overflow_add-k-2 c =
-    omega (arith, within c.before.before, c.requires.1, c.digits_of.ensures, c.digits_of-2.ensures)
+    let within : digits c.args.s + digits c.either-passed.result + digits c.either-sum.result ≤ reserve 2 c.args.s = narrow c.requires.0 c.args.right c.either-sum.ensures c.either-passed.ensures in
+    omega (arith, within, c.requires.1, c.digits_of.ensures, c.digits_of-2.ensures)
 
 pub part-count-requires : goal.part-count-requires
 part-count-requires c =
-    omega (arith, within c.before.before.before, c.requires.1, c.digits_of.ensures, c.digits_of-2.ensures, c.digits_of-3.ensures)
+    let within : digits c.args.s + digits c.either-passed.result + digits c.either-sum.result ≤ reserve 2 c.args.s = narrow c.requires.0 c.args.right c.either-sum.ensures c.either-passed.ensures in
+    omega (arith, within, c.requires.1, c.digits_of.ensures, c.digits_of-2.ensures, c.digits_of-3.ensures)
 
 pub returns : goal.returns
 returns c =

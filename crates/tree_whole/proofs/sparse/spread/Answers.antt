@@ -1,6 +1,5 @@
 -- `tree_whole::sparse::spread` meets its contract. Assumes nothing.
 use native.Mathlib.Omega.{arith}
-use borrow.Author.Rules.{rules}
 use Rattle.tree_whole.proofs.FewCounts.{quarters-put}
 use Rattle.tree_whole.proofs.sparse.spread.Goals as goal
 
