@@ -2,7 +2,7 @@
 # Builds the library a second time, for tests alone, with AddressSanitizer's
 # check in front of each load and store of its own code.
 #
-# usage: tests/instrumented.sh FOLDER    (its libraries must be proved: rt check hourlog_c)
+# usage: tests/instrumented.sh FOLDER    (tests/proved.sh comes first)
 #
 # tests/instrumenting_clang marks the module's functions and adds the sanitizer.
 # Its checks go in behind the passes of -O3, so what they stand in front of are

@@ -7,8 +7,13 @@ if [ -n "${HOURLOG_LIB:-}" ]; then
     cd "$HOURLOG_LIB"
 else
     cd "$(dirname "$0")/.."
-    echo "== the library (rt staticlib hourlog_c; from nothing it takes some minutes)" >&2
-    rt staticlib hourlog_c >&2
+    echo "== the library (from nothing it takes some minutes)" >&2
+    if [ "$(tests/proved.sh)" = kept ]; then
+        tests/recompiled.sh kit target/staticlib
+    else
+        mkdir -p target/staticlib
+        cp crates/hourlog_c_c/out/libhourlog_c_c.a target/staticlib/libhourlog_c.a
+    fi
     cd target/staticlib
 fi
 pwd

@@ -8,9 +8,8 @@
 #
 # usage: tests/run.sh
 #   HOURLOG_LIB     the folder that holds libhourlog_c.a (else it is built); the
-#                   builds that count and with AddressSanitizer take the proved
-#                   libraries from target/rlib all the same: without them, rt check
-#                   hourlog_c first
+#                   builds that count and with AddressSanitizer are made of the
+#                   proved libraries all the same (tests/proved.sh)
 #   HOURLOG_PROGRAM the session program (else it is built; empty: left out)
 #   HOURLOG_ROUNDS  makes the comparison so many times as long (1)
 #   HOURLOG_SEED    plays one seed of the comparison alone
@@ -33,10 +32,12 @@ if [ -n "${HOURLOG_PROGRAM:-}" ]; then
     HOURLOG_PROGRAM=$(cd "$(dirname "$HOURLOG_PROGRAM")" && pwd)/$(basename "$HOURLOG_PROGRAM")
 fi
 cd "$folder/.."
+proved=$(tests/proved.sh)
 if [ -z "${HOURLOG_PROGRAM+given}" ]; then
     echo "== the session program"
-    rt check hourlog
-    HOURLOG_PROGRAM=$PWD/target/bin/hourlog
+    HOURLOG_PROGRAM=$PWD/crates/hourlog/out/hourlog
+    # the gate leaves it beside the libraries
+    [ "$proved" = kept ] && [ -x "$HOURLOG_PROGRAM" ] || (cd crates/hourlog && rt run </dev/null)
 fi
 
 out=target/outside
