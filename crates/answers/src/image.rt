@@ -1,30 +1,22 @@
-// What the calls on an image answer.
+// What the calls on an image answer. Each answers it or a refusal; a call that asks for one number answers that number.
 
-// The number asked for, or the number of a refusal.
+// What check answers: N and S.
 #[derive(Clone, Copy)]
-pub enum Answer {
-    Number(u64),
-    Refused(u32),
+pub struct Contents {
+    pub hours: u64,
+    pub total: u64,
 }
 
-// What check answers: N and S, or the number of a refusal.
+// The busiest stretch: its first hour and its sum.
 #[derive(Clone, Copy)]
-pub enum Verdict {
-    Holds(u64, u64),
-    Refused(u32),
+pub struct Stretch {
+    pub first: u64,
+    pub total: u64,
 }
 
-// The busiest stretch: its first hour and its sum; or the number of a refusal.
+// The hours of a bag, if any run has its sum: the run's first hour and how many hours it has.
 #[derive(Clone, Copy)]
-pub enum Stretch {
-    Run(u64, u64),
-    Refused(u32),
-}
-
-// The hours of a bag: a run's first hour and how many hours it has; that no run has its sum; or the number of a refusal.
-#[derive(Clone, Copy)]
-pub enum Bag {
-    Run(u64, u64),
-    None,
-    Refused(u32),
+pub struct Run {
+    pub first: u64,
+    pub hours: u64,
 }

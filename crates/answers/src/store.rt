@@ -1,9 +1,8 @@
-// What a call on a store answers.
+// What a call on a store answers. A question answers the number asked for, or a refusal.
 
-// An accepted append or set: the cells that it took, and those that it gave back. A question: the number asked for. A refusal: its number.
+// An accepted append, set, insert or strike: the cells that it took, and those that it gave back.
 #[derive(Clone, Copy)]
-pub enum Answer {
-    Changed(u64, u64),
-    Number(u64),
-    Refused(u32),
+pub struct Change {
+    pub taken: u64,
+    pub returned: u64,
 }
