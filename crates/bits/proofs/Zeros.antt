@@ -1,14 +1,16 @@
 -- Zeros written one piece after another. Assumes nothing.
-use mathlib.Core.Path.{◌≡◌, refl, sym, ap, ◌∙◌}
+use mathlib.Core.Path.{◌≡◌, refl, ap, ◌∙◌}
 use mathlib.Core.List.{List, [], ◌∷◌, ◌++◌}
-use Prim.Native.Nat.{ℕ, zero, suc, ◌+◌, ◌*◌, ◌≤◌, ◌<◌}
+use Prim.Native.Nat.{ℕ, zero, suc, ◌+◌, ◌*◌, ◌≤◌}
 use native.Mathlib.Omega.{arith}
-use lib.ListN.{length, replicate, set, length-replicate, replicate-append-replicate}
+use lib.ListN.{length, replicate, length-replicate, replicate-append-replicate}
+use borrow.Rule.Slice.PartMut.{put_mid}
 use Rattle.lists.specs.Lists.{splice}
-use Rattle.lists.proofs.Parts.{splice-nil, splice-then}
+use Rattle.lists.proofs.Parts.{put_mid-splice, splice-nil, splice-then}
 use Rattle.bits.specs.Bits.{bits, field}
 use Rattle.bits.proofs.Laws.{length-bits}
-use Rattle.bits.proofs.Words.{byte_put}
+use Rattle.bits.proofs.Packing.{zeros-bits}
+use Rattle.bits.proofs.Bytes.{bits-splice}
 
 pub field-zero : (n : ℕ) → field n 0 ≡ replicate n 0
 unfolding field
@@ -16,9 +18,6 @@ field-zero zero = refl
 field-zero (suc n) =
     ap (λ (z : List ℕ). z ++ (0 ∷ [])) (field-zero n) ∙ replicate-append-replicate n 1 0
     ∙ ap (λ (z : ℕ). replicate z 0) {x = n + 1} {y = suc n} (omega arith)
-
-pub cleared-none : (l : List ℕ) (a : ℕ) → l ≡ splice l a (replicate 0 0)
-cleared-none l a = sym (splice-nil l a)
 
 -- n zeros, and k behind them, from bit b on
 pub cleared_more : (o m r : List ℕ) (at b n k : ℕ) → b ≡ at + n → at + n + k ≤ 8 * length o → bits m ≡ splice (bits o) at (replicate n 0)
@@ -29,13 +28,11 @@ cleared_more o m r at b n k eb h em er =
     splice-then (bits o) (bits m) (bits r) (replicate n 0) (replicate k 0) at b em er (omega (arith, ln)) (omega (arith, ln, lk, length-bits o))
     ∙ ap (splice (bits o) at) (replicate-append-replicate n k 0)
 
--- a byte that is made 0
-pub zero-byte : (o s : List ℕ) (i j : ℕ) → i + j < length s → length s ≡ length o → bits s ≡ splice (bits o) (8 * i) (replicate (8 * j) 0)
-    → bits (set s (i + j) 0) ≡ splice (bits o) (8 * i) (replicate (8 * (j + 1)) 0)
-zero-byte o s i j h l e =
-    cleared_more o s (set s (i + j) 0) (8 * i) (8 * (i + j)) (8 * j) 8 (omega arith) (omega arith) e
-    (byte_put s (i + j) 0 h ∙ ap (splice (bits s) (8 * (i + j))) (field-zero 8))
-    ∙ ap (λ (z : ℕ). splice (bits o) (8 * i) (replicate z 0)) {x = 8 * j + 8} {y = 8 * (j + 1)} (omega arith)
+-- whole bytes made 0
+pub bytes_filled : (s m : List ℕ) (i k j : ℕ) → m ≡ replicate k 0 → j ≡ k → bits (put_mid i j s m) ≡ splice (bits s) (8 * i) (replicate (8 * k) 0)
+bytes_filled s m i k j em ej =
+    ap bits (put_mid-splice i j s m (replicate k 0) em (omega (arith, length-replicate {A = ℕ} k 0)))
+    ∙ bits-splice s i (replicate k 0) ∙ ap (splice (bits s) (8 * i)) (zeros-bits k)
 
 -- whole bytes behind n zeros; where there are none, it does not matter where they would start
 pub cleared-bytes : (o m r : List ℕ) (at i n k : ℕ) → (1 ≤ k → 8 * i ≡ at + n) → at + n + 8 * k ≤ 8 * length o

@@ -10,7 +10,7 @@ pub fn load(s: &[u8], at: usize) -> u64
     requires { (at ≤ 8 * length s.now) × (at < 2 ^ 63) × (8 ≤ length s.now) }
     ensures { Front (bits s.now) at result }
 {
-    let o = lists::smaller(at / 8, s.len() - 8);
+    let o = (at / 8).min(s.len() - 8);
     load8(s, o) << ((at - 8 * o) as u32 % 64)
 }
 

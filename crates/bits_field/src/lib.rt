@@ -13,9 +13,7 @@ fn place(at: usize, width: u32, n: usize) -> usize
     requires { (8 ≤ n) × (at + width ≤ 8 * n) × (width ≤ 57) }
     ensures { (8 * result ≤ at) × (result + 8 ≤ n) × (at + width ≤ 8 * result + 64) }
 {
-    let first = at / 8;
-    let last = n - 8;
-    if first < last { first } else { last }
+    (at / 8).min(n - 8)
 }
 
 // The number in the width bits of s that start at bit at. The shift is taken % 64 so that a field of no bits needs no branch.

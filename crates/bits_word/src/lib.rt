@@ -5,8 +5,6 @@ ghost use Rattle.std.specs.Prelude.{◌≡◌, ◌+◌, ◌*◌, ◌/◌, ◌%�
 ghost use Rattle.lists.specs.Lists.{splice};
 ghost use Rattle.bits.specs.Bits.{bits, field};
 
-use bits::numbers::wide;
-
 // The n low bits of x.
 pub fn low_bits(x: u64, n: u32) -> u64
     requires { n < 64 }
@@ -39,39 +37,21 @@ pub fn with_added(w: u64, n: u32, low: u32, v: u64) -> u64
     w + (v << low)
 }
 
-// The four bytes from index i on as one number.
-fn load4(s: &[u8], i: usize) -> u64
-    requires { i + 4 ≤ length s.now }
-    ensures { (result < 2 ^ 32) × (field 32 result ≡ take 32 (drop (8 * i) (bits s.now))) }
-{
-    let front = joined(wide(s[i]), 8, wide(s[i + 1]));
-    joined(joined(front, 8, wide(s[i + 2])), 8, wide(s[i + 3]))
-}
-
 // The eight bytes from index i on as one number: one load and a byte swap.
 pub fn load8(s: &[u8], i: usize) -> u64
     requires { i + 8 ≤ length s.now }
     ensures { field 64 result ≡ take 64 (drop (8 * i) (bits s.now)) }
 {
-    joined(load4(s, i), 32, load4(s, i + 4))
-}
-
-// The byte of w above its k low bits.
-fn byte_of(w: u64, k: u32) -> u8
-    requires { k < 64 }
-    ensures { result ≡ w / 2 ^ k % 2 ^ 8 }
-{
-    low_bits(w >> k, 8) as u8
-}
-
-fn store4(out: &mut [u8], i: usize, x: u64)
-    requires { i + 4 ≤ length out.old }
-    ensures { bits out.new ≡ splice (bits out.old) (8 * i) (field 32 x) }
-{
-    out[i] = byte_of(x, 24);
-    out[i + 1] = byte_of(x, 16);
-    out[i + 2] = byte_of(x, 8);
-    out[i + 3] = byte_of(x, 0);
+    u64::from_be_bytes([
+        s[i],
+        s[i + 1],
+        s[i + 2],
+        s[i + 3],
+        s[i + 4],
+        s[i + 5],
+        s[i + 6],
+        s[i + 7],
+    ])
 }
 
 // Puts w into the eight bytes from index i on: a byte swap and one store.
@@ -79,6 +59,5 @@ pub fn store8(out: &mut [u8], i: usize, w: u64)
     requires { i + 8 ≤ length out.old }
     ensures { bits out.new ≡ splice (bits out.old) (8 * i) (field 64 w) }
 {
-    store4(out, i, w >> 32);
-    store4(out, i + 4, low_bits(w, 32));
+    out[i..i + 8].copy_from_slice(&w.to_be_bytes());
 }

@@ -1,19 +1,21 @@
 -- The hours of a book, put into a list one after another. Assumes nothing.
 use mathlib.Core.Path.{◌≡◌, refl, sym, ap, ap₂, ◌∙◌}
 use mathlib.Core.Bool.{true, false, ◌&&◌, and-true, and_assoc}
-use mathlib.Core.List.{List, map}
-use Prim.Native.Nat.{ℕ, ◌+◌, ◌%◌, ◌≤◌, ◌<◌, max}
+use mathlib.Core.List.{List, ◌++◌, append-nil, map}
+use Prim.Native.Nat.{ℕ, ◌+◌, ◌-◌, ◌%◌, ◌≤◌, ◌<◌, max}
+use native.Mathlib.Decide.{dec_lt}
 use native.Mathlib.Numerals.{add-one}
 use native.Mathlib.Omega.{arith}
-use lib.ListN.{length, get_or, set, drop, drop_of_length-le}
-use lib.Seq.{drop-cons, length-sets, sets}
+use lib.ListN.{length, get_or, take, drop, replicate, length-append, length-drop, length-replicate, drop_of_length-le, get_or-append, get_or-eq_default}
+use lib.Seq.{drop-cons, ext_get_or, get_or-append-add, get_or-take, length-take-le}
+use borrow.Rule.Slice.PartMut.{put_mid}
 use lib.Dec.{eqb}
 use borrow.Author.Tests.{eq-eqb, eqb-true, ne_eqb}
-use Rattle.lists.specs.Lists.{every, splice, sum, tabulate, window}
-use Rattle.lists.proofs.Parts.{sets-snoc, sets-splice}
+use Rattle.lists.specs.Lists.{every, sum, tabulate, window}
+use Rattle.lists.proofs.Blocks.{window-get, window-long}
 use Rattle.lists.proofs.Sums.{sum-next}
 use Rattle.lists.proofs.Tests.{agree, both, left, right}
-use Rattle.lists.proofs.Tables.{length-tabulate, tabulate-snoc}
+use Rattle.lists.proofs.Zeros.{zeros-at}
 use Rattle.book.specs.Book.{decimal, decimal_byte}
 
 -- ---- the bytes from i on, tested one after another
@@ -47,26 +49,30 @@ pub rest_end : (b : List ℕ) (i w : ℕ) → length b ≤ i → (eqb w 0 && eve
 unfolding every
 rest_end b i w l = rw (drop_of_length-le b {i = i} l) (and-true (eqb w 0))
 
--- ---- one hour more
-pub hour-put : (l xs : List ℕ) (from i x : ℕ) → x ≡ get_or xs (from + i) 0 → set (sets l 0 (window xs from i)) i x ≡ sets l 0 (window xs from (i + 1))
-unfolding window
-hour-put l xs from i x q =
-    let f : ℕ → ℕ = λ j. get_or xs (from + j) 0 in
-    ap₂ (λ (k y : ℕ). set (sets l 0 (tabulate i f)) k y) {x = i} {y = 0 + length (tabulate i f)} (omega (arith, length-tabulate i f)) q
-    ∙ sym (sets-snoc (tabulate i f) l 0 (f i)) ∙ ap (sets l 0) (sym (tabulate-snoc i f) ∙ ap (λ (k : ℕ). tabulate k f) (sym (add-one i)))
+-- ---- the hours that a book has, zeros behind them
+module _ (l m xs : List ℕ) (from i k : ℕ) (put : (j : ℕ) → j < i → get_or l j 0 ≡ get_or xs (from + j) 0) (none : m ≡ replicate k 0)
+    (whole : i + k ≡ length l) (end : 0 < k → length xs ≤ from + i) where
+  own-long : length (take i l) ≡ i
+  own-long = length-take-le i l (omega arith)
 
-pub put-long : (l m xs : List ℕ) (from i : ℕ) → m ≡ sets l 0 (window xs from i) → length m ≡ length l
-put-long l m xs from i q = ap length q ∙ length-sets l 0 (window xs from i)
+  put-at : (j : ℕ) → j < i + k → get_or (take i l ++ m) j 0 ≡ get_or xs (from + j) 0
+  put-at j h = go (dec_lt j i)
+    where
+      go : Dec (j < i) → get_or (take i l ++ m) j 0 ≡ get_or xs (from + j) 0
+      go (yes a) = get_or-append (take i l) m 0 j (omega (arith, own-long)) ∙ get_or-take i l j 0 a ∙ put j a
+      go (no b) =
+          ap (λ (z : ℕ). get_or (take i l ++ m) z 0) {x = j} {y = length (take i l) + (j - i)} (omega (arith, own-long))
+          ∙ get_or-append-add (take i l) m (j - i) 0 ∙ ap (λ (z : List ℕ). get_or z (j - i) 0) none ∙ zeros-at k (j - i)
+          ∙ sym (get_or-eq_default xs 0 {n = from + j} (omega (arith, end (omega arith))))
 
-pub hours-put : (l xs : List ℕ) (from i n : ℕ) → i ≤ n → n ≤ i → n ≤ length l → sets l 0 (window xs from i) ≡ splice l 0 (window xs from n)
-unfolding window
-hours-put l xs from i n a b h =
-    let f : ℕ → ℕ = λ j. get_or xs (from + j) 0 in
-    sets-splice (tabulate i f) l 0 (omega (arith, length-tabulate i f)) ∙ ap (λ (k : ℕ). splice l 0 (tabulate k f)) {x = i} {y = n} (omega arith)
-
-pub none-put : (l xs : List ℕ) (from : ℕ) → l ≡ sets l 0 (window xs from 0)
-unfolding window tabulate
-none-put l xs from = refl
+  pub hours-put : put_mid i k l m ≡ window xs from (length l)
+  hours-put =
+      let long : length (take i l ++ m) ≡ length l =
+      omega (arith, own-long, length-append (take i l) m, ap length none, length-replicate {A = ℕ} k 0) in
+      ap (λ (z : List ℕ). take i l ++ (m ++ z)) (drop_of_length-le (drop i l) {i = k} (omega (arith, length-drop i l)))
+      ∙ ap (λ (z : List ℕ). take i l ++ z) (append-nil m)
+      ∙ ext_get_or 0 (take i l ++ m) (window xs from (length l)) (long ∙ sym (window-long xs from (length l)))
+      (λ j h. put-at j (omega (arith, long)) ∙ sym (window-get xs from (length l) j (omega (arith, long))))
 
 -- ---- sums
 pub sum_more : (xs : List ℕ) (from i t x : ℕ) → t ≡ sum (window xs from i) → x ≡ get_or xs (from + i) 0 → t + x ≡ sum (window xs from (i + 1))

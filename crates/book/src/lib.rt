@@ -1,11 +1,9 @@
 // Books in packed decimal: whether bytes are one, and the counts that they say.
 #![tactic(auto)]
 
-ghost use Rattle.std.specs.Prelude.{◌≡◌, ◌+◌, ◌*◌, ◌-◌, ◌≤◌, ◌<◌, min, max, eqb, length, get_or};
-ghost use Rattle.lists.specs.Lists.{splice, sum, window};
+ghost use Rattle.std.specs.Prelude.{◌≡◌, ◌+◌, ◌*◌, ◌-◌, ◌/◌, ◌≤◌, ◌<◌, min, eqb, length, get_or};
+ghost use Rattle.lists.specs.Lists.{sum, window};
 ghost use Rattle.book.specs.Book.{decimal, decimal_byte, list_of_book, unpacked_byte};
-
-use lists::{excess, smaller};
 
 // 1 for a byte with a half above 9, 0 for two digits.
 fn fault(b: u8) -> u8
@@ -20,12 +18,6 @@ fn fault(b: u8) -> u8
     0
 }
 
-fn larger(a: u8, b: u8) -> u8
-    ensures { result ≡ max a b }
-{
-    if a < b { b } else { a }
-}
-
 // Whether a book has an even length, and digits alone: not refusal 14. The loop does not stop at a fault, which is kept in a byte: the
 // compiler then tests sixteen bytes at once.
 pub fn is_decimal(book: &[u8]) -> bool
@@ -34,11 +26,9 @@ pub fn is_decimal(book: &[u8]) -> bool
     if book.len() % 2 != 0 {
         return false;
     }
-    let mut worst = 0;
-    let mut i = 0;
-    while i < book.len() {
-        worst = larger(worst, fault(book[i]));
-        i = i + 1;
+    let mut worst = 0u8;
+    for b in book {
+        worst = worst.max(fault(*b));
     }
     worst == 0
 }
@@ -47,12 +37,12 @@ pub fn is_decimal(book: &[u8]) -> bool
 fn unpacked(b: u8) -> u32
     ensures { (result ≡ unpacked_byte b) × (result ≤ 165) }
 {
-    10 * ((b / 16) as u32) + ((b % 16) as u32)
+    10 * u32::from(b / 16) + u32::from(b % 16)
 }
 
 // The count of hour i, which the book has.
 fn hour_at(book: &[u8], i: usize) -> u32
-    requires { i < length (list_of_book book.now) }
+    requires { 2 * i + 1 < length book.now }
     ensures { (result ≡ get_or (list_of_book book.now) i 0) × (result ≤ 16665) }
 {
     let at = 2 * i;
@@ -63,26 +53,21 @@ fn hour_at(book: &[u8], i: usize) -> u32
 
 // How many of n hours from hour from on lie within the book, so that a loop over them need not ask it of each.
 fn within(book: &[u8], from: usize, n: usize) -> usize
-    ensures { result ≡ min n (length (list_of_book book.now) - from) }
+    ensures { result ≡ min n (length book.now / 2 - from) }
 {
-    smaller(n, excess(book.len() / 2, from))
+    n.min((book.len() / 2).saturating_sub(from))
 }
 
-// Puts the counts of n hours from hour from on at the front of counts, zeros behind the last hour.
-pub fn hours(book: &[u8], from: usize, n: usize, counts: &mut [u32])
-    requires { (from + n < 4294967296) × (n ≤ length counts.old) }
-    ensures { counts.new ≡ splice counts.old 0 (window (list_of_book book.now) from n) }
+// Puts the counts of the hours from hour from on into counts, zeros behind the last hour.
+pub fn hours(book: &[u8], from: usize, counts: &mut [u32])
+    requires { from + length counts.old < 4294967296 }
+    ensures { counts.new ≡ window (list_of_book book.now) from (length counts.old) }
 {
-    let own = within(book, from, n);
-    let mut i = 0;
-    while i < own {
+    let own = within(book, from, counts.len());
+    for i in 0..own {
         counts[i] = hour_at(book, from + i);
-        i = i + 1;
     }
-    while i < n {
-        counts[i] = 0;
-        i = i + 1;
-    }
+    counts[own..].fill(0);
 }
 
 // The sum of the counts of n hours from hour from on, none behind the last hour.
@@ -92,10 +77,8 @@ pub fn sum_at(book: &[u8], from: usize, n: usize) -> u64
 {
     let own = within(book, from, n);
     let mut total = 0;
-    let mut i = 0;
-    while i < own {
-        total = total + (hour_at(book, from + i) as u64);
-        i = i + 1;
+    for i in 0..own {
+        total += u64::from(hour_at(book, from + i));
     }
     total
 }

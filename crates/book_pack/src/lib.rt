@@ -1,7 +1,7 @@
 // Counts packed into the bytes of a book.
 #![tactic(auto)]
 
-ghost use Rattle.std.specs.Prelude.{true, [], ◌∷◌, ◌≡◌, ◌+◌, ◌*◌, ◌≤◌, ◌<◌, length, take};
+ghost use Rattle.std.specs.Prelude.{true, [], ◌∷◌, ◌≡◌, ◌+◌, ◌*◌, ◌≤◌, ◌<◌, length};
 ghost use Rattle.lists.specs.Lists.{splice};
 ghost use Rattle.book.specs.Book.{book_of, four_digits, packed_byte};
 
@@ -19,20 +19,16 @@ fn put_hour(book: &mut [u8], at: usize, count: u32)
     ensures { book.new ≡ splice book.old at (book_of (count ∷ [])) }
 {
     let c = count as u16;
-    let high = c / 100;
-    let low = c - 100 * high;
-    book[at] = packed(high);
-    book[at + 1] = packed(low);
+    book[at] = packed(c / 100);
+    book[at + 1] = packed(c % 100);
 }
 
-// Puts the first n counts into a book, from hour from on.
-pub fn put_hours(book: &mut [u8], from: usize, counts: &[u32], n: usize)
-    requires { (2 * (from + n) ≤ length book.old) × (n ≤ length counts.now) × (four_digits (take n counts.now) ≡ true) }
-    ensures { book.new ≡ splice book.old (2 * from) (book_of (take n counts.now)) }
+// Puts the counts into a book, from hour from on.
+pub fn put_hours(book: &mut [u8], from: usize, counts: &[u32])
+    requires { (2 * (from + length counts.now) ≤ length book.old) × (four_digits counts.now ≡ true) }
+    ensures { book.new ≡ splice book.old (2 * from) (book_of counts.now) }
 {
-    let mut i = 0;
-    while i < n {
-        put_hour(book, 2 * (from + i), counts[i]);
-        i = i + 1;
+    for (i, count) in counts.iter().enumerate() {
+        put_hour(book, 2 * (from + i), *count);
     }
 }

@@ -11,7 +11,7 @@ use lib.ListN.{length, drop}
 use lib.Dec.{leb, eqb, leb-zero}
 use borrow.Author.Tests.{eq-eqb, eqb-true, leb-true, ne_eqb}
 use Rattle.lists.specs.Lists.{every, pick, sum}
-use Rattle.lists.proofs.Sums.{sum-most, sum-tabulate-one}
+use Rattle.lists.proofs.Sums.{sum-least, sum-most, sum-tabulate-one}
 use Rattle.lists.proofs.Tables.{tabulate-ext}
 use Rattle.lists.proofs.Tests.{every-no, left, right}
 use Rattle.days.specs.Days.{changes_fit, day_hours, day_numbers, day_start, hours_given, is_change_day, rises}
@@ -87,6 +87,23 @@ pub hours-most : {a : ℕ} {cs : List ℕ} → Pairs a cs → (d : ℕ) → day_
 unfolding day_hours
 hours-most none d = omega arith
 hours-most (pair {x} {h} {rest} m p q more) d = hours-or x h d rest q (hours-most more d)
+
+hours-and : (x h d : ℕ) (rest : List ℕ) → 23 ≤ h → 23 ≤ day_hours rest d → 23 ≤ day_hours (x ∷ h ∷ rest) d
+unfolding day_hours pick
+hours-and x h d rest l m = go (eqb x d)
+  where
+    go : (b : Bool) → 23 ≤ pick b h (day_hours rest d)
+    go true = l
+    go false = m
+
+hours-least : {a : ℕ} {cs : List ℕ} → Pairs a cs → (d : ℕ) → 23 ≤ day_hours cs d
+unfolding day_hours
+hours-least none d = omega arith
+hours-least (pair {x} {h} {rest} m p q more) d = hours-and x h d rest p (hours-least more d)
+
+pub start-least : {a : ℕ} {cs : List ℕ} → Pairs a cs → (d : ℕ) → 23 * d ≤ day_start cs d
+unfolding day_start
+start-least {a} {cs} w d = sum-least 23 d (day_hours cs) (hours-least w)
 
 pub start-most : {a : ℕ} {cs : List ℕ} → Pairs a cs → (d : ℕ) → day_start cs d ≤ 25 * d
 unfolding day_start

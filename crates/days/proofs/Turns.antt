@@ -1,99 +1,120 @@
 -- What one turn of each loop over the list does. Assumes nothing.
-use mathlib.Core.Path.{◌≡◌, sym, ap, ◌∙◌}
+use mathlib.Core.Path.{◌≡◌, sym, ap, ap₂, ◌∙◌}
 use mathlib.Core.Bool.{Bool, true, false, ◌&&◌, and-false}
-use mathlib.Core.List.{List, ◌∷◌}
-use Prim.Native.Nat.{ℕ, suc, ◌+◌, ◌-◌, ◌*◌, ◌%◌, ◌≤◌, ◌<◌}
+use mathlib.Core.List.{List, [], ◌∷◌}
+use Prim.Native.Nat.{ℕ, suc, ◌+◌, ◌-◌, ◌*◌, ◌/◌, ◌%◌, ◌≤◌, ◌<◌}
 use native.Mathlib.Numerals.{add-one}
 use native.Mathlib.Omega.{arith}
-use lib.ListN.{length, drop, drop_of_length-le, get_or}
+use lib.ListN.{length, drop, drop_of_length-le, get_or, take}
 use lib.Dec.{leb}
-use lib.Seq.{drop-cons, drop-length}
+use lib.Seq.{drop-cons}
 use borrow.Author.Tests.{eq-eqb, le-leb, lt-leb, ne_eqb}
+use Rattle.std.specs.Simd.{first_chunks}
 use Rattle.lists.specs.Lists.{pick}
+use Rattle.lists.proofs.Parts.{chunk-at, length-chunks}
 use Rattle.days.specs.Days.{changes_fit, day_hours, day_start, is_change_day}
 use Rattle.days.proofs.DayLaws.{old-start}
-use Rattle.days.proofs.Pairs.{fit, fit_from, pairs-drop, start-most, start-moved, start-stays}
+use Rattle.days.proofs.Pairs.{fit, fit_from, pairs-drop, start-least, start-most, start-moved, start-stays}
 
-module _ (cs : List ℕ) (i : ℕ) (l : i + 2 ≤ length cs) where
-  abbrev day : ℕ
-  day = get_or cs i 0
+-- the start of day d by the pairs from the i-th on
+pub start-below : (cs : List ℕ) (i d : ℕ) → changes_fit cs ≡ true → day_start (drop (2 * i) cs) d ≤ 25 * d
+start-below cs i d e = start-most (pairs-drop (fit cs e).pairs (2 * i) (omega arith)) d
 
-  abbrev hours : ℕ
-  hours = get_or cs (i + 1) 0
+-- the pairs ps of the list cs, the i-th of them next
+module _ (cs : List ℕ) (ps : List (List ℕ)) (i : ℕ) (all : ps ≡ first_chunks 2 (length cs / 2) cs) (l : i < length ps) where
+  abbrev pub day : ℕ
+  day = get_or (get_or ps i []) 0 0
 
-  -- the pair at i
-  at_pair : drop i cs ≡ day ∷ hours ∷ drop (i + 2) cs
-  at_pair =
-      drop-cons cs i 0 (omega arith)
-      ∙ ap (λ (z : ℕ). day ∷ drop z cs) (sym (add-one i))
-      ∙ ap (λ (z : List ℕ). day ∷ z) (drop-cons cs (i + 1) 0 (omega arith) ∙ ap (λ (z : ℕ). hours ∷ drop z cs) two)
-    where
-      two : suc (i + 1) ≡ i + 2
-      two = omega arith
+  abbrev pub hours : ℕ
+  hours = get_or (get_or ps i []) 1 0
+
+  abbrev rest : List ℕ
+  rest = drop (2 * (i + 1)) cs
+
+  within : i < length cs / 2
+  within = omega (arith, ap length all, length-chunks 2 (length cs / 2) cs)
+
+  two : drop (2 * i) cs ≡ get_or cs (2 * i) 0 ∷ get_or cs (2 * i + 1) 0 ∷ rest
+  two =
+      let n : suc (2 * i + 1) ≡ 2 * (i + 1) = omega arith in
+      drop-cons cs (2 * i) 0 (omega (arith, within))
+      ∙ ap (λ (z : List ℕ). get_or cs (2 * i) 0 ∷ z) (ap (λ (z : ℕ). drop z cs) (sym (add-one (2 * i)))
+      ∙ drop-cons cs (2 * i + 1) 0 (omega (arith, within)) ∙ ap (λ (z : ℕ). get_or cs (2 * i + 1) 0 ∷ drop z cs) n)
+
+  one : get_or ps i [] ≡ get_or cs (2 * i) 0 ∷ get_or cs (2 * i + 1) 0 ∷ []
+  one = ap (λ (z : List (List ℕ)). get_or z i []) all ∙ chunk-at 2 (length cs / 2) i cs within ∙ ap (take 2) two
+
+  pub day-is : day ≡ get_or cs (2 * i) 0
+  day-is = ap (λ (z : List ℕ). get_or z 0 0) one
+
+  pub hours-is : hours ≡ get_or cs (2 * i + 1) 0
+  hours-is = ap (λ (z : List ℕ). get_or z 1 0) one
+
+  at_pair : drop (2 * i) cs ≡ day ∷ hours ∷ rest
+  at_pair = two ∙ ap₂ (λ (x y : ℕ). x ∷ y ∷ rest) (sym day-is) (sym hours-is)
 
   -- the test of the list: what is still to test
-  module _ (from : ℕ) (e : changes_fit cs ≡ fit_from from (drop i cs)) where
-    here : changes_fit cs ≡ (leb from day && (is_change_day hours && fit_from (day + 1) (drop (i + 2) cs)))
+  module _ (from : ℕ) (e : changes_fit cs ≡ fit_from from (drop (2 * i) cs)) where
+    here : changes_fit cs ≡ (leb from day && (is_change_day hours && fit_from (day + 1) rest))
     unfolding fit_from
     here = e ∙ ap (fit_from from) at_pair
 
     pub too-early : day < from → false ≡ changes_fit cs
-    too-early k = sym (here ∙ ap (λ (b : Bool). b && (is_change_day hours && fit_from (day + 1) (drop (i + 2) cs))) (lt-leb from day k))
+    too-early k = sym (here ∙ ap (λ (b : Bool). b && (is_change_day hours && fit_from (day + 1) rest)) (lt-leb from day k))
 
     pub wrong-hours : is_change_day hours ≡ false → false ≡ changes_fit cs
-    wrong-hours k = sym (here ∙ ap (λ (b : Bool). leb from day && (b && fit_from (day + 1) (drop (i + 2) cs))) k ∙ and-false (leb from day))
+    wrong-hours k = sym (here ∙ ap (λ (b : Bool). leb from day && (b && fit_from (day + 1) rest)) k ∙ and-false (leb from day))
 
-    pub pair_fits : from ≤ day → is_change_day hours ≡ true → changes_fit cs ≡ fit_from (day + 1) (drop (i + 2) cs)
+    pub pair_fits : from ≤ day → is_change_day hours ≡ true → changes_fit cs ≡ fit_from (day + 1) rest
     pair_fits k h =
         here
-        ∙ ap (λ (b : Bool). b && (is_change_day hours && fit_from (day + 1) (drop (i + 2) cs))) (le-leb from day k)
-        ∙ ap (λ (b : Bool). b && fit_from (day + 1) (drop (i + 2) cs)) h
+        ∙ ap (λ (b : Bool). b && (is_change_day hours && fit_from (day + 1) rest)) (le-leb from day k)
+        ∙ ap (λ (b : Bool). b && fit_from (day + 1) rest) h
 
-  -- the hours of day d: what is still to search
   module _ (d : ℕ) where
-    found_in : day_hours (drop i cs) d ≡ day_hours (day ∷ hours ∷ drop (i + 2) cs) d
+    -- the hours of day d: what is still to search
+    found_in : day_hours (drop (2 * i) cs) d ≡ day_hours (day ∷ hours ∷ rest) d
     found_in = ap (λ (z : List ℕ). day_hours z d) at_pair
 
-    pub found : day ≡ d → hours ≡ day_hours (drop i cs) d
+    pub found : day ≡ d → hours ≡ day_hours (drop (2 * i) cs) d
     unfolding day_hours pick
-    found e = sym (found_in ∙ ap (λ (b : Bool). pick b hours (day_hours (drop (i + 2) cs) d)) (eq-eqb day d e))
+    found e = sym (found_in ∙ ap (λ (b : Bool). pick b hours (day_hours rest d)) (eq-eqb day d e))
 
-    pub passed : (day ≡ d → ⊥) → day_hours (drop i cs) d ≡ day_hours (drop (i + 2) cs) d
+    pub passed : (day ≡ d → ⊥) → day_hours (drop (2 * i) cs) d ≡ day_hours rest d
     unfolding day_hours pick
-    passed n = found_in ∙ ap (λ (b : Bool). pick b hours (day_hours (drop (i + 2) cs) d)) (ne_eqb day d n)
+    passed n = found_in ∙ ap (λ (b : Bool). pick b hours (day_hours rest d)) (ne_eqb day d n)
 
-    -- its start: the pair before those passed
-    moved_at : changes_fit cs ≡ true → i % 2 ≡ 0 → day < d → day_start (drop i cs) d + 24 ≡ day_start (drop (i + 2) cs) d + hours
-    moved_at e q k =
+    -- its start: by how much the pair moves it
+    moved : changes_fit cs ≡ true → day < d → day_start (drop (2 * i) cs) d + 24 ≡ day_start rest d + hours
+    moved e k =
         ap (λ (z : List ℕ). day_start z d + 24) at_pair
-        ∙ start-moved 0 day hours (drop (i + 2) cs) (rw at_pair at (pairs-drop (fit cs e).pairs i q)) d k
+        ∙ start-moved 0 day hours rest (rw at_pair at (pairs-drop (fit cs e).pairs (2 * i) (omega arith))) d k
 
-    stays_at : d ≤ day → day_start (drop i cs) d ≡ day_start (drop (i + 2) cs) d
-    stays_at k = ap (λ (z : List ℕ). day_start z d) at_pair ∙ start-stays day hours (drop (i + 2) cs) d k
+    stays : d ≤ day → day_start (drop (2 * i) cs) d ≡ day_start rest d
+    stays k = ap (λ (z : List ℕ). day_start z d) at_pair ∙ start-stays day hours rest d k
 
-module _ (cs : List ℕ) (i d : ℕ) (two : 2 ≤ i) (l : i ≤ length cs) where
-  back : i - 2 + 2 ≡ i
-  back = omega arith
+    module _ (start : ℕ) (e : changes_fit cs ≡ true) (q : start + day_start (drop (2 * i) cs) d ≡ day_start cs d + 24 * d) where
+      pub no-borrow : day < d → 24 ≤ start + hours
+      no-borrow k = omega (arith, q, moved e k, start-least (fit cs e).pairs d, start-below cs (i + 1) d e)
 
-  pub moved : changes_fit cs ≡ true → i % 2 ≡ 0 → get_or cs (i - 2) 0 < d
-      → day_start (drop (i - 2) cs) d + 24 ≡ day_start (drop i cs) d + get_or cs (i - 2 + 1) 0
-  moved e q k =
-      moved_at cs (i - 2) (omega arith) d e (omega arith) k ∙ ap (λ (z : ℕ). day_start (drop z cs) d + get_or cs (i - 2 + 1) 0) back
+      pub start-more : day < d → start + hours - 24 + day_start rest d ≡ day_start cs d + 24 * d
+      start-more k = omega (arith, q, moved e k, no-borrow k)
 
-  pub stays : d ≤ get_or cs (i - 2) 0 → day_start (drop (i - 2) cs) d ≡ day_start (drop i cs) d
-  stays k = stays_at cs (i - 2) (omega arith) d k ∙ ap (λ (z : ℕ). day_start (drop z cs) d) back
+      pub start-same : d ≤ day → start + day_start rest d ≡ day_start cs d + 24 * d
+      start-same k = omega (arith, q, stays k)
 
-module _ (cs : List ℕ) (i : ℕ) (l : length cs ≤ i) where
-  pub all-fits : (from : ℕ) → fit_from from (drop i cs) ≡ true
+-- no pair is left of a list of pairs
+module _ (cs : List ℕ) (ps : List (List ℕ)) (i : ℕ) (all : ps ≡ first_chunks 2 (length cs / 2) cs) (l : length ps ≤ i) (even : length cs % 2 ≡ 0) where
+  ended : drop (2 * i) cs ≡ []
+  ended = drop_of_length-le cs (omega (arith, ap length all, length-chunks 2 (length cs / 2) cs))
+
+  pub all-fits : (from : ℕ) → fit_from from (drop (2 * i) cs) ≡ true
   unfolding fit_from
-  all-fits from = ap (fit_from from) (drop_of_length-le cs l)
+  all-fits from = ap (fit_from from) ended
 
-  pub not_named : (d : ℕ) → day_hours (drop i cs) d ≡ 24
+  pub not_named : (d : ℕ) → day_hours (drop (2 * i) cs) d ≡ 24
   unfolding day_hours
-  not_named d = ap (λ (z : List ℕ). day_hours z d) (drop_of_length-le cs l)
+  not_named d = ap (λ (z : List ℕ). day_hours z d) ended
 
-pub start-below : (cs : List ℕ) (i d : ℕ) → changes_fit cs ≡ true → i % 2 ≡ 0 → day_start (drop i cs) d ≤ 25 * d
-start-below cs i d e q = start-most (pairs-drop (fit cs e).pairs i q) d
-
-pub none_passed : (cs : List ℕ) (d : ℕ) → 24 * d ≡ day_start (drop (length cs) cs) d
-none_passed cs d = sym (ap (λ (z : List ℕ). day_start z d) (drop-length cs) ∙ old-start d)
+  pub none-left : (d : ℕ) → day_start (drop (2 * i) cs) d ≡ 24 * d
+  none-left d = ap (λ (z : List ℕ). day_start z d) ended ∙ old-start d

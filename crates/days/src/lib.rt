@@ -15,24 +15,17 @@ fn is_change(hours: u32) -> bool
 pub fn fit(changes: &[u32]) -> bool
     ensures { result ≡ changes_fit changes.now }
 {
-    let n = changes.len();
-    let paired = n / 2 * 2;
-    if paired != n {
+    if changes.len() % 2 != 0 {
         return false;
     }
     // the first day that the next pair may name
-    let mut from = 0u64;
-    let mut i = 0;
-    while i < paired {
-        let day = changes[i] as u64;
-        if day < from {
-            return false;
-        }
-        if !is_change(changes[i + 1]) {
+    let mut from = 0;
+    for [day, hours] in changes.as_chunks::<2>().0 {
+        let day = u64::from(*day);
+        if day < from || !is_change(*hours) {
             return false;
         }
         from = day + 1;
-        i = i + 2;
     }
     true
 }
@@ -42,28 +35,23 @@ pub fn hours_of(changes: &[u32], d: u32) -> u64
     requires { changes_fit changes.now ≡ true }
     ensures { result ≡ day_hours changes.now d }
 {
-    let mut i = 0;
-    while i < changes.len() {
-        if changes[i] == d {
-            return changes[i + 1] as u64;
+    for [day, hours] in changes.as_chunks::<2>().0 {
+        if *day == d {
+            return u64::from(*hours);
         }
-        i = i + 2;
     }
     24
 }
 
-// The hour at which day d begins: as if no day before it were changed, then moved by each that is. From the last pair to the first, so that
-// the pairs passed are a list of changed days at every turn. In 64 bits nothing wraps.
+// The hour at which day d begins: as if no day before it were changed, then moved by each that is. In 64 bits nothing wraps.
 pub fn start_of(changes: &[u32], d: u32) -> u64
     requires { changes_fit changes.now ≡ true }
     ensures { result ≡ day_start changes.now d }
 {
-    let mut start = 24 * d as u64;
-    let mut i = changes.len();
-    while 0 < i {
-        i = i - 2;
-        if changes[i] < d {
-            start = start + changes[i + 1] as u64 - 24;
+    let mut start = 24 * u64::from(d);
+    for [day, hours] in changes.as_chunks::<2>().0 {
+        if *day < d {
+            start = start + u64::from(*hours) - 24;
         }
     }
     start

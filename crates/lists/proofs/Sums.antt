@@ -38,6 +38,11 @@ unfolding sum tabulate
 sum-most b zero f h = omega arith
 sum-most b (suc n) f h = omega (arith, h 0, mul-suc b n, sum-most b n (λ j. f (suc j)) (λ j. h (suc j)))
 
+pub sum-least : (b n : ℕ) (f : ℕ → ℕ) → ((j : ℕ) → b ≤ f j) → b * n ≤ sum (tabulate n f)
+unfolding sum tabulate
+sum-least b zero f h = omega arith
+sum-least b (suc n) f h = omega (arith, h 0, mul-suc b n, sum-least b n (λ j. f (suc j)) (λ j. h (suc j)))
+
 -- entries of at most those of two other tables
 pub sum-two : (n : ℕ) (f g k : ℕ → ℕ) → ((j : ℕ) → f j ≤ g j + k j) → sum (tabulate n f) ≤ sum (tabulate n g) + sum (tabulate n k)
 unfolding sum tabulate

@@ -5,7 +5,7 @@ use Prim.Native.Nat.{ℕ, zero, suc, ◌+◌, ◌*◌, ◌≤◌, ◌<◌}
 use native.Mathlib.Nat.{not-suc-le-zero, le_of_suc-le-suc, mul-zero, mul-suc}
 use native.Mathlib.Omega.{arith}
 use lib.ListN.{length, get_or, take, drop, length-append, length-drop, take-append-drop}
-use lib.Seq.{take_at, drop-drop}
+use lib.Seq.{take_at, drop-cons, drop-drop}
 use Rattle.lists.specs.Lists.{tabulate, concat, part}
 use Rattle.lists.proofs.Parts.{part-skip}
 
@@ -41,6 +41,17 @@ unfolding tabulate
 take-tabulate n zero f l = refl
 take-tabulate zero (suc k) f l = absurd (not-suc-le-zero l)
 take-tabulate (suc n) (suc k) f l = ap (λ z. f 0 ∷ z) (take-tabulate n k (λ j. f (suc j)) (le_of_suc-le-suc l))
+
+-- the elements of a part, one after another
+pub part-table : (s : List ℕ) (a n : ℕ) → a + n ≤ length s → part s a n ≡ tabulate n (λ j. get_or s (a + j) 0)
+unfolding tabulate
+part-table s a zero l = refl
+part-table s a (suc n) l =
+    ap (take (suc n)) (drop-cons s a 0 (omega arith))
+    ∙ ap₂ ◌∷◌ (ap (λ (i : ℕ). get_or s i 0) {x = a} {y = a + 0} (omega arith))
+    (part-table s (suc a) n (omega arith)
+    ∙ tabulate-ext n (λ j. get_or s (suc a + j) 0) (λ j. get_or s (a + suc j) 0)
+    (λ j _. ap (λ (i : ℕ). get_or s i 0) {x = suc a + j} {y = a + suc j} (omega arith)))
 
 -- the i-th list, behind those before it
 pub part-concat : (k : ℕ) (f : ℕ → List ℕ) (rest : List ℕ) (i : ℕ) → i < k

@@ -3,12 +3,12 @@
 -- Assumes nothing.
 use mathlib.Core.Path.{◌≡◌, sym, ap, ◌∙◌}
 use Prim.Native.Nat.{ℕ, zero, suc, ◌+◌, ◌-◌, ◌*◌, ◌/◌, ◌%◌, ◌^◌, ◌≤◌, ◌<◌, min}
-use native.Mathlib.Nat.{one-mul, mul-le-mul, mul-le-mul_left, mul-le-mul_right}
+use native.Mathlib.Nat.{mul-le-mul, mul-le-mul_left, mul-le-mul_right}
 use native.Mathlib.Nat.{div-mul-le_self, lt-div-mul-add, div-eq_of_lt-le, pow-succ'}
 use native.Mathlib.Decide.{dec_le}
 use native.Mathlib.Omega.{arith}
 use lib.Count.{count_leading_zeros, leading_length}
-use lib.Pow.{pow_mono, pow_pos, shl_exact}
+use lib.Pow.{pow_mono, pow_pos}
 use Rattle.reserve.specs.Reserve.{digits, ceil, dense, sparse, reserve}
 use Rattle.reserve.specs.Code.Formula.{one_formula, Bounded}
 use Rattle.reserve.proofs.Line.{lt-two-pow}
@@ -18,9 +18,6 @@ pub digits-by-zeros : (s : ℕ) → s < 2 ^ 64 → 64 - count_leading_zeros 64 s
 digits-by-zeros s h =
     let l = leading_length 64 s h in
     omega (arith, digits-unique s l.0 l.2 l.3, l.1)
-
-pub power-is : (k : ℕ) → k < 64 → (1 * 2 ^ k) % 2 ^ 64 ≡ 2 ^ k
-power-is k h = shl_exact {a = 1} 1 k 64 (omega arith) (omega arith) ∙ one-mul (2 ^ k)
 
 -- ---- both cases as one formula
 -- floor (s·(2u - 1) / u) is 2s - ceil (s / u)

@@ -1,7 +1,7 @@
 // The reserve R(2^h, s) of a tree of 2^h counts with sum s, in bits, for h to 8 and sums below 2^40.
 #![tactic(auto)]
 
-ghost use Rattle.std.specs.Prelude.{◌≡◌, ◌+◌, ◌%◌, ◌^◌, ◌≤◌, ◌<◌, min};
+ghost use Rattle.std.specs.Prelude.{◌≡◌, ◌+◌, ◌%◌, ◌^◌, ◌≤◌, ◌<◌};
 ghost use Rattle.reserve.specs.Reserve.{digits, reserve};
 ghost use Rattle.reserve.specs.Code.Formula.{Bounded, one_formula};
 
@@ -9,7 +9,7 @@ ghost use Rattle.reserve.specs.Code.Formula.{Bounded, one_formula};
 pub fn digits_of(s: u64) -> u32
     ensures { result ≡ digits s }
 {
-    64 - u64::leading_zeros(s)
+    64 - s.leading_zeros()
 }
 
 // 2^k.
@@ -20,20 +20,14 @@ pub fn power(k: u32) -> u64
     1u64 << k
 }
 
-fn smaller(a: u32, b: u32) -> u32
-    ensures { result ≡ min a b }
-{
-    if a < b { a } else { b }
-}
-
 // The formula, with m the smaller of h and t, and n = 2^m.
-fn formula(h: u32, t: u32, s: u64, m: u32, n: u64) -> usize
+pub fn formula(h: u32, t: u32, s: u64, m: u32, n: u64) -> usize
     requires { Bounded h t s m n }
     ensures { result ≡ one_formula h t s m n ((t + 63) % 64) }
 {
-    let levels = n * ((t + 1 - m) as u64) + s * ((h - m) as u64);
+    let levels = n * u64::from(t + 1 - m) + s * u64::from(h - m);
     let shared = (s * (n - 1)) >> ((t + 63) % 64);
-    (levels + shared - ((t + 1) as u64)) as usize
+    (levels + shared - u64::from(t + 1)) as usize
 }
 
 // The reserve of a sum s of t binary digits. Both cases of the formula are one, with m the smaller of h and t: the dense case at 2^m
@@ -42,7 +36,7 @@ pub fn reserve_at(h: u32, t: u32, s: u64) -> usize
     requires { (h ≤ 8) × (s < 1099511627776) × (t ≡ digits s) }
     ensures { result ≡ reserve h s }
 {
-    let m = smaller(h, t);
+    let m = t.min(h);
     formula(h, t, s, m, power(m))
 }
 

@@ -1,3 +1,2 @@
 -- Laws.
 pub mod EveryEntry
-pub mod Dense

@@ -1,6 +1,6 @@
 // The table's entries: the binary digits of the sums from 0 to 255, the reserves R(4, s) of these sums, the reserves of 8, 16 and 32
 // counts with sums from 0 to 63, one height after another, and the eight counts of each code with 0, 1 and 2 coins, two bits a count.
-pub(crate) const SUMS: [u8; 864] = [
+pub(crate) static SUMS: [u8; 864] = [
     0, 1, 2, 2, 3, 3, 3, 3, 4, 4, 4, 4, 4, 4, 4, 4, 5, 5, 5, 5, 5, 5, 5, 5, 5, 5, 5, 5, 5, 5, 5, 5,
     6, 6, 6, 6, 6, 6, 6, 6, 6, 6, 6, 6, 6, 6, 6, 6, 6, 6, 6, 6, 6, 6, 6, 6, 6, 6, 6, 6, 6, 6, 6, 6,
     7, 7, 7, 7, 7, 7, 7, 7, 7, 7, 7, 7, 7, 7, 7, 7, 7, 7, 7, 7, 7, 7, 7, 7, 7, 7, 7, 7, 7, 7, 7, 7,

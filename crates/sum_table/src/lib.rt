@@ -20,52 +20,51 @@ pub struct Few {
     pub right: u8,
 }
 
-// Puts the table's entries into a lent array. Whoever needs it many times makes it once and lends it.
-pub fn put_sums(table: &mut [u8; 864])
-    ensures { Sums table.new }
-{
-    *table = SUMS;
+// The table. Its entries lie among the program's constants, and take no stack.
+#[derive(Clone, Copy)]
+pub struct SumTable {
+    pub entries: &'static [u8; 864],
+    ghost sums: { Sums entries.now },
 }
 
-// A byte as a number.
-fn wide(x: u8) -> u32
-    ensures { result ≡ x }
-{
-    x as u32
-}
+impl SumTable {
+    pub fn new() -> Self {
+        SumTable { entries: &SUMS }
+    }
 
-// The binary digits of a sum.
-pub fn digits_in(table: &[u8; 864], s: u64) -> u32
-    requires { Sums table.now × (s < 256) }
-    ensures { result ≡ digits s }
-{
-    wide(table[s as usize])
-}
+    // The binary digits of a sum.
+    pub fn digits(&self, s: u64) -> u32
+        requires { s < 256 }
+        ensures { result ≡ digits s }
+    {
+        u32::from(self.entries[s as usize])
+    }
 
-// The reserve of four counts with sum s.
-pub fn four_in(table: &[u8; 864], s: u64) -> u32
-    requires { Sums table.now × (s < 256) }
-    ensures { result ≡ reserve 2 s }
-{
-    wide(table[256 + (s as usize)])
-}
+    // The reserve of four counts with sum s.
+    pub fn four(&self, s: u64) -> u32
+        requires { s < 256 }
+        ensures { result ≡ reserve 2 s }
+    {
+        u32::from(self.entries[256 + (s as usize)])
+    }
 
-// The reserve of 8, 16 or 32 counts with sum s. Height 3 stands behind the 512 entries of the rows of 256.
-pub fn reserve_in(table: &[u8; 864], h: u32, s: u64) -> u32
-    requires { Sums table.now × (3 ≤ h) × (h ≤ 5) × (s < 64) }
-    ensures { result ≡ reserve h s }
-{
-    wide(table[(h as usize) * 64 + 320 + (s as usize)])
-}
+    // The reserve of 8, 16 or 32 counts with sum s. Height 3 stands behind the 512 entries of the rows of 256.
+    pub fn reserve(&self, h: u32, s: u64) -> u32
+        requires { (3 ≤ h) × (h ≤ 5) × (s < 64) }
+        ensures { result ≡ reserve h s }
+    {
+        u32::from(self.entries[(h as usize) * 64 + 320 + (s as usize)])
+    }
 
-// The eight counts with sum s whose code is the number v. It has three bits a coin.
-pub fn few_in(table: &[u8; 864], s: u64, v: u64) -> Few
-    requires { Sums table.now × (s < 3) × (v < 2 ^ (3 * s)) }
-    ensures { exact 3 s (field (3 * s) v) 0 ≡ true → quarters result.left ++ quarters result.right ≡ counts 3 s (field (3 * s) v) 0 }
-{
-    let at = 704 + 2 * ((8 * s + v) as usize);
-    Few {
-        left: table[at],
-        right: table[at + 1],
+    // The eight counts with sum s whose code is the number v. It has three bits a coin.
+    pub fn few(&self, s: u64, v: u64) -> Few
+        requires { (s < 3) × (v < 2 ^ (3 * s)) }
+        ensures { exact 3 s (field (3 * s) v) 0 ≡ true → quarters result.left ++ quarters result.right ≡ counts 3 s (field (3 * s) v) 0 }
+    {
+        let at = 704 + 2 * ((8 * s + v) as usize);
+        Few {
+            left: self.entries[at],
+            right: self.entries[at + 1],
+        }
     }
 }

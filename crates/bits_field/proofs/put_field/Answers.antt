@@ -1,12 +1,8 @@
 -- `bits_field::put_field` meets its contract. Assumes nothing.
+use Rattle.std.proofs.Common.{ℕ, ◌≡◌, ◌*◌, ap, arith, ◌∙◌}
 use Rattle.lists.specs.Lists.{splice}
-use Prim.Native.Nat.{◌*◌}
-use mathlib.Core.Path.{◌≡◌, ◌∙◌, ap}
-use Prim.Native.Nat.{ℕ}
 use Rattle.bits.specs.Bits.{bits, field}
-use Rattle.bits.proofs.Words.{empty-put}
-use native.Mathlib.Omega.{arith}
-use Rattle.bits.proofs.Words.{put_is}
+use Rattle.bits.proofs.Words.{empty-put, put_is}
 use Rattle.bits_field.proofs.put_field.Goals as goal
 
 pub returns-then-width-eq0 : goal.returns-then-width-eq0

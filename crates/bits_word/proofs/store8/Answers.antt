@@ -1,12 +1,7 @@
 -- `bits_word::store8` meets its contract. Assumes nothing.
-use mathlib.Core.Path.{refl}
-use Prim.Native.Nat.{◌/◌, ◌^◌}
-use Rattle.bits.proofs.Words.{put8-is}
+use Rattle.std.proofs.Common.{arith, ◌∙◌}
+use Rattle.bits.proofs.Bytes.{word_put}
 use Rattle.bits_word.proofs.store8.Goals as goal
 
 pub returns : goal.returns
-returns c =
-    let high = c.store4 in
-    let low = c.low_bits in
-    put8-is c.args.out.now high.new.out c.store4-2.new.out c.args.i c.args.w (c.args.w / 2 ^ 32) low.result
-    c.requires refl low.ensures high.ensures c.store4-2.ensures
+returns c = word_put _ _ _ _ _ c.ranges.w.fits (omega arith) (c.copy_from_slice.ensures.after ∙ c.to_be_bytes.ensures)

@@ -1,12 +1,9 @@
 -- `bits_word::with_field` meets its contract. Assumes nothing.
 use native.Mathlib.Nat.{mod-lt}
 use lib.Pow.{pow_pos}
-use Rattle.bits.proofs.Words.{high_fits, both-fit, with-is}
+use Rattle.bits.proofs.Words.{both-fit, with-is}
 use native.Mathlib.Omega.{arith}
 use Rattle.bits_word.proofs.with_field.Goals as goal
-
-pub joined-requires : goal.joined-requires
-joined-requires c = (omega arith, c.requires.3, high_fits c.args.w c.args.n c.args.low c.ranges.w.fits c.requires.0)
 
 pub joined-requires-2 : goal.joined-requires-2
 joined-requires-2 c = (

@@ -1,14 +1,8 @@
--- `days::fit` meets its contract. Assumes nothing.
-use mathlib.Core.Path.{◌≡◌}
-use Prim.Native.Nat.{◌-◌, ◌%◌, ◌≤◌}
-use lib.ListN.{length, drop}
+-- The loop's invariant: the test of the list is that of the pairs that are left. Assumes nothing.
+use Rattle.std.proofs.Common.{◌≡◌, ◌*◌, ◌≤◌, drop}
 use Rattle.days.specs.Days.{changes_fit}
 use Rattle.days.proofs.Pairs.{fit_from}
 use Rattle.days.proofs.fit.Given as goal
 
-abbrev pub invariant-loop-i : goal.invariant-loop-i
-invariant-loop-i l =
-    (l.paired ≡ length l.changes) × (l.paired % 2 ≡ 0) × (l.i % 2 ≡ 0) × (l.i ≤ l.paired) × (l.from ≤ 4294967296) × (changes_fit l.changes ≡ fit_from l.from (drop l.i l.changes))
-
-abbrev pub decreases-loop-i : goal.decreases-loop-i
-decreases-loop-i l = l.paired - l.i
+abbrev pub invariant-loop-day : goal.invariant-loop-day
+invariant-loop-day l = (l.from ≤ 4294967296) × (changes_fit l.changes ≡ fit_from l.from (drop (2 * l.day-index) l.changes))

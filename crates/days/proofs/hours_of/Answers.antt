@@ -1,25 +1,23 @@
 -- `days::hours_of` meets its contract. Assumes nothing.
-use mathlib.Core.Path.{sym, ◌∙◌}
-use Prim.Native.Nat.{◌+◌}
-use native.Mathlib.Omega.{arith}
-use borrow.Author.Rules.{rules}
+use Rattle.std.proofs.Common.{sym, ◌∙◌}
 use Rattle.days.proofs.Pairs.{fit}
 use Rattle.days.proofs.Turns.{found, not_named, passed}
 use Rattle.days.proofs.hours_of.Goals as goal
 
-pub loop-i-init : goal.loop-i-init
-loop-i-init c = ((fit _ c.requires).even, search rules, search rules, search rules)
+pub returns-then-day-d : goal.returns-then-day-d
+returns-then-day-d c =
+    let a = c.args in
+    let l = c.loop-day in
+    c.from.ensures ∙ found a.changes.now _ l.day-index c.as_chunks.ensures.front c.loop-day-test.true a.d c.if-day-d.true ∙ sym l.invariant
 
-pub overflow_cast-result : goal.overflow_cast-result
-overflow_cast-result c = omega (arith, c.type_inv.changes (c.loop-i.i + 1))
-
-pub returns-then-changes-i : goal.returns-then-changes-i
-returns-then-changes-i c =
-    found _ c.loop-i.i (omega arith) _ c.if-changes-i.true ∙ sym c.loop-i.invariant.3
-
-pub loop-i-preserved : goal.loop-i-preserved
-loop-i-preserved c =
-    (search rules, omega arith, omega arith, c.loop-i.invariant.3 ∙ passed _ c.loop-i.i (omega arith) _ c.if-changes-i.false)
+pub loop-day-preserved : goal.loop-day-preserved
+loop-day-preserved c =
+    let a = c.args in
+    let l = c.loop-day in
+    l.invariant ∙ passed a.changes.now _ l.day-index c.as_chunks.ensures.front c.loop-day-test.true a.d c.if-day-d.false
 
 pub returns : goal.returns
-returns c = sym (c.loop-i.invariant.3 ∙ not_named _ c.loop-i.i (omega arith) _)
+returns c =
+    let a = c.args in
+    let l = c.loop-day in
+    sym (l.invariant ∙ not_named a.changes.now _ l.day-index c.as_chunks.ensures.front c.loop-day-test.false (fit _ c.requires).even a.d)

@@ -1,13 +1,7 @@
--- `days::hours_of` meets its contract. Assumes nothing.
-use mathlib.Core.Path.{◌≡◌}
-use Prim.Native.Nat.{◌-◌, ◌%◌, ◌≤◌}
-use lib.ListN.{length, drop}
+-- The loop's invariant: the pairs that are left say the hours of day d. Assumes nothing.
+use Rattle.std.proofs.Common.{◌≡◌, ◌*◌, drop}
 use Rattle.days.specs.Days.{day_hours}
 use Rattle.days.proofs.hours_of.Given as goal
 
-abbrev pub invariant-loop-i : goal.invariant-loop-i
-invariant-loop-i l =
-    (length l.changes % 2 ≡ 0) × (l.i % 2 ≡ 0) × (l.i ≤ length l.changes) × (day_hours l.changes l.d ≡ day_hours (drop l.i l.changes) l.d)
-
-abbrev pub decreases-loop-i : goal.decreases-loop-i
-decreases-loop-i l = length l.changes - l.i
+abbrev pub invariant-loop-day : goal.invariant-loop-day
+invariant-loop-day l = day_hours l.changes l.d ≡ day_hours (drop (2 * l.day-index) l.changes) l.d

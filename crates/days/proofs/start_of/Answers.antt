@@ -1,44 +1,44 @@
 -- `days::start_of` meets its contract. Assumes nothing.
-use mathlib.Core.Path.{◌≡◌, sym, ap, ◌∙◌}
-use Prim.Native.Nat.{ℕ, ◌+◌, ◌-◌}
-use native.Mathlib.Omega.{arith}
-use lib.ListN.{drop}
-use borrow.Author.Rules.{rules}
-use Rattle.days.specs.Days.{day_start}
+use Rattle.std.proofs.Common.{◌+◌, ◌*◌, arith}
 use Rattle.days.proofs.Pairs.{fit}
-use Rattle.days.proofs.Turns.{moved, none_passed, start-below, stays}
+use Rattle.days.proofs.Turns.{hours-is, no-borrow, none-left, start-below, start-more, start-same}
 use Rattle.days.proofs.start_of.Goals as goal
+use Rattle.days.proofs.start_of.Goals.{then-day-d, else-day-d}
 
-pub loop-i-init : goal.loop-i-init
-loop-i-init c = ((fit _ c.requires).even, search rules, none_passed c.args.changes.now c.args.d)
-
-pub overflow_cast-start-then-changes-i : goal.overflow_cast-start-then-changes-i
-overflow_cast-start-then-changes-i c = omega (arith, c.type_inv.changes (c.loop-i.i - 2 + 1))
-
-pub overflow_add-start-then-changes-i : goal.overflow_add-start-then-changes-i
-overflow_add-start-then-changes-i c =
+pub overflow_add-start : goal.overflow_add-start
+overflow_add-start c =
+    let cs = c.args.changes.now in
+    let l = c.loop-day in
     omega (
       arith,
-      c.type_inv.changes (c.loop-i.i - 2 + 1),
-      start-below c.args.changes.now c.loop-i.i c.args.d c.requires c.loop-i.invariant.0,
+      c.from.ensures,
+      hours-is cs _ l.day-index c.as_chunks.ensures.front c.loop-day-test.true,
+      c.type_inv.changes (2 * l.day-index + 1),
+      l.invariant,
+      start-below cs 0 c.args.d c.requires,
     )
 
 pub overflow_sub-start : goal.overflow_sub-start
 overflow_sub-start c =
-    omega (arith, moved c.args.changes.now c.loop-i.i c.args.d (omega arith) (omega arith) c.requires c.loop-i.invariant.0 c.if-changes-i.true)
+    let l = c.loop-day in
+    omega (
+      arith,
+      c.from.ensures,
+      no-borrow _ _ l.day-index c.as_chunks.ensures.front c.loop-day-test.true c.args.d l.start c.requires l.invariant c.if-day-d.true,
+    )
 
-pub loop-i-preserved-then-changes-i : goal.loop-i-preserved-then-changes-i
-loop-i-preserved-then-changes-i c =
-    let m =
-    moved c.args.changes.now c.loop-i.i c.args.d (omega arith) (omega arith) c.requires c.loop-i.invariant.0
-    c.if-changes-i.true in
-    (omega arith, omega arith, omega (arith, m, c.loop-i.invariant.2))
-
-pub loop-i-preserved : goal.loop-i-preserved
-loop-i-preserved c =
-    (omega arith, omega arith, c.loop-i.invariant.2 ∙ sym (stays _ c.loop-i.i _ (omega arith) (omega arith) c.if-changes-i.false))
+pub loop-day-preserved : goal.loop-day-preserved
+loop-day-preserved c =
+    let l = c.loop-day in
+    let all = c.as_chunks.ensures.front in
+    let more = c.loop-day-test.true in
+    elim c.if-day-d.branch [
+      | then-day-d w ↦
+          omega (arith, w.start-is, w.from.ensures, start-more _ _ l.day-index all more c.args.d l.start c.requires l.invariant w.if-day-d.true)
+      | else-day-d w ↦ omega (arith, w.start-is, start-same _ _ l.day-index all more c.args.d l.start c.requires l.invariant w.if-day-d.false)
+    ]
 
 pub returns : goal.returns
 returns c =
-    let first : c.loop-i.i ≡ 0 = omega arith in
-    c.loop-i.invariant.2 ∙ ap (λ (z : ℕ). day_start (drop z c.args.changes.now) c.args.d) first
+    let l = c.loop-day in
+    omega (arith, l.invariant, none-left _ _ l.day-index c.as_chunks.ensures.front c.loop-day-test.false (fit _ c.requires).even c.args.d)
