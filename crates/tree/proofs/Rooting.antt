@@ -1,12 +1,11 @@
 -- Where a node lies in bytes, so do its field, its two subtrees and its left-over bits. Assumes nothing.
-use mathlib.Core.Path.{◌≡◌, sym, ap, ◌∙◌}
-use mathlib.Core.Bool.{true}
+use mathlib.Core.Path.{◌≡◌, sym, ap, subst, ◌∙◌}
 use mathlib.Core.List.{List}
 use Prim.Native.Nat.{ℕ, suc, ◌+◌, ◌-◌, ◌/◌, ◌%◌, ◌^◌, ◌≤◌}
 use native.Mathlib.Nat.{pow-succ', add-zero}
 use native.Mathlib.Numerals.{add-one}
 use native.Mathlib.Omega.{arith}
-use lib.Dec.{leb}
+use Rattle.std.specs.Prelude.{Option}
 use Rattle.lists.specs.Lists.{part}
 use Rattle.bits.specs.Bits.{bits, value}
 use Rattle.bits_field.specs.Code.Front.{Front}
@@ -16,7 +15,7 @@ use Rattle.reserve.proofs.Exact.{digits_le}
 use Rattle.reserve.proofs.Fit.{fit_all}
 use Rattle.tree.specs.Read.{left_of, left_at, right_at}
 use Rattle.tree.specs.Code.Exact.{spare_at}
-use Rattle.tree.specs.Code.Node.{Lies, Parted, Rooted}
+use Rattle.tree.specs.Code.Node.{Lies, Parted, PartsOf, Rooted}
 use Rattle.tree.specs.declared.node.Split.{Split}
 
 -- a node of height h + 1 and left sum l
@@ -47,15 +46,8 @@ front-sum b a h s w t l y f et el =
     ∙ ap (λ (k : ℕ). value (part (bits b) k (digits s))) (add-zero a)
 
 -- a node with the left sum that stands there
-pub rooted : {b : List ℕ} {a h s l : ℕ} {r : Split} → l ≡ left_of s b a → Parted l a h s r → Rooted b a h s r
-rooted {b} {a} {h} {s} e p =
-    record {
-      ok-is = p.ok-is ∙ ap (λ (z : ℕ). leb z s) e;
-      left_is = λ k. p.left_is k ∙ e;
-      left_le = p.left_le;
-      first-is = p.first-is;
-      second_is = p.second_is;
-    }
+pub rooted : (b : List ℕ) (a h s : ℕ) (r : Option Split) {l : ℕ} → l ≡ left_of s b a → Parted l a h s r → Rooted b a h s r
+rooted b a h s r e p = subst (λ (z : ℕ). Parted z a h s r) e p
 
 -- its left subtree ends within the node's reserve
 pub left-fits : (a h s l : ℕ) → l ≤ s → a + digits s + reserve h l ≤ a + reserve (h + 1) s
@@ -71,22 +63,24 @@ halved h p = omega (arith, pow-succ' 2 (h - 1), ap (λ (k : ℕ). 2 ^ k) {x = su
 pub top : {b : List ℕ} {a h s : ℕ} → (h ≡ 0 → ⊥) → Lies b a h s → Lies b a (h - 1 + 1) s
 top {b} {a} {h} {s} p y = rw (same-height h p) y
 
--- a node above the counts whose root was read as r and is no damage
+-- a node above the counts whose root was read as r
 pub record Inner (b : List ℕ) (a h s : ℕ) (r : Split) : Type 0 where
   pub high : h ≡ 0 → ⊥
-  pub root : Rooted b a (h - 1) s r
-  pub sound : r.ok ≡ true
+  pub root : PartsOf (left_of s b a) a (h - 1) s r
+
+pub inner : {b : List ℕ} {a h s : ℕ} {r : Split} → (h ≡ 0 → ⊥) → PartsOf (left_of s b a) a (h - 1) s r → Inner b a h s r
+inner p n = record { high = p; root = n }
 
 module _ {b : List ℕ} {a h s : ℕ} {r : Split} (y : Lies b a h s) (i : Inner (bits b) a h s r) where
   below : Halves b a (h - 1) s r.left
-  below = halves r.left (top i.high y) (i.root.left_le i.sound)
+  below = halves r.left (top i.high y) i.root.left_le
 
   pub left-lies : Lies b r.first (h - 1) r.left
-  left-lies = rw (i.root.first-is i.sound) below.left
+  left-lies = rw i.root.first-is below.left
 
   pub right-lies : Lies b r.second (h - 1) (s - r.left)
-  right-lies = rw (i.root.second_is i.sound) below.right
+  right-lies = rw i.root.second_is below.right
 
   -- the left-over bits start no later than the tree ends
   pub spare-le : r.second + reserve (h - 1) (s - r.left) ≤ a + reserve h s
-  spare-le = omega (arith, below.spare, i.root.second_is i.sound, ap (λ (k : ℕ). reserve k s) (same-height h i.high))
+  spare-le = omega (arith, below.spare, i.root.second_is, ap (λ (k : ℕ). reserve k s) (same-height h i.high))

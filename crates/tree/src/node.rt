@@ -8,41 +8,34 @@ ghost use Rattle.tree.specs.Code.InWord.{eight_limit};
 use bits_field::front;
 use reserve::{digits_of, reserve_of};
 
-// A node that was read. Where its left sum is above its sum, ok is false and the rest says nothing.
+// A node that was read: its left sum, and where its two subtrees start.
 #[derive(Clone, Copy)]
 pub struct Split {
-    pub ok: bool,
     pub left: u64,
     pub first: usize,
     pub second: usize,
 }
 
-// A node of height h + 1 at bit at, with sum s of t digits and left sum left.
-fn node(at: usize, h: u32, s: u64, t: u32, left: u64) -> Split
+// A node of height h + 1 at bit at, with sum s of t digits and left sum left; none where left is above s.
+fn node(at: usize, h: u32, s: u64, t: u32, left: u64) -> Option<Split>
     requires { (h ≤ 8) × (s < 1099511627776) × (t ≡ digits s) × (at + reserved (h + 1) s < 2 ^ 63) }
     ensures { Parted left at h s result }
 {
     if s < left {
-        return Split {
-            ok: false,
-            left: 0,
-            first: 0,
-            second: 0,
-        };
+        return None;
     }
     let first = at + (t as usize);
     let second = first + reserve_of(h, left);
-    Split {
-        ok: true,
+    Some(Split {
         left,
         first,
         second,
-    }
+    })
 }
 
-// Reads the root of a tree of 2^(h + 1) counts with sum s at bit at. For a search, in which each field's place waits for the field before:
+// Reads the root of a tree of 2^(h + 1) counts with sum s at bit at; none where it is damaged. For a search, in which each field's place waits for the field before:
 // only one shift and a mask stand between the load and the left sum.
-pub fn root(b: &[u8], at: usize, h: u32, s: u64) -> Split
+pub fn root(b: &[u8], at: usize, h: u32, s: u64) -> Option<Split>
     requires { Lies b.now at (h + 1) s }
     ensures { Rooted (bits b.now) at h s result }
 {
@@ -51,7 +44,7 @@ pub fn root(b: &[u8], at: usize, h: u32, s: u64) -> Split
 }
 
 // The same by shifts alone, which are fewer instructions: for a walk or a check, whose turns the processor foretells.
-pub fn root_by_shifts(b: &[u8], at: usize, h: u32, s: u64) -> Split
+pub fn root_by_shifts(b: &[u8], at: usize, h: u32, s: u64) -> Option<Split>
     requires { Lies b.now at (h + 1) s }
     ensures { Rooted (bits b.now) at h s result }
 {
@@ -63,18 +56,12 @@ pub fn root_by_shifts(b: &[u8], at: usize, h: u32, s: u64) -> Split
 pub fn one_word(h: u32, s: u64) -> bool
     ensures { result ≡ true → (h ≡ 2) × (digits s ≤ 19) }
 {
-    if h != 2 {
-        return false;
-    }
-    digits_of(s) <= 19
+    h == 2 && digits_of(s) <= 19
 }
 
 // Whether a tree of 2^h counts with sum s is one of eight counts that own 57 bits at most. A sum of 439 owns 58.
 pub fn eight_in_word(h: u32, s: u64) -> bool
     ensures { result ≡ true → (h ≡ 3) × (s < eight_limit) }
 {
-    if h != 3 {
-        return false;
-    }
-    s < 439
+    h == 3 && s < 439
 }

@@ -7,12 +7,10 @@ pub fn sum_of(counts: &[u32], from: usize, n: usize) -> u64
     requires { (from + n < 2 ^ 63) × (n ≤ 65536) }
     ensures { result ≡ sum (window counts.now from n) }
 {
-    let end = lists::smaller(from + n, counts.len());
+    let end = (from + n).min(counts.len());
     let mut total = 0;
-    let mut i = from;
-    while i < end {
-        total = total + (counts[i] as u64);
-        i = i + 1;
+    for i in from..end {
+        total += u64::from(counts[i]);
     }
     total
 }

@@ -22,7 +22,7 @@ use Rattle.tree.proofs.Clearing.{clear-value}
 use Rattle.tree.proofs.OneWord.{eight_fits, few-digits, four-fits, loaded}
 use Rattle.tree.proofs.Rooting.{Inner, front-sum, left-lies, right-lies, spare-le}
 use Rattle.tree_lowest.proofs.Lowest.{own-four, own-lt}
-use Rattle.tree_check.proofs.CheckSteps.{exact-bad, exact-last, exact-left-not, exact-spare-not, split_at}
+use Rattle.tree_check.proofs.CheckSteps.{exact-bad, exact-last, exact-left-not, exact-spare-not, node, split_at}
 
 -- the word, and the left sum l read from it, whose place has t digits
 pub record Eight (b : List ℕ) (a s r w t l : ℕ) : Type 0 where
@@ -32,6 +32,10 @@ pub record Eight (b : List ℕ) (a s r w t l : ℕ) : Type 0 where
   pub word : Front (bits b) a w
   pub top : t ≡ digits s
   pub left : l ≡ w / 2 ^ (64 - (0 + t)) % 2 ^ t
+
+pub eight : {b : List ℕ} {a s r w t l : ℕ} → Lies b a 3 s × (r ≡ reserve 3 s) × (s < eight_limit) → Front (bits b) a w → t ≡ digits s
+    → l ≡ w / 2 ^ (64 - (0 + t)) % 2 ^ t → Eight b a s r w t l
+eight p f et el = record { lies = p.0; reserved = p.1; few = p.2; word = f; top = et; left = el }
 
 module _ {b : List ℕ} {a s r w t l : ℕ} (y : Eight b a s r w t l) where
   in-word : InWord (bits b) a 3 s w 0
@@ -50,7 +54,7 @@ module _ {b : List ℕ} {a s r w t l : ℕ} (y : Eight b a s r w t l) where
   -- both halves' reserves are known
   module _ (le : l ≤ s) (o p : ℕ) (eo : o ≡ reserve 2 l) (ep : p ≡ reserve 2 (s - l)) where
     abbrev n : Split
-    n = record { ok = true; left = l; first = a + t; second = a + t + o }
+    n = node a t l o
 
     inner : Inner (bits b) a 3 s n
     inner = split_at 3 s (bits b) a (omega arith) t l o y.top left_is le eo

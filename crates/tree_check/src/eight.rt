@@ -2,19 +2,18 @@
 ghost use Rattle.std.specs.Prelude.{◌≡◌, ◌<◌};
 ghost use Rattle.bits.specs.Bits.{bits};
 ghost use Rattle.reserve.specs.Reserve.{reserve as reserved};
-ghost use Rattle.reserve_table.specs.Code.Tabled.{Tabled};
 ghost use Rattle.tree.specs.Code.Exact.{exact};
 ghost use Rattle.tree.specs.Code.InWord.{eight_limit};
 ghost use Rattle.tree.specs.Code.Node.{Lies};
 
 use bits_field::front;
 use reserve::digits_of;
-use reserve_table::reserve_by;
+use reserve_table::ReserveTable;
 use tree_lowest::four_exact;
 
 // Whether the eight counts with sum s at bit at, which own r bits, are some list's code: each four as the number in its own bits.
-pub(crate) fn eight_exact(b: &[u8], table: &[u8; 512], at: usize, s: u64, r: usize) -> bool
-    requires { Lies b.now at 3 s × Tabled table.now × (r ≡ reserved 3 s) × (s < eight_limit) }
+pub(crate) fn eight_exact(b: &[u8], table: &ReserveTable, at: usize, s: u64, r: usize) -> bool
+    requires { Lies b.now at 3 s × (r ≡ reserved 3 s) × (s < eight_limit) }
     ensures { result ≡ exact 3 s (bits b.now) at }
 {
     let w = front::load(b, at);
@@ -24,8 +23,8 @@ pub(crate) fn eight_exact(b: &[u8], table: &[u8; 512], at: usize, s: u64, r: usi
         return false;
     }
     let right = s - left;
-    let own = reserve_by(table, 2, left) as u32;
-    let rest = reserve_by(table, 2, right) as u32;
+    let own = table.reserve(2, left) as u32;
+    let rest = table.reserve(2, right) as u32;
     let second = t + own;
     let spare = second + rest;
     if front::part(w, spare, r as u32 - spare) != 0 {

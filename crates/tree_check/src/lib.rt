@@ -6,7 +6,6 @@ mod eight;
 ghost use Rattle.std.specs.Prelude.{◌≡◌, ◌+◌, ◌≤◌};
 ghost use Rattle.bits.specs.Bits.{bits};
 ghost use Rattle.reserve.specs.Reserve.{digits, reserve as reserved};
-ghost use Rattle.reserve_table.specs.Code.Tabled.{Tabled};
 ghost use Rattle.tree.specs.Read.{left_of};
 ghost use Rattle.tree.specs.Code.Exact.{exact};
 ghost use Rattle.tree.specs.Code.Node.{Lies};
@@ -14,7 +13,7 @@ ghost use Rattle.tree.specs.Code.Node.{Lies};
 use crate::eight::eight_exact;
 use bits_field::front;
 use reserve::{digits_of, reserve_of};
-use reserve_table::reserve_by;
+use reserve_table::ReserveTable;
 use tree::node::eight_in_word;
 use tree_lowest::{low_levels, one_load, zero_bits};
 
@@ -30,8 +29,8 @@ pub fn left_sum(b: &[u8], at: usize, h: u32, s: u64, t: u32) -> u64
 // worked out once, by the node above it, from the table of small reserves that is lent. It ends at eight counts or at four, where one load has
 // their bits; two counts always come out of one load, so that it ends above h = 0. The right half comes last, so that the compiler makes its
 // call a jump.
-fn check_node(b: &&[u8], table: &[u8; 512], at: usize, h: u32, s: u64, r: usize) -> bool
-    requires { Lies b.now.now at h s × Tabled table.now × (r ≡ reserved h s) × (1 ≤ h) }
+fn check_node(b: &&[u8], table: &ReserveTable, at: usize, h: u32, s: u64, r: usize) -> bool
+    requires { Lies b.now.now at h s × (r ≡ reserved h s) × (1 ≤ h) }
     ensures { result ≡ exact h s (bits b.now.now) at }
 {
     if s == 0 {
@@ -50,8 +49,8 @@ fn check_node(b: &&[u8], table: &[u8; 512], at: usize, h: u32, s: u64, r: usize)
         return false;
     }
     let right = s - left;
-    let own = reserve_by(table, down, left);
-    let rest = reserve_by(table, down, right);
+    let own = table.reserve(down, left);
+    let rest = table.reserve(down, right);
     let first = at + (t as usize);
     let second = first + own;
     let spare = second + rest;
@@ -65,8 +64,8 @@ fn check_node(b: &&[u8], table: &[u8; 512], at: usize, h: u32, s: u64, r: usize)
 }
 
 // Whether the tree of 2^h counts with sum s at bit at, which owns r bits, is the code of some list.
-pub fn nodes(b: &[u8], table: &[u8; 512], at: usize, h: u32, s: u64, r: usize) -> bool
-    requires { Lies b.now at h s × Tabled table.now × (r ≡ reserved h s) }
+pub fn nodes(b: &[u8], table: &ReserveTable, at: usize, h: u32, s: u64, r: usize) -> bool
+    requires { Lies b.now at h s × (r ≡ reserved h s) }
     ensures { result ≡ exact h s (bits b.now) at }
 {
     if h == 0 {
@@ -76,8 +75,8 @@ pub fn nodes(b: &[u8], table: &[u8; 512], at: usize, h: u32, s: u64, r: usize) -
 }
 
 // The same of a tree whose reserve is not at hand: it has no left sum above its node, and zeros in the bits left over.
-pub fn check(b: &[u8], table: &[u8; 512], at: usize, h: u32, s: u64) -> bool
-    requires { Lies b.now at h s × Tabled table.now }
+pub fn check(b: &[u8], table: &ReserveTable, at: usize, h: u32, s: u64) -> bool
+    requires { Lies b.now at h s }
     ensures { result ≡ exact h s (bits b.now) at }
 {
     nodes(b, table, at, h, s, reserve_of(h, s))

@@ -40,13 +40,13 @@ module _ {b : List ℕ} {a h s : ℕ} {r : Split} (n : Inner b a h s r) (w : wit
   two = ap (λ (k : ℕ). within max_count (counts k s b a)) up ∙ w
 
   joined : within max_count (X ++ Y) ≡ true
-  joined = ap (within max_count) (sym (counts-two (h - 1) s r.left b a (sym (n.root.left_is n.sound)))) ∙ two
+  joined = ap (within max_count) (sym (counts-two (h - 1) s r.left b a (sym n.root.left_is))) ∙ two
 
   pub left-fits : within max_count (counts (h - 1) r.left b r.first) ≡ true
-  left-fits = ap (λ (k : ℕ). within max_count (counts (h - 1) r.left b k)) (n.root.first-is n.sound) ∙ left (within max_count X) (within max_count Y) (sym (within-append max_count X Y) ∙ joined)
+  left-fits = ap (λ (k : ℕ). within max_count (counts (h - 1) r.left b k)) n.root.first-is ∙ left (within max_count X) (within max_count Y) (sym (within-append max_count X Y) ∙ joined)
 
   pub right-fits : within max_count (counts (h - 1) (s - r.left) b r.second) ≡ true
-  right-fits = ap (λ (k : ℕ). within max_count (counts (h - 1) (s - r.left) b k)) (n.root.second_is n.sound) ∙ right (within max_count X) (within max_count Y) (sym (within-append max_count X Y) ∙ joined)
+  right-fits = ap (λ (k : ℕ). within max_count (counts (h - 1) (s - r.left) b k)) n.root.second_is ∙ right (within max_count X) (within max_count Y) (sym (within-append max_count X Y) ∙ joined)
 
 -- of a node of height k
 pub of-that : {h k : ℕ} (s : ℕ) (b : List ℕ) (a : ℕ) → h ≡ k → within max_count (counts h s b a) ≡ true → within max_count (counts k s b a) ≡ true

@@ -5,10 +5,12 @@ use mathlib.Core.List.{List, [], ◌∷◌}
 use Prim.Native.Nat.{ℕ, zero, suc, ◌+◌, ◌-◌, ◌/◌, ◌%◌, ◌^◌, ◌≤◌, ◌<◌}
 use native.Mathlib.Nat.{mod-eq_of_lt}
 use native.Mathlib.Omega.{arith}
+use Rattle.std.specs.Prelude.{None, Some}
 use lib.ListN.{length, drop}
 use lib.Seq.{take_all}
 use lib.Dec.{leb, eqb}
 use lib.Pow.{shr_lt}
+use Rattle.std.proofs.lemmas.Bool.{eq-eqb, ne_eqb}
 use borrow.Author.Tests.{le-leb, lt-leb}
 use Rattle.lists.specs.Counts.{within}
 use Rattle.lists.proofs.CountLaws.{within-append}
@@ -30,7 +32,7 @@ use Rattle.tree.proofs.Local.{tests, exact-tests, exact-local}
 use Rattle.tree_lowest.specs.Code.Four.{FourIn}
 use Rattle.tree_lowest.specs.Code.Narrow.{narrow}
 use Rattle.tree_lowest.specs.declared.four.Four.{Four}
-use Rattle.tree_lowest.proofs.NarrowLaws.{narrow-is, narrow-not, never}
+use Rattle.tree_lowest.proofs.NarrowLaws.{narrow-is, narrow-not}
 
 -- ---- two counts: their tree is one field
 clear-nothing : (b : List ℕ) (a n : ℕ) → n ≡ 0 → clear b a n ≡ true
@@ -147,19 +149,18 @@ pub record Quad (s r v t l : ℕ) : Type 0 where
   pub top : t ≡ digits s
   pub left : l ≡ v / 2 ^ (r - t)
 
+pub quad : {s r v t : ℕ} → (r ≡ reserve 2 s) × (r ≤ 57) × (v < 2 ^ r) × (s < 1099511627776) → t ≡ digits s → Quad s r v t (v / 2 ^ (r - t))
+quad p e = record { reserved = p.0; few = p.1; small = p.2; total = p.3; top = e; left = refl }
+
 pub high_fits : (s r t : ℕ) → r ≡ reserve 2 s → t ≡ digits s → t ≤ r
 high_fits s r t er et = omega (arith, er, et, fit_all 1 s 0 s (omega arith))
-
--- no counts were read, and there are none
-none : (s : ℕ) (b : List ℕ) {f : Four} → f.ok ≡ false → exact 2 s b 0 ≡ false → FourIn s b f
-none s b n e = record { ok-is = n ∙ sym e; counts-are = λ k. absurd (never (sym n ∙ k)) }
 
 module _ {s r v t l : ℕ} (q : Quad s r v t l) where
   left_is : l ≡ v / 2 ^ behind r s
   left_is = q.left ∙ ap (λ (k : ℕ). v / 2 ^ (r - k)) q.top
 
-  pub quad-above : {n : Four} → n.ok ≡ false → s < l → FourIn s (field r v) n
-  quad-above e k = none s (field r v) e (four-above s r v l q.reserved q.small left_is k)
+  pub quad-above : s < l → FourIn s (field r v) None
+  quad-above k = four-above s r v l q.reserved q.small left_is k
 
   module _ (le : l ≤ s) (f g : ℕ) (ef : f ≡ digits l) (eg : g ≡ digits (s - l)) where
     pub widths : (t + f + g ≤ r) × (f < 64) × (g < 64)
@@ -175,24 +176,29 @@ module _ {s r v t l : ℕ} (q : Quad s r v t l) where
         four_is s r v l q.reserved q.small left_is le
         ∙ sym (rw (ex, ey, ez, q.top, ef, eg))
 
-    pub quad-left : {n : Four} → n.ok ≡ false → (x : ℕ) → x ≡ v / 2 ^ (r - t - f) % 2 ^ f → l < x → FourIn s (field r v) n
+    pub quad-left : (x : ℕ) → x ≡ v / 2 ^ (r - t - f) % 2 ^ f → l < x → FourIn s (field r v) None
     unfolding every
-    quad-left e x ex k = none s (field r v) e (tested x _ _ ex refl refl ∙ rw (le-leb l s le, lt-leb x l k))
+    quad-left x ex k = tested x _ _ ex refl refl ∙ rw (le-leb l s le, lt-leb x l k)
 
-    pub quad-right : {n : Four} → n.ok ≡ false → (x y : ℕ) → x ≡ v / 2 ^ (r - t - f) % 2 ^ f → x ≤ l → y ≡ v / 2 ^ (r - t - f - g) % 2 ^ g
-        → s - l < y → FourIn s (field r v) n
-    unfolding every
-    quad-right e x y ex kx ey k = none s (field r v) e (tested x y _ ex ey refl ∙ rw (le-leb l s le, le-leb x l kx, lt-leb y (s - l) k))
+    module _ (x y : ℕ) (ex : x ≡ v / 2 ^ (r - t - f) % 2 ^ f) (kx : x ≤ l) (ey : y ≡ v / 2 ^ (r - t - f - g) % 2 ^ g) where
+      pub quad-right : s - l < y → FourIn s (field r v) None
+      unfolding every
+      quad-right k = tested x y _ ex ey refl ∙ rw (le-leb l s le, le-leb x l kx, lt-leb y (s - l) k)
 
-    pub quad-last : (x y z : ℕ) → x ≡ v / 2 ^ (r - t - f) % 2 ^ f → x ≤ l → y ≡ v / 2 ^ (r - t - f - g) % 2 ^ g → y ≤ s - l
-        → z ≡ v % 2 ^ (r - t - f - g) → FourIn s (field r v) (record { ok = eqb z 0; first = x; second = l - x; third = y; fourth = s - l - y })
-    unfolding every
-    quad-last x y z ex kx ey ky ez = record {
-      ok-is = sym (tested x y z ex ey ez ∙ rw (le-leb l s le, le-leb x l kx, le-leb y (s - l) ky, and-true (eqb z 0)));
-      counts-are =
-          λ _. counts-are s r v l q.reserved q.small left_is le
-          ∙ sym (rw (ex, ey, q.top, ef, eg));
-    }
+      module _ (z : ℕ) (ky : y ≤ s - l) (ez : z ≡ v % 2 ^ (r - t - f - g)) where
+        last : exact 2 s (field r v) 0 ≡ eqb z 0
+        unfolding every
+        last = tested x y z ex ey ez ∙ rw (le-leb l s le, le-leb x l kx, le-leb y (s - l) ky, and-true (eqb z 0))
+
+        pub quad-spare : (z ≡ 0 → ⊥) → FourIn s (field r v) None
+        quad-spare n = last ∙ ne_eqb z 0 n
+
+        pub quad-last : z ≡ 0 → FourIn s (field r v) (Some (record { first = x; second = l - x; third = y; fourth = s - l - y }))
+        quad-last e =
+            record {
+              is_exact = last ∙ eq-eqb z 0 e;
+              counts-are = counts-are s r v l q.reserved q.small left_is le ∙ sym (rw (ex, ey, q.top, ef, eg));
+            }
 
 -- ---- the number in a tree's own bits
 module _ (b : List ℕ) (a h s r v : ℕ) (y : Lies b a h s) (er : r ≡ reserve h s) (ev : v ≡ value (part (bits b) a r)) where
@@ -236,23 +242,15 @@ module _ (b : List ℕ) (a h s r v : ℕ) (y : Lies b a h s) (er : r ≡ reserve
         let c : counts h s (bits b) a ≡ v ∷ (s - v) ∷ [] = ap (λ (z : ℕ). counts z s (bits b) a) e ∙ counts-pair s (bits b) a v l in
         sym (narrow-is w h s (bits b) a (sym (own_pair e) ∙ le-leb v s k) ∙ ap (within w) c)
 
-    module _ (e : h ≡ 2) (f : Four) (i : FourIn s (field r v) f) where
-      exactly : exact h s (bits b) a ≡ f.ok
-      exactly = sym (i.ok-is ∙ own-four e)
+    pub own-four-not : h ≡ 2 → FourIn s (field r v) None → false ≡ narrow w h s (bits b) a
+    own-four-not e i = sym (narrow-not w h s (bits b) a (sym (own-four e) ∙ i))
 
-      pub own-four-not : f.ok ≡ false → false ≡ narrow w h s (bits b) a
-      own-four-not n = sym (narrow-not w h s (bits b) a (exactly ∙ n))
-
-      own-four-is : f.ok ≡ true → narrow w h s (bits b) a ≡ (within w (f.first ∷ f.second ∷ []) && within w (f.third ∷ f.fourth ∷ []))
-      own-four-is n =
-          let x : exact 2 s (bits b) a ≡ true = ap (λ (k : ℕ). exact k s (bits b) a) (sym e) ∙ exactly ∙ n in
-          let room : a + reserve 2 s ≤ length (bits b) = omega (arith, inside, er, ap (λ (k : ℕ). reserve k s) e) in
-          let c : counts h s (bits b) a ≡ f.first ∷ f.second ∷ f.third ∷ f.fourth ∷ [] =
-          ap (λ (k : ℕ). counts k s (bits b) a) e ∙ sym (counts-local 2 s (bits b) (field r v) a 0 (bits-bytes b) room (own_bits e) x) ∙ i.counts-are n in
-          narrow-is w h s (bits b) a (exactly ∙ n) ∙ ap (within w) c ∙ within-append w (f.first ∷ f.second ∷ []) (f.third ∷ f.fourth ∷ [])
-
-      pub own-four-wide : f.ok ≡ true → within w (f.first ∷ f.second ∷ []) ≡ false → false ≡ narrow w h s (bits b) a
-      own-four-wide n k = sym (own-four-is n ∙ rw k)
-
-      pub own-four-within : f.ok ≡ true → within w (f.first ∷ f.second ∷ []) ≡ true → within w (f.third ∷ f.fourth ∷ []) ≡ narrow w h s (bits b) a
-      own-four-within n k = sym (own-four-is n ∙ rw k)
+    pub own-four-within : h ≡ 2 → (f : Four) → FourIn s (field r v) (Some f)
+        → (within w (f.first ∷ f.second ∷ []) && within w (f.third ∷ f.fourth ∷ [])) ≡ narrow w h s (bits b) a
+    own-four-within e f i =
+        let n : exact h s (bits b) a ≡ true = sym (own-four e) ∙ i.is_exact in
+        let x : exact 2 s (bits b) a ≡ true = ap (λ (k : ℕ). exact k s (bits b) a) (sym e) ∙ n in
+        let room : a + reserve 2 s ≤ length (bits b) = omega (arith, inside, er, ap (λ (k : ℕ). reserve k s) e) in
+        let c : counts h s (bits b) a ≡ f.first ∷ f.second ∷ f.third ∷ f.fourth ∷ [] =
+        ap (λ (k : ℕ). counts k s (bits b) a) e ∙ sym (counts-local 2 s (bits b) (field r v) a 0 (bits-bytes b) room (own_bits e) x) ∙ i.counts-are in
+        sym (narrow-is w h s (bits b) a n ∙ ap (within w) c ∙ within-append w (f.first ∷ f.second ∷ []) (f.third ∷ f.fourth ∷ []))

@@ -18,9 +18,6 @@ use Rattle.tree.proofs.Exacts.{exact-coded, tree-exact}
 use Rattle.tree.proofs.Shape.{counts-tree}
 use Rattle.tree_lowest.specs.Code.Narrow.{narrow}
 
-pub never : false ≡ true → ⊥
-never e = let z : ◌≡◌ {A = ℕ} 0 1 = cc in omega arith
-
 module _ (w h s : ℕ) (b : List ℕ) (a : ℕ) where
   pub narrow-not : exact h s b a ≡ false → narrow w h s b a ≡ false
   unfolding narrow

@@ -1,5 +1,5 @@
 // Four counts out of one number.
-ghost use Rattle.std.specs.Prelude.{false, ◌≡◌, ◌≤◌, ◌<◌, ◌^◌};
+ghost use Rattle.std.specs.Prelude.{◌≡◌, ◌≤◌, ◌<◌, ◌^◌};
 ghost use Rattle.bits.specs.Bits.{field};
 ghost use Rattle.reserve.specs.Reserve.{reserve as reserved};
 ghost use Rattle.tree_lowest.specs.Code.Four.{FourIn};
@@ -7,56 +7,46 @@ ghost use Rattle.tree_lowest.specs.Code.Four.{FourIn};
 use bits_word::low_bits;
 use reserve::digits_of;
 
-// Four counts that were read. Where they are no list's code, ok is false and the rest says nothing.
+// Four counts that were read.
 #[derive(Clone, Copy)]
 pub struct Four {
-    pub ok: bool,
     pub first: u64,
     pub second: u64,
     pub third: u64,
     pub fourth: u64,
 }
 
-fn no_four() -> Four
-    ensures { result.ok ≡ false }
-{
-    Four {
-        ok: false,
-        first: 0,
-        second: 0,
-        third: 0,
-        fourth: 0,
-    }
-}
-
-// The four counts with sum s whose code is the number v in r bits: no left sum above its node, and zeros in the bits left over.
-pub(crate) fn four_of(v: u64, r: u32, s: u64) -> Four
+// The four counts with sum s whose code is the number v in r bits: no left sum above its node, and zeros in the bits left over. None where
+// it is no list's code.
+pub(crate) fn four_of(v: u64, r: u32, s: u64) -> Option<Four>
     requires { (r ≡ reserved 2 s) × (r ≤ 57) × (v < 2 ^ r) × (s < 1099511627776) }
     ensures { FourIn s (field r v) result }
 {
     let high = r - digits_of(s);
     let left = v >> high;
     if s < left {
-        return no_four();
+        return None;
     }
     let right = s - left;
     let first = digits_of(left);
     let mid = high - first;
     let x = low_bits(v >> mid, first);
     if left < x {
-        return no_four();
+        return None;
     }
     let second = digits_of(right);
     let low = mid - second;
     let y = low_bits(v >> low, second);
     if right < y {
-        return no_four();
+        return None;
     }
-    Four {
-        ok: low_bits(v, low) == 0,
+    if low_bits(v, low) != 0 {
+        return None;
+    }
+    Some(Four {
         first: x,
         second: left - x,
         third: y,
         fourth: right - y,
-    }
+    })
 }

@@ -14,18 +14,19 @@ ghost use Rattle.tree_lowest.specs.Code.Narrow.{narrow};
 use crate::four::four_of;
 use bits_field::get_field;
 
-// Whether n bits from bit at on are 0.
+// Whether n bits from bit at on are 0. Asked at each node of a tree: over `(0..n).step_by(57)`, whose step knows nothing of the shorter last
+// piece, the check of a tree takes a tenth longer.
 pub fn zero_bits(b: &[u8], at: usize, n: usize) -> bool
     requires { (at + n ≤ 8 * length b.now) × (at + n < 2 ^ 63) × (8 ≤ length b.now) }
     ensures { result ≡ clear (bits b.now) at n }
 {
     let mut done = 0;
     while done < n {
-        let k = lists::smaller(n - done, 57);
+        let k = (n - done).min(57);
         if get_field(b, at + done, k as u32) != 0 {
             return false;
         }
-        done = done + k;
+        done += k;
     }
     true
 }
@@ -34,10 +35,7 @@ pub fn zero_bits(b: &[u8], at: usize, n: usize) -> bool
 pub fn one_load(h: u32, r: usize) -> bool
     ensures { (result ≡ true → (h ≤ 2) × (r ≤ 57)) × (result ≡ false → h ≤ 2 → 57 < r) }
 {
-    if 2 < h {
-        return false;
-    }
-    r <= 57
+    h <= 2 && r <= 57
 }
 
 // Whether the number v in r bits is the code of four counts with sum s.
@@ -45,8 +43,7 @@ pub fn four_exact(v: u64, r: u32, s: u64) -> bool
     requires { (r ≡ reserved 2 s) × (r ≤ 57) × (v < 2 ^ r) × (s < 1099511627776) }
     ensures { result ≡ exact 2 s (field r v) 0 }
 {
-    let f = four_of(v, r, s);
-    f.ok
+    four_of(v, r, s).is_some()
 }
 
 // The lowest two levels, out of one load: a tree of two or four counts with sum s at bit at, whose r bits fit one field.
@@ -65,10 +62,7 @@ pub fn low_levels(b: &[u8], at: usize, h: u32, s: u64, r: usize) -> bool
 fn both_within(x: u64, y: u64, widest: u64) -> bool
     ensures { result ≡ within widest (x ∷ y ∷ []) }
 {
-    if widest < x {
-        return false;
-    }
-    y <= widest
+    x <= widest && y <= widest
 }
 
 // The lowest two levels as above, and none of their counts above widest.
@@ -78,17 +72,10 @@ pub fn low_within(b: &[u8], at: usize, h: u32, s: u64, r: usize, widest: u64) ->
 {
     let v = get_field(b, at, r as u32);
     if h == 1 {
-        if s < v {
-            return false;
-        }
-        return both_within(v, s - v, widest);
+        return v <= s && both_within(v, s - v, widest);
     }
-    let f = four_of(v, r as u32, s);
-    if !f.ok {
+    let Some(f) = four_of(v, r as u32, s) else {
         return false;
-    }
-    if !both_within(f.first, f.second, widest) {
-        return false;
-    }
-    both_within(f.third, f.fourth, widest)
+    };
+    both_within(f.first, f.second, widest) && both_within(f.third, f.fourth, widest)
 }

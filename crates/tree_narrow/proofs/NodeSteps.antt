@@ -5,6 +5,7 @@ use mathlib.Core.List.{List}
 use Prim.Native.Nat.{ℕ, suc, ◌+◌, ◌-◌, ◌≤◌, ◌<◌}
 use native.Mathlib.Numerals.{add-one}
 use native.Mathlib.Omega.{arith}
+use Rattle.std.specs.Prelude.{None, Some}
 use lib.Dec.{leb}
 use borrow.Author.Tests.{le-leb, lt-leb}
 use Rattle.lists.specs.Counts.{within}
@@ -20,8 +21,8 @@ use Rattle.tree.specs.Code.Node.{Lies}
 use Rattle.tree.proofs.Rooting.{Halves as Below, halves, top}
 use Rattle.tree_check.proofs.CheckSteps.{not-zero}
 use Rattle.tree_lowest.specs.Code.Narrow.{narrow}
-use Rattle.tree_lowest.proofs.NarrowLaws.{narrow-few, never}
-use Rattle.tree_narrow.specs.Code.Halves.{Halved}
+use Rattle.tree_lowest.proofs.NarrowLaws.{narrow-few}
+use Rattle.tree_narrow.specs.Code.Halves.{Halved, HalvesOf, sound}
 use Rattle.tree_narrow.specs.declared.Halves.{Halves}
 
 -- ---- what a node's halves decide
@@ -45,41 +46,39 @@ module _ (w h s : ℕ) (b : List ℕ) (a l : ℕ) (e : left_of s b a ≡ l) wher
       (within w (counts h l b (left_at s a))) (within w (counts h (s - l) b (right_at h s l a))))
 
 -- ---- a node as `halve` reads it, of height h + 1
-pub read_above : {b : List ℕ} {a h s l : ℕ} {n : Halves} → n.ok ≡ false → l ≡ left_of s b a → s < l → Halved b a h s n
-read_above {b} {a} {h} {s} e el k = record {
-  ok-is = e ∙ sym (rw (lt-leb (left_of s b a) s (omega (arith, el))));
-  left_is = λ t. absurd (never (sym e ∙ t));
-  left_le = λ t. absurd (never (sym e ∙ t));
-  first-is = λ t. absurd (never (sym e ∙ t));
-  own_is = λ t. absurd (never (sym e ∙ t));
-  second_is = λ t. absurd (never (sym e ∙ t));
-  rest-is = λ t. absurd (never (sym e ∙ t));
-}
+pub read_above : (b : List ℕ) (a h s : ℕ) {l : ℕ} → l ≡ left_of s b a → s < l → Halved b a h s None
+read_above b a h s el k = rw (lt-leb (left_of s b a) s (omega (arith, el)))
 
 -- its sum has t digits; its left sum l is at most s, and its halves own u and v bits
-module _ (h l : ℕ) {a s t u v : ℕ} (et : t ≡ digits s) (le : l ≤ s) (eu : u ≡ reserve h l) (ev : v ≡ reserve h (s - l)) where
+module _ (a h l : ℕ) {s t u v : ℕ} (et : t ≡ digits s) (le : l ≤ s) (eu : u ≡ reserve h l) (ev : v ≡ reserve h (s - l)) where
   -- the left-over bits start no later than the tree ends
-  pub spare-in : {b : List ℕ} {r : ℕ} → Lies b a (h + 1) s → r ≡ reserve (h + 1) s → a + t + u + v ≤ a + r
-  spare-in y er = omega (arith, et, eu, ev, er, (halves l y le).spare)
+  pub spare-in : {b : List ℕ} {r : ℕ} → Lies b a (h + 1) s × (r ≡ reserve (h + 1) s) → a + t + u + v ≤ a + r
+  spare-in p = omega (arith, et, eu, ev, p.1, (halves l p.0 le).spare)
 
-  pub read_whole : {b : List ℕ} {r : ℕ} {z : Bool} → l ≡ left_of s b a → r ≡ reserve (h + 1) s
-      → z ≡ clear b (a + t + u + v) (a + r - (a + t + u + v))
-      → Halved b a h s (record { ok = z; left = l; first = a + t; own = u; second = a + t + u; rest = v })
-  read_whole {b} {r} {z} el er ez =
-      let k : reserve (suc h) s ≡ r = ap (λ (j : ℕ). reserve j s) (sym (add-one h)) ∙ sym er in
-      let x : a + t + u + v ≡ spare_at h s l a = omega (arith, et, eu, ev) in
-      let y : a + r - (a + t + u + v) ≡ spare_len h s l = omega (arith, et, eu, ev, k) in
-      record {
-        ok-is =
-            ez ∙ ap₂ (clear b) x y ∙ sym (ap (λ (j : Bool). j && clear b (spare_at h s l a) (spare_len h s l)) (le-leb l s le))
-            ∙ ap (λ (j : ℕ). leb j s && clear b (spare_at h s j a) (spare_len h s j)) el;
-        left_is = λ _. el;
-        left_le = λ _. le;
-        first-is = λ _. ap (λ (j : ℕ). a + j) et;
-        own_is = λ _. eu;
-        second_is = λ _. omega (arith, et, eu);
-        rest-is = λ _. ev;
-      }
+  module _ (b : List ℕ) (r : ℕ) (z : Bool) (el : l ≡ left_of s b a) (er : r ≡ reserve (h + 1) s)
+      (ez : z ≡ clear b (a + t + u + v) (a + r - (a + t + u + v))) where
+    own-bits : sound b a h s ≡ z
+    own-bits =
+        let k : reserve (suc h) s ≡ r = ap (λ (j : ℕ). reserve j s) (sym (add-one h)) ∙ sym er in
+        let x : a + t + u + v ≡ spare_at h s l a = omega (arith, et, eu, ev) in
+        let y : a + r - (a + t + u + v) ≡ spare_len h s l = omega (arith, et, eu, ev, k) in
+        sym (ez ∙ ap₂ (clear b) x y ∙ sym (ap (λ (j : Bool). j && clear b (spare_at h s l a) (spare_len h s l)) (le-leb l s le))
+        ∙ ap (λ (j : ℕ). leb j s && clear b (spare_at h s j a) (spare_len h s j)) el)
+
+    pub read_damaged : z ≡ false → Halved b a h s None
+    read_damaged e = own-bits ∙ e
+
+    pub read_whole : z ≡ true → Halved b a h s (Some (record { left = l; first = a + t; own = u; second = a + t + u; rest = v }))
+    read_whole e =
+        record {
+          is_sound = own-bits ∙ e;
+          left_is = el;
+          left_le = le;
+          first-is = ap (λ (j : ℕ). a + j) et;
+          own_is = eu;
+          second_is = omega (arith, et, eu);
+          rest-is = ev;
+        }
 
 -- ---- the recursion's node, of height h: those below it have height h - 1
 pub exact-few : {b : List ℕ} {a h s : ℕ} (w : ℕ) → Lies b a h s → s ≤ w → exact h s (bits b) a ≡ narrow w h s (bits b) a
@@ -93,23 +92,22 @@ leaf-narrow w h s b a e = sym (ap (λ (k : ℕ). narrow w k s b a) e ∙ and-tru
 pub top-reserve : (h s : ℕ) {r : ℕ} → 2 ≤ h → r ≡ reserve h s → r ≡ reserve (h - 1 + 1) s
 top-reserve h s tall e = e ∙ ap (λ (k : ℕ). reserve k s) {x = h} {y = h - 1 + 1} (omega (arith, tall))
 
-module _ {b : List ℕ} {a h s : ℕ} {n : Halves} (w : ℕ) (tall : 2 ≤ h) (i : Halved b a (h - 1) s n) where
+module _ (b : List ℕ) (a h s w : ℕ) (tall : 2 ≤ h) where
   up : suc (h - 1) ≡ h
   up = omega (arith, tall)
 
-  node : (ok : Bool) → n.ok ≡ ok
+  node : (ok : Bool) → sound b a (h - 1) s ≡ ok
       → narrow w h s b a ≡ (ok && (narrow w (h - 1) (left_of s b a) b (left_at s a) && narrow w (h - 1) (s - left_of s b a) b (right_at (h - 1) s (left_of s b a) a)))
   node ok e =
       ap (λ (k : ℕ). narrow w k s b a) (sym up) ∙ narrow-node w (h - 1) s b a (left_of s b a) refl
-      ∙ ap (λ (t : Bool). t && (narrow w (h - 1) (left_of s b a) b (left_at s a) && narrow w (h - 1) (s - left_of s b a) b (right_at (h - 1) s (left_of s b a) a)))
-      (sym i.ok-is ∙ e)
+      ∙ ap (λ (t : Bool). t && (narrow w (h - 1) (left_of s b a) b (left_at s a) && narrow w (h - 1) (s - left_of s b a) b (right_at (h - 1) s (left_of s b a) a))) e
 
-  pub node-not : n.ok ≡ false → false ≡ narrow w h s b a
+  pub node-not : Halved b a (h - 1) s None → false ≡ narrow w h s b a
   node-not e = sym (node false e)
 
-  module _ (ok : n.ok ≡ true) where
+  module _ {n : Halves} (i : HalvesOf b a (h - 1) s n) where
     both_halves : narrow w h s b a ≡ (narrow w (h - 1) n.left b n.first && narrow w (h - 1) (s - n.left) b n.second)
-    both_halves = node true ok ∙ sym (rw (i.second_is ok, i.first-is ok, i.left_is ok))
+    both_halves = node true i.is_sound ∙ sym (rw (i.second_is, i.first-is, i.left_is))
 
     pub left_not : narrow w (h - 1) n.left b n.first ≡ false → false ≡ narrow w h s b a
     left_not e = sym (both_halves ∙ rw e)
@@ -117,12 +115,12 @@ module _ {b : List ℕ} {a h s : ℕ} {n : Halves} (w : ℕ) (tall : 2 ≤ h) (i
     pub node-last : narrow w (h - 1) n.left b n.first ≡ true → narrow w (h - 1) (s - n.left) b n.second ≡ narrow w h s b a
     node-last e = sym (both_halves ∙ rw e)
 
-module _ {b : List ℕ} {a h s : ℕ} {n : Halves} (tall : 2 ≤ h) (y : Lies b a h s) (i : Halved (bits b) a (h - 1) s n) (ok : n.ok ≡ true) where
+module _ {b : List ℕ} {a h s : ℕ} {n : Halves} (tall : 2 ≤ h) (y : Lies b a h s) (i : HalvesOf (bits b) a (h - 1) s n) where
   below : Below b a (h - 1) s n.left
-  below = halves n.left (top (not-zero tall) y) (i.left_le ok)
+  below = halves n.left (top (not-zero tall) y) i.left_le
 
   pub left-lies : Lies b n.first (h - 1) n.left
-  left-lies = rw (i.first-is ok) below.left
+  left-lies = rw i.first-is below.left
 
   pub right-lies : Lies b n.second (h - 1) (s - n.left)
-  right-lies = rw (i.second_is ok) below.right
+  right-lies = rw i.second_is below.right

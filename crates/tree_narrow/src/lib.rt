@@ -2,24 +2,21 @@
 // coins than the limit is the plain check's; so each count is looked at where the check has it at hand, and no page is unpacked for it.
 #![tactic(auto)]
 
-ghost use Rattle.std.specs.Prelude.{false, ◌≡◌, ◌+◌, ◌≤◌};
+ghost use Rattle.std.specs.Prelude.{◌≡◌, ◌+◌, ◌≤◌};
 ghost use Rattle.bits.specs.Bits.{bits};
 ghost use Rattle.reserve.specs.Reserve.{reserve as reserved};
-ghost use Rattle.reserve_table.specs.Code.Tabled.{Tabled};
 ghost use Rattle.tree.specs.Code.Node.{Lies};
 ghost use Rattle.tree_lowest.specs.Code.Narrow.{narrow};
 ghost use Rattle.tree_narrow.specs.Code.Halves.{Halved};
 
 use reserve::digits_of;
-use reserve_table::reserve_by;
+use reserve_table::ReserveTable;
 use tree_check::left_sum;
 use tree_lowest::{low_within, one_load, zero_bits};
 
-// A node that was read: its left sum, where its halves start, and how many bits each owns. Where the node is damaged, ok is false and the
-// rest says nothing.
+// A node that was read: its left sum, where its halves start, and how many bits each owns.
 #[derive(Clone, Copy)]
 pub struct Halves {
-    pub ok: bool,
     pub left: u64,
     pub first: usize,
     pub own: usize,
@@ -27,56 +24,45 @@ pub struct Halves {
     pub rest: usize,
 }
 
-fn damaged() -> Halves
-    ensures { result.ok ≡ false }
-{
-    Halves {
-        ok: false,
-        left: 0,
-        first: 0,
-        own: 0,
-        second: 0,
-        rest: 0,
-    }
-}
-
-// Reads a node of height h + 1 at bit at, which has sum s and owns r bits. The plain check takes these steps in its own recursion: with one
+// Reads a node of height h + 1 at bit at, which has sum s and owns r bits; none where it is damaged. The plain check takes these steps in its own recursion: with one
 // function for both, the compiler no longer joined it with either, and the check took an eighth longer.
-fn halve(b: &[u8], table: &[u8; 512], at: usize, h: u32, s: u64, r: usize) -> Halves
-    requires { Lies b.now at (h + 1) s × Tabled table.now × (r ≡ reserved (h + 1) s) }
+fn halve(b: &[u8], table: &ReserveTable, at: usize, h: u32, s: u64, r: usize) -> Option<Halves>
+    requires { Lies b.now at (h + 1) s × (r ≡ reserved (h + 1) s) }
     ensures { Halved (bits b.now) at h s result }
 {
     let t = digits_of(s);
     let left = left_sum(b, at, h, s, t);
     if s < left {
-        return damaged();
+        return None;
     }
-    let own = reserve_by(table, h, left);
-    let rest = reserve_by(table, h, s - left);
+    let own = table.reserve(h, left);
+    let rest = table.reserve(h, s - left);
     let first = at + (t as usize);
     let second = first + own;
     let spare = second + rest;
-    Halves {
-        ok: zero_bits(b, spare, at + r - spare),
+    if !zero_bits(b, spare, at + r - spare) {
+        return None;
+    }
+    Some(Halves {
         left,
         first,
         own,
         second,
         rest,
-    }
+    })
 }
 
 // The node of height h at bit at, which has sum s and owns r bits, and all below it.
 fn narrow_node(
     b: &&[u8],
-    table: &[u8; 512],
+    table: &ReserveTable,
     at: usize,
     h: u32,
     s: u64,
     r: usize,
     widest: u64,
 ) -> bool
-    requires { Lies b.now.now at h s × Tabled table.now × (r ≡ reserved h s) × (1 ≤ h) }
+    requires { Lies b.now.now at h s × (r ≡ reserved h s) × (1 ≤ h) }
     ensures { result ≡ narrow widest h s (bits b.now.now) at }
 {
     if s <= widest {
@@ -86,10 +72,9 @@ fn narrow_node(
         return low_within(*b, at, h, s, r, widest);
     }
     let down = h - 1;
-    let n = halve(*b, table, at, down, s, r);
-    if !n.ok {
+    let Some(n) = halve(*b, table, at, down, s, r) else {
         return false;
-    }
+    };
     if !narrow_node(b, table, n.first, down, n.left, n.own, widest) {
         return false;
     }
@@ -97,8 +82,16 @@ fn narrow_node(
 }
 
 // Whether the tree of 2^h counts with sum s at bit at, which owns r bits, is the code of some list, and none of its counts is above widest.
-pub fn nodes(b: &[u8], table: &[u8; 512], at: usize, h: u32, s: u64, r: usize, widest: u64) -> bool
-    requires { Lies b.now at h s × Tabled table.now × (r ≡ reserved h s) }
+pub fn nodes(
+    b: &[u8],
+    table: &ReserveTable,
+    at: usize,
+    h: u32,
+    s: u64,
+    r: usize,
+    widest: u64,
+) -> bool
+    requires { Lies b.now at h s × (r ≡ reserved h s) }
     ensures { result ≡ narrow widest h s (bits b.now) at }
 {
     if h == 0 {

@@ -5,8 +5,9 @@ use mathlib.Core.List.{List}
 use Prim.Native.Nat.{ℕ, suc, ◌+◌, ◌-◌, ◌^◌, ◌≤◌, ◌<◌}
 use native.Mathlib.Nat.{add-zero}
 use native.Mathlib.Omega.{arith}
+use Rattle.std.specs.Prelude.{None}
 use lib.Dec.{leb, ltb}
-use borrow.Author.Tests.{ltb-true, ltb-false}
+use borrow.Author.Tests.{lt-leb, ltb-true, ltb-false}
 use Rattle.lists.specs.Lists.{pick}
 use Rattle.bits.specs.Bits.{bits}
 use Rattle.tree.specs.Read.{left_of, Sought, nowhere, at-index, shifted, seek}
@@ -35,25 +36,25 @@ module _ (h s : ℕ) (b : List ℕ) (a q n : ℕ) where
   up : (h ≡ 0 → ⊥) → search_answer n (seek h s b a q) ≡ search_answer n (seek (suc (h - 1)) s b a q)
   up p = ap (λ (i : ℕ). search_answer n (seek i s b a q)) {x = h} {y = suc (h - 1)} (omega (arith, p))
 
-  pub seek-bad : (h ≡ 0 → ⊥) → {r : Split} → Rooted b a (h - 1) s r → r.ok ≡ false → damage_word ≡ search_answer n (seek h s b a q)
+  pub seek-bad : (h ≡ 0 → ⊥) → Rooted b a (h - 1) s None → damage_word ≡ search_answer n (seek h s b a q)
   unfolding search_answer
-  seek-bad p o e = rw (up p, seek-damaged (h - 1) s b a q (sym o.ok-is ∙ e))
+  seek-bad p o = rw (up p, seek-damaged (h - 1) s b a q (lt-leb (left_of s b a) s o))
 
 module _ {h s : ℕ} {b : List ℕ} {a : ℕ} {r : Split} (i : Inner b a h s r) where
   said : left_of s b a ≡ r.left
-  said = sym (i.root.left_is i.sound)
+  said = sym i.root.left_is
 
   small : r.left ≤ s
-  small = i.root.left_le i.sound
+  small = i.root.left_le
 
   module _ (q n : ℕ) where
     pub seek-low : q ≤ r.left → search_answer n (seek (h - 1) r.left b r.first q) ≡ search_answer n (seek h s b a q)
-    seek-low o = rw (up h s b a q n i.high, seek-left (h - 1) s r.left b a q said small o, i.root.first-is i.sound)
+    seek-low o = rw (up h s b a q n i.high, seek-left (h - 1) s r.left b a q said small o, i.root.first-is)
 
     pub seek-high : {m : ℕ} → m ≡ 2 ^ (h - 1) → r.left < q
         → search_answer (n + m) (seek (h - 1) (s - r.left) b r.second (q - r.left)) ≡ search_answer n (seek h s b a q)
     seek-high half o =
-        rw (up h s b a q n i.high, seek-right (h - 1) s r.left b a q said small o, i.root.second_is i.sound, half)
+        rw (up h s b a q n i.high, seek-right (h - 1) s r.left b a q said small o, i.root.second_is, half)
         (answer-shifted n (2 ^ (h - 1)) _)
 
 -- ---- both halves at hand: the step goes on in one of them by a choice of numbers, and the code has no jump
@@ -70,6 +71,10 @@ pub record Goes (b : List ℕ) (h q n x passed hours sum start : ℕ) : Type 0 w
   pub few : passed ≤ q
   pub room : hours ≤ 2 ^ h
   pub same : search_answer (n + hours) (seek h sum (bits b) start (q - passed)) ≡ x
+
+pub chosen : {r : Split} {s m passed hours sum start : ℕ} (c : Bool) → passed ≡ pick c r.left 0 → hours ≡ pick c m 0 → sum ≡ pick c (s - r.left) r.left
+    → start ≡ pick c r.second r.first → Chosen r s c m passed hours sum start
+chosen c p h t e = record { passed_is = p; hours-is = h; sum_is = t; start_is = e }
 
 pub goes_on : {b : List ℕ} {a h s : ℕ} → Lies b a h s → {r : Split} → Inner (bits b) a h s r → (q n : ℕ) {m passed hours sum start : ℕ}
     → m ≡ 2 ^ (h - 1) → Chosen r s (ltb r.left q) m passed hours sum start

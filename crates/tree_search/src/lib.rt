@@ -45,10 +45,9 @@ fn search_node(b: &&[u8], at: usize, h: u32, s: u64, q: u64, n: u64) -> u64
         return n + 1;
     }
     let down = h - 1;
-    let r = root(*b, at, down, s);
-    if !r.ok {
+    let Some(r) = root(*b, at, down, s) else {
         return DAMAGED;
-    }
+    };
     let right = r.left < q;
     let passed = either(right, r.left, 0);
     let hours = either(right, reserve::power(down), 0);

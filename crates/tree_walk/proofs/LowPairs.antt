@@ -6,20 +6,21 @@ use Prim.Native.Nat.{ℕ, zero, suc, ◌+◌, ◌-◌, ◌*◌, ◌/◌, ◌%◌
 use native.Mathlib.Nat.{add-zero}
 use native.Mathlib.Omega.{arith}
 use lib.Dec.{leb, eqb, eqb-suc-zero}
-use borrow.Author.Tests.{leb-true, leb-false, le-leb, lt-leb}
+use borrow.Author.Tests.{leb-true, leb-false, lt-leb}
 use Rattle.lists.specs.Lists.{pick}
 use Rattle.reserve.specs.Reserve.{digits, reserve}
 use Rattle.tree.specs.Read.{left_of, left_at, right_at, later, walk}
 use Rattle.tree.specs.Code.Node.{Lies}
-use Rattle.tree.specs.Code.InWord.{InWord}
+use Rattle.reserve.proofs.Fit.{fit_all}
+use Rattle.tree.specs.Code.InWord.{InWord, eight_limit}
 use Rattle.tree_walk.specs.Code.Pairs.{Entered}
 use Rattle.tree_walk.specs.Code.Answers.{damage_word, walk_answer}
 use Rattle.tree.specs.declared.node.Split.{Split}
 use Rattle.tree_walk.specs.declared.pairs.Pair.{Pair}
 use Rattle.tree.proofs.Rooting.{Inner}
-use Rattle.tree.proofs.OneWord.{three-fields, left-pair, right-pair}
+use Rattle.tree.proofs.OneWord.{eight_fits, three-fields, left-pair, right-pair}
 use Rattle.tree.proofs.WalkLaws.{walk-left, walk-right}
-use Rattle.tree_walk.proofs.WalkSteps.{walk-damaged, walk-low, walk-high}
+use Rattle.tree_walk.proofs.WalkSteps.{kept, walk-damaged, walk-low, walk-high}
 
 pub pick-le : (c : Bool) {x y s : ℕ} → x ≤ s → y ≤ s → pick c x y ≤ s
 unfolding pick
@@ -37,7 +38,7 @@ skipped j = go (leb 2 j) refl
 
 -- ---- a pair's sum and what is passed on the way to it, the right pair's where c is true
 module _ {s l sum passed : ℕ} (le : l ≤ s) where
-  pub in_sum : (c : Bool) → sum ≡ pick c (s - l) l → passed ≡ pick c l 0 → passed + sum ≤ s
+  in_sum : (c : Bool) → sum ≡ pick c (s - l) l → passed ≡ pick c l 0 → passed + sum ≤ s
   unfolding pick
   in_sum true es ep = omega (arith, es, ep)
   in_sum false es ep = omega (arith, es, ep)
@@ -47,6 +48,15 @@ module _ {s l sum passed : ℕ} (le : l ≤ s) where
   unfolding pick digits
   narrow true es ep = rw (es, ep) (three-fields s l le)
   narrow false es ep = rw (es, ep) (omega (arith, three-fields s l le))
+
+-- what the walk adds up within four counts fits
+pub pair_fit : {w k s l : ℕ} {c : Bool} {p : Pair} (keep : ℕ) → keep ≤ 1 → l ≤ s → p.count ≤ p.sum → Entered w k s l c p
+    → (keep * p.passed ≤ p.passed) × (keep * p.count ≤ p.count) × (p.count ≤ p.sum) × (p.passed + p.sum ≤ s)
+pair_fit {c = c} {p = p} keep one le i e = (kept keep p.passed one, kept keep p.count one, i, in_sum le c e.sum_is e.passed_is)
+
+-- within eight counts out of one word: the fields of both fours and the left sum
+pub eight-room : {s l : ℕ} → s < eight_limit → l ≤ s → digits s + reserve 2 l + reserve 2 (s - l) ≤ 57
+eight-room {s} {l} few le = omega (arith, le, fit_all 2 s l (s - l) (omega (arith, le)), eight_fits s few)
 
 -- the pair's left count, by widths that were computed
 pub count_of : (w k s passed sum x t f g : ℕ) → t ≡ digits s → f ≡ digits passed → g ≡ digits sum → x ≡ w / 2 ^ (64 - (k + t + f + g)) % 2 ^ g
@@ -79,7 +89,7 @@ module _ (h s l : ℕ) (b : List ℕ) (a : ℕ) (el : left_of s b a ≡ l) (i : 
 -- ---- a node with left sum l, as one that was read
 module _ (h s l : ℕ) (b : List ℕ) (a : ℕ) (el : left_of s b a ≡ l) (le : l ≤ s) where
   abbrev pub split : Split
-  split = record { ok = true; left = l; first = left_at s a; second = right_at h s l a }
+  split = record { left = l; first = left_at s a; second = right_at h s l a }
 
   pub inner : Inner b a (suc h) s split
   inner =
@@ -87,13 +97,11 @@ module _ (h s l : ℕ) (b : List ℕ) (a : ℕ) (el : left_of s b a ≡ l) (le :
         high = λ e. omega (arith, e);
         root =
             record {
-              ok-is = sym (ap (λ (z : ℕ). leb z s) el ∙ le-leb l s le);
-              left_is = λ _. sym el;
-              left_le = λ _. le;
-              first-is = λ _. refl;
-              second_is = λ _. ap (λ (i : ℕ). right_at i s l a) {x = h} {y = suc h - 1} (omega arith);
+              left_is = sym el;
+              left_le = le;
+              first-is = refl;
+              second_is = ap (λ (i : ℕ). right_at i s l a) {x = h} {y = suc h - 1} (omega arith);
             };
-        sound = refl;
       }
 
 -- ---- four counts with sum s and left sum l at bit a, whose bits stand in w behind its k high ones

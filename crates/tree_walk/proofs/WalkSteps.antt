@@ -1,11 +1,13 @@
 -- One step of the walk to a count, as the code takes it: its answer is one number. Assumes nothing.
-use mathlib.Core.Path.{◌≡◌, refl, sym, ap, ◌∙◌}
+use mathlib.Core.Path.{◌≡◌, refl, sym, ap}
 use mathlib.Core.Bool.{Bool, true, false}
 use mathlib.Core.List.{List}
 use Prim.Native.Nat.{ℕ, zero, suc, ◌+◌, ◌-◌, ◌*◌, ◌^◌, ◌≤◌, ◌<◌}
 use native.Mathlib.Nat.{mul-le-mul_right}
 use native.Mathlib.Omega.{arith}
+use Rattle.std.specs.Prelude.{None}
 use lib.Dec.{leb, ltb}
+use borrow.Author.Tests.{lt-leb}
 use Rattle.lists.specs.Lists.{pick}
 use Rattle.bits.specs.Bits.{value_from}
 use Rattle.reserve.specs.Reserve.{digits}
@@ -54,24 +56,24 @@ module _ (h s : ℕ) (b : List ℕ) (a j acc k : ℕ) where
   up : (h ≡ 0 → ⊥) → walk_answer acc k (walk h s b a j) ≡ walk_answer acc k (walk (suc (h - 1)) s b a j)
   up p = ap (λ (i : ℕ). walk_answer acc k (walk i s b a j)) {x = h} {y = suc (h - 1)} (omega (arith, p))
 
-  pub walk-bad : (h ≡ 0 → ⊥) → {r : Split} → Rooted b a (h - 1) s r → r.ok ≡ false → damage_word ≡ walk_answer acc k (walk h s b a j)
+  pub walk-bad : (h ≡ 0 → ⊥) → Rooted b a (h - 1) s None → damage_word ≡ walk_answer acc k (walk h s b a j)
   unfolding walk_answer
-  walk-bad p n e = rw (up p, walk-damaged (h - 1) s b a j (sym n.ok-is ∙ e))
+  walk-bad p n = rw (up p, walk-damaged (h - 1) s b a j (lt-leb (left_of s b a) s n))
 
 module _ {h s : ℕ} {b : List ℕ} {a : ℕ} {r : Split} (i : Inner b a h s r) where
   said : left_of s b a ≡ r.left
-  said = sym (i.root.left_is i.sound)
+  said = sym i.root.left_is
 
   small : r.left ≤ s
-  small = i.root.left_le i.sound
+  small = i.root.left_le
 
   module _ (j acc k : ℕ) {m : ℕ} (half : m ≡ 2 ^ (h - 1)) where
     pub walk-low : j < m → walk_answer acc k (walk (h - 1) r.left b r.first j) ≡ walk_answer acc k (walk h s b a j)
     walk-low o =
-        rw (up h s b a j acc k i.high, walk-left (h - 1) s r.left b a j said small (omega arith), i.root.first-is i.sound)
+        rw (up h s b a j acc k i.high, walk-left (h - 1) s r.left b a j said small (omega arith), i.root.first-is)
 
     pub walk-high : m ≤ j
         → walk_answer (acc + k * r.left) k (walk (h - 1) (s - r.left) b r.second (j - m)) ≡ walk_answer acc k (walk h s b a j)
     walk-high o =
-        rw (up h s b a j acc k i.high, walk-right (h - 1) s r.left b a j said small (omega arith), i.root.second_is i.sound, half)
+        rw (up h s b a j acc k i.high, walk-right (h - 1) s r.left b a j said small (omega arith), i.root.second_is, half)
         (answer-later acc k r.left _)

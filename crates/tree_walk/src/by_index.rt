@@ -67,10 +67,9 @@ pub(crate) fn walk_node(b: &&[u8], at: usize, h: u32, s: u64, j: u64, acc: u64, 
         return acc + s;
     }
     let down = h - 1;
-    let r = root_by_shifts(*b, at, down, s);
-    if !r.ok {
+    let Some(r) = root_by_shifts(*b, at, down, s) else {
         return DAMAGED;
-    }
+    };
     let half = reserve::power(down);
     if j < half {
         return walk_node(b, r.first, down, r.left, j, acc, keep);

@@ -9,7 +9,7 @@ use lib.ListN.{length, set}
 use lib.Pow.{pow_pos}
 use lib.Seq.{take_all}
 use Rattle.lists.specs.Lists.{part, splice}
-use Rattle.lists.proofs.Parts.{length-splice, splice-then}
+use Rattle.lists.proofs.Parts.{splice-then}
 use Rattle.bits.specs.Bits.{field}
 use Rattle.bits.proofs.Laws.{length-field}
 use Rattle.bits.proofs.Packing.{bits-field, field-piece}
@@ -34,6 +34,9 @@ pub record FewCode (w s v : ℕ) : Type 0 where
   pub few : s < 3
   pub code : exact 3 s (field 64 w) 0 ≡ true
   pub read : v ≡ w / 2 ^ (64 - (0 + 3 * s)) % 2 ^ (3 * s)
+
+pub few-code : {w s v : ℕ} → s < 3 → exact 3 s (field 64 w) 0 ≡ true → v ≡ w / 2 ^ (64 - (0 + 3 * s)) % 2 ^ (3 * s) → FewCode w s v
+few-code k x e = record { few = k; code = x; read = e }
 
 module _ {w s v : ℕ} (q : FewCode w s v) where
   pub below : v < 2 ^ (3 * s)
@@ -61,11 +64,6 @@ module _ {w s v : ℕ} (q : FewCode w s v) where
   unfolding quarters
   few-written x y o m r i e l em er =
       splice-then o m r (quarters x) (quarters y) i (i + 4) em er refl (omega arith) ∙ ap (splice o i) (e alone ∙ sym (word_counts high alone))
-
--- the array is as long as it was
-pub quarters-long : (x : ℕ) (o m : List ℕ) (i : ℕ) → i + 4 ≤ length o → m ≡ splice o i (quarters x) → length m ≡ length o
-unfolding quarters
-quarters-long x o m i l e = ap length e ∙ length-splice o i (quarters x) l
 
 -- four numbers of two bits, put one by one
 pub quarters-put : (x : ℕ) (o : List ℕ) (i : ℕ) → i + 4 ≤ length o

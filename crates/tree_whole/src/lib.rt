@@ -6,7 +6,6 @@ mod sparse;
 ghost use Rattle.std.specs.Prelude.{true, ◌≡◌, ◌+◌, ◌≤◌, ◌^◌, length};
 ghost use Rattle.lists.specs.Lists.{splice};
 ghost use Rattle.bits.specs.Bits.{field};
-ghost use Rattle.sum_table.specs.Code.Sums.{Sums};
 ghost use Rattle.tree.specs.Read.{counts};
 ghost use Rattle.tree.specs.Code.Exact.{exact};
 ghost use Rattle.tree_whole.specs.Code.FitsWord.{FitsWord};
@@ -14,7 +13,7 @@ ghost use Rattle.tree_whole.specs.Code.FitsWord.{FitsWord};
 use crate::sparse::sixteen;
 use bits_field::front;
 use reserve::power;
-use sum_table::{digits_in, reserve_in};
+use sum_table::SumTable;
 use tree_word::zeros;
 
 // Whether a tree of 2^h counts with sum s is one of 16, 32 or 64 that own 57 bits at most. A sum one higher owns more. Most sums are told by the
@@ -22,21 +21,18 @@ use tree_word::zeros;
 pub fn fits(h: u32, s: u64) -> bool
     ensures { result ≡ true → FitsWord h s }
 {
-    if 37 <= s {
-        return false;
-    }
-    if h == 4 {
-        return true;
-    }
-    if h == 5 {
-        return s < 17;
-    }
-    h == 6 && s < 13
+    s < 37
+        && match h {
+            4 => true,
+            5 => s < 17,
+            6 => s < 13,
+            _ => false,
+        }
 }
 
 // All 2^h counts with sum s. A recursion in which h falls to 4, or which ends at a sum of 0.
-pub fn decode_word(w: u64, table: &[u8; 864], h: u32, s: u64, out: &mut [u32; 256], from: usize)
-    requires { Sums table.now × FitsWord h s × (exact h s (field 64 w) 0 ≡ true) × (length out.old ≡ 256) × (from + 2 ^ h ≤ 256) }
+pub fn decode_word(w: u64, table: &SumTable, h: u32, s: u64, out: &mut [u32; 256], from: usize)
+    requires { FitsWord h s × (exact h s (field 64 w) 0 ≡ true) × (from + 2 ^ h ≤ 256) }
     ensures { out.new ≡ splice out.old from (counts h s (field 64 w) 0) }
 {
     if h == 4 {
@@ -48,10 +44,10 @@ pub fn decode_word(w: u64, table: &[u8; 864], h: u32, s: u64, out: &mut [u32; 25
         return;
     }
     let down = h - 1;
-    let t = digits_in(table, s);
+    let t = table.digits(s);
     let left = front::part(w, 0, t);
     decode_word(w << t, table, down, left, out, from);
-    let k = t + reserve_in(table, down, left);
+    let k = t + table.reserve(down, left);
     decode_word(
         w << k,
         table,

@@ -1,19 +1,21 @@
 -- The counts of a tree that is some list's code, half by half. Assumes nothing.
-use mathlib.Core.Path.{◌≡◌, sym, ap, ◌∙◌}
+use mathlib.Core.Path.{◌≡◌, refl, sym, ap, ◌∙◌}
 use mathlib.Core.Bool.{true}
 use mathlib.Core.List.{List, [], ◌∷◌, ◌++◌}
 use Prim.Native.Nat.{ℕ, suc, ◌+◌, ◌-◌, ◌^◌, ◌≤◌, ◌<◌}
 use native.Mathlib.Nat.{pow-succ'}
 use native.Mathlib.Numerals.{add-one}
 use native.Mathlib.Omega.{arith}
+use Rattle.std.specs.Prelude.{Option, None, Some, IsSome}
 use lib.Dec.{leb}
+use borrow.Author.Tests.{leb-true}
 use lib.ListN.{length, set}
 use lib.Seq.{set_split}
 use Rattle.lists.specs.Lists.{splice}
 use Rattle.lists.proofs.Tests.{each}
 use Rattle.tree.specs.Read.{left_of, left_at, right_at, counts}
 use Rattle.tree.specs.Code.Exact.{clear, spare_at, spare_len, exact}
-use Rattle.tree.specs.Code.Node.{Rooted}
+use Rattle.tree.specs.Code.Node.{PartsOf, Rooted}
 use Rattle.tree.specs.declared.node.Split.{Split}
 use Rattle.tree.proofs.Shape.{length-counts}
 use Rattle.lists.proofs.Parts.{splice-then}
@@ -39,16 +41,20 @@ pub record Unfolded (b : List ℕ) (a h s : ℕ) (r : Split) : Type 0 where
   pub left-exact : exact (h - 1) r.left b r.first ≡ true
   pub right-exact : exact (h - 1) (s - r.left) b r.second ≡ true
 
-pub unfolded : {b : List ℕ} {a h s : ℕ} {r : Split} → (h ≡ 0 → ⊥) → exact h s b a ≡ true → Rooted b a (h - 1) s r → Unfolded b a h s r
+pub unfolded : {b : List ℕ} {a h s : ℕ} {r : Split} → (h ≡ 0 → ⊥) → exact h s b a ≡ true → PartsOf (left_of s b a) a (h - 1) s r → Unfolded b a h s r
 unfolded {b} {a} {h} {s} {r} p x n =
     let up : suc (h - 1) ≡ h = omega (arith, p) in
     let q = both-exact (h - 1) s b a (ap (λ (k : ℕ). exact k s b a) up ∙ x) in
-    let k : r.ok ≡ true = n.ok-is ∙ q.le in
     record {
-      node = record { high = p; root = n; sound = k };
-      left-exact = rw (n.first-is k, n.left_is k) q.left;
-      right-exact = rw (n.second_is k, n.left_is k) q.right;
+      node = record { high = p; root = n };
+      left-exact = rw (n.first-is, n.left_is) q.left;
+      right-exact = rw (n.second_is, n.left_is) q.right;
     }
+
+-- so a root was read there
+pub rooted-some : (b : List ℕ) (a h s : ℕ) (o : Option Split) → exact (suc h) s b a ≡ true → Rooted b a h s o → IsSome o
+rooted-some b a h s None x n = let l = leb-true (left_of s b a) s (both-exact h s b a x).le in absurd (omega (arith, n, l))
+rooted-some b a h s (Some r) x n = refl
 
 -- ---- the counts, into a list
 
@@ -76,9 +82,9 @@ module _ {b : List ℕ} {a h s : ℕ} {r : Split} (n : Inner b a h s r) where
       → o ≡ splice m (i + half) (counts (h - 1) (s - r.left) b r.second) → o ≡ splice l i (counts h s b a)
   both_halves l m o i half eh fits em eo =
       let up : suc (h - 1) ≡ h = omega (arith, n.high) in
-      halves-written (h - 1) s r.left b a (sym (n.root.left_is n.sound)) l m o i half eh (rw up fits)
-      (em ∙ ap (λ (k : ℕ). splice l i (counts (h - 1) r.left b k)) (n.root.first-is n.sound))
-      (eo ∙ ap (λ (k : ℕ). splice m (i + half) (counts (h - 1) (s - r.left) b k)) (n.root.second_is n.sound))
+      halves-written (h - 1) s r.left b a (sym n.root.left_is) l m o i half eh (rw up fits)
+      (em ∙ ap (λ (k : ℕ). splice l i (counts (h - 1) r.left b k)) n.root.first-is)
+      (eo ∙ ap (λ (k : ℕ). splice m (i + half) (counts (h - 1) (s - r.left) b k)) n.root.second_is)
       ∙ ap (λ (k : ℕ). splice l i (counts k s b a)) up
 
 -- ---- a node of height k, as it was tested

@@ -1,24 +1,15 @@
 -- The counts of an empty tree, one of sum 0: zeros. Assumes nothing.
 use mathlib.Core.Path.{◌≡◌, refl, sym, ap, ◌∙◌}
-use mathlib.Core.List.{List, [], ◌∷◌}
-use Prim.Native.Nat.{ℕ, zero, suc, ◌+◌, ◌^◌, ◌<◌}
+use mathlib.Core.List.{List}
+use Prim.Native.Nat.{ℕ, zero, suc, ◌^◌}
 use native.Mathlib.Nat.{pow-succ'}
 use native.Mathlib.Omega.{arith}
-use lib.ListN.{length, set, replicate, length-replicate, replicate-append-replicate}
+use lib.ListN.{replicate}
 use Rattle.lists.specs.Lists.{splice}
-use Rattle.lists.proofs.Parts.{splice-then, sets-splice}
 use Rattle.lists.proofs.Zeros.{zeros-split}
 use Rattle.bits.specs.Bits.{value_from}
 use Rattle.reserve.specs.Reserve.{digits}
 use Rattle.tree.specs.Read.{left_of, left_at, right_at, counts}
-
--- one more zero behind n of them
-pub zero_more : (l s : List ℕ) (i n : ℕ) → i + n < length l → length s ≡ length l → s ≡ splice l i (replicate n 0)
-    → set s (i + n) 0 ≡ splice l i (replicate (n + 1) 0)
-zero_more l s i n h q e =
-    let w = length-replicate {A = ℕ} n 0 in
-    splice-then l s (set s (i + n) 0) (replicate n 0) (0 ∷ []) i (i + n) e (sets-splice (0 ∷ []) s (i + n) (omega arith)) (omega (arith, w)) (omega (arith, w))
-    ∙ ap (splice l i) (replicate-append-replicate n 1 0)
 
 -- ---- a tree of sum 0
 left-none : (b : List ℕ) (a : ℕ) → left_of 0 b a ≡ 0

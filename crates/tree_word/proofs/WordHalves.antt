@@ -22,6 +22,9 @@ pub record Top (h s w t l : ℕ) : Type 0 where
   pub digits_are : t ≡ digits s
   pub left : l ≡ w / 2 ^ (64 - (0 + t)) % 2 ^ t
 
+pub top : {h s w t l : ℕ} → exact (suc h) s (field 64 w) 0 ≡ true → reserve (suc h) s ≤ 57 → t ≡ digits s → l ≡ w / 2 ^ (64 - (0 + t)) % 2 ^ t → Top h s w t l
+top x r et el = record { code = x; whole = r; digits_are = et; left = el }
+
 module _ {h s w t l : ℕ} (q : Top h s w t l) where
   pub short : t ≤ 57
   short = omega (arith, q.digits_are, q.whole, fit_all h s 0 s (omega arith))

@@ -44,6 +44,10 @@ pub record Four (cs o : List ℕ) (at from s a b c : ℕ) : Type 0 where
   pub b-is : b ≡ get_or cs (from + 1) 0
   pub c-is : c ≡ get_or cs (from + 2) 0
 
+pub begin : {cs o : List ℕ} {at from s a b c : ℕ} → Lies o at 2 s → s ≡ sum (window cs from 4) → Blank (bits o) at (reserve 2 s) → a ≡ get_or cs from 0
+    → b ≡ get_or cs (from + 1) 0 → c ≡ get_or cs (from + 2) 0 → Four cs o at from s a b c
+begin y t z ea eb ec = record { lies = y; total = t; blank = z; a-is = ea; b-is = eb; c-is = ec }
+
 module _ {cs o : List ℕ} {at from s a b c : ℕ} (q : Four cs o at from s a b c) where
   left-sum : a + b ≡ sum (window cs from 2)
   left-sum = omega (arith, q.a-is, q.b-is, two-counts cs from)

@@ -20,11 +20,7 @@ use tree::sums::sum_of;
 fn count_at(counts: &[u32], i: usize) -> u64
     ensures { result ≡ get_or counts.now i 0 }
 {
-    if i < counts.len() {
-        counts[i] as u64
-    } else {
-        0
-    }
+    counts.get(i).map_or(0, |c| u64::from(*c))
 }
 
 // The lowest two levels: the tree of the four counts from index from on, whose sum s is not 0, into zero bits from bit at on. Its three
@@ -57,10 +53,7 @@ pub fn nodes(out: &mut [u8], at: usize, h: u32, counts: &[u32], from: usize, s: 
     requires blank { Blank (bits out.old) at (reserved h s) }
     ensures { bits out.new ≡ splice (bits out.old) at (tree h (window counts.now from (2 ^ h))) }
 {
-    if h == 0 {
-        return;
-    }
-    if s == 0 {
+    if h == 0 || s == 0 {
         return;
     }
     if h == 2 {

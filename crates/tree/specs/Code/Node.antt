@@ -1,5 +1,5 @@
 -- What the functions that read or write a tree ask, and what is read of a node. Assumes nothing.
-use Rattle.std.specs.Prelude.{true, List, ◌≡◌, ℕ, ◌+◌, ◌*◌, ◌^◌, ◌≤◌, ◌<◌, length, leb}
+use Rattle.std.specs.Prelude.{List, ◌≡◌, ℕ, ◌+◌, ◌*◌, ◌^◌, ◌≤◌, ◌<◌, length, Option, None, Some}
 use Rattle.reserve.specs.Reserve.{reserve}
 use Rattle.tree.specs.Read.{left_of, left_at, right_at}
 use Rattle.tree.specs.declared.node.Split.{Split}
@@ -12,18 +12,18 @@ pub record Lies (b : List ℕ) (a h s : ℕ) : Type 0 where
   pub inside : a + reserve h s ≤ 8 * length b
   pub small : a + reserve h s < 2 ^ 63
 
--- a node of height h + 1 at bit a with sum s and left sum l: whether l is at most s, and where its subtrees start
-pub record Parted (l a h s : ℕ) (r : Split) : Type 0 where
-  pub ok-is : r.ok ≡ leb l s
-  pub left_is : r.ok ≡ true → r.left ≡ l
-  pub left_le : r.ok ≡ true → r.left ≤ s
-  pub first-is : r.ok ≡ true → r.first ≡ left_at s a
-  pub second_is : r.ok ≡ true → r.second ≡ right_at h s r.left a
+-- a node of height h + 1 at bit a with sum s and left sum l, which is at most s: where its subtrees start
+pub record PartsOf (l a h s : ℕ) (r : Split) : Type 0 where
+  pub left_is : r.left ≡ l
+  pub left_le : r.left ≤ s
+  pub first-is : r.first ≡ left_at s a
+  pub second_is : r.second ≡ right_at h s r.left a
 
--- the node of height h + 1 that was read: whether its left sum is at most its sum, that left sum, and where its subtrees start
-pub record Rooted (b : List ℕ) (a h s : ℕ) (r : Split) : Type 0 where
-  pub ok-is : r.ok ≡ leb (left_of s b a) s
-  pub left_is : r.ok ≡ true → r.left ≡ left_of s b a
-  pub left_le : r.ok ≡ true → r.left ≤ s
-  pub first-is : r.ok ≡ true → r.first ≡ left_at s a
-  pub second_is : r.ok ≡ true → r.second ≡ right_at h s r.left a
+-- the same, or none where the left sum is above s
+abbrev pub Parted : ℕ → ℕ → ℕ → ℕ → Option Split → Type 0
+Parted l a h s None = s < l
+Parted l a h s (Some r) = PartsOf l a h s r
+
+-- the node of height h + 1 that was read: its left sum, and where its subtrees start; or none, where the left sum is above its sum
+abbrev pub Rooted : List ℕ → ℕ → ℕ → ℕ → Option Split → Type 0
+Rooted b a h s r = Parted (left_of s b a) a h s r

@@ -7,12 +7,12 @@ use Rattle.lists.specs.Counts.{within}
 use Rattle.lists.specs.Lists.{every}
 use Rattle.tree_lowest.proofs.both_within.Goals as goal
 
-pub returns-then-widest-x : goal.returns-then-widest-x
+pub returns-then-x-widest : goal.returns-then-x-widest
 unfolding within every
-returns-then-widest-x c = sym (rw (lt-leb _ _ c.if-widest-x.true))
-
-pub returns : goal.returns
-unfolding within every
-returns c =
+returns-then-x-widest c =
     let a = c.args in
-    sym (rw (le-leb a.x a.widest c.if-widest-x.false, and-true (leb a.y a.widest)))
+    sym (rw (le-leb a.x a.widest c.if-x-widest.true, and-true (leb a.y a.widest)))
+
+pub returns-else-x-widest : goal.returns-else-x-widest
+unfolding within every
+returns-else-x-widest c = rw (lt-leb _ _ c.if-x-widest.false)

@@ -1,5 +1,4 @@
--- `tree_lowest::zero_bits` meets its contract. The loop's invariant: the answer is that of the bits that are left to be looked at.
--- Assumes nothing.
+-- `tree_lowest::zero_bits` meets its contract. Assumes nothing.
 use mathlib.Core.Path.{◌≡◌, sym, ap₂, ◌∙◌}
 use Prim.Native.Nat.{◌+◌, ◌-◌}
 use native.Mathlib.Omega.{arith}
@@ -20,10 +19,7 @@ returns-then-get_field-ne0 c =
     let l = c.loop-done in
     let v = c.get_field in
     let pre = c.requires in
-    sym (l.invariant.1 ∙ clear-not _ _ _ _ c.smaller-k.result v.result (omega arith) pre.0 v.ensures c.if-get_field-ne0.true)
-
-pub loop-done-smaller : goal.loop-done-smaller
-loop-done-smaller c = omega arith
+    sym (l.invariant.1 ∙ clear-not _ _ _ _ c.min-k.result v.result (omega arith) pre.0 v.ensures c.if-get_field-ne0.true)
 
 pub loop-done-preserved : goal.loop-done-preserved
 loop-done-preserved c =

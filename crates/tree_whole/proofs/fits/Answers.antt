@@ -1,22 +1,14 @@
 -- `tree_whole::fits` meets its contract. Assumes nothing.
-use mathlib.Core.Path.{◌≡◌}
-use Prim.Native.Nat.{ℕ}
 use native.Mathlib.Omega.{arith}
-use borrow.Author.Tests.{ltb-true, eqb-true}
+use borrow.Author.Tests.{ltb-true}
 use Rattle.tree_whole.proofs.SmallTrees.{sixteen, thirty_two, sixty-four}
 use Rattle.tree_whole.proofs.fits.Goals as goal
 
-pub returns-then-s-ge37 : goal.returns-then-s-ge37
-returns-then-s-ge37 c = λ e. let z : ◌≡◌ {A = ℕ} 0 1 = cc in absurd (omega arith)
+pub returns-in-4 : goal.returns-in-4
+returns-in-4 c = λ e. sixteen (omega arith) (omega arith)
 
-pub returns-then-h-eq4 : goal.returns-then-h-eq4
-returns-then-h-eq4 c = λ e. sixteen c.if-h-eq4.true (omega (arith, c.if-s-ge37.false))
+pub returns-in-5 : goal.returns-in-5
+returns-in-5 c = λ e. thirty_two (omega arith) (omega (arith, ltb-true c.args.s _ e))
 
-pub returns-then-h-eq5 : goal.returns-then-h-eq5
-returns-then-h-eq5 c = λ e. thirty_two c.if-h-eq5.true (omega (arith, ltb-true c.args.s _ e))
-
-pub returns-then-h-eq6 : goal.returns-then-h-eq6
-returns-then-h-eq6 c = λ e. sixty-four c.if-h-eq6.true (omega (arith, ltb-true c.args.s _ e))
-
-pub returns-else-h-eq6 : goal.returns-else-h-eq6
-returns-else-h-eq6 c = λ e. absurd (c.if-h-eq6.false (eqb-true _ _ e))
+pub returns-in-6 : goal.returns-in-6
+returns-in-6 c = λ e. sixty-four (omega arith) (omega (arith, ltb-true c.args.s _ e))

@@ -9,16 +9,18 @@ use Rattle.bits.specs.Bits.{bits}
 use Rattle.tree.specs.Tree.{tree}
 use Rattle.tree_write.proofs.Writing.{plan, some-digits, leaf-written, none_written, field-blank, left-blank, right-blank, written}
 use Rattle.tree_write.proofs.+nodes.Goals as goal
+use Rattle.tree_write.proofs.+nodes.Goals.{then-h-eq0-via-then-h-eq0, then-h-eq0-via-else-h-eq0+then-s-eq0}
+use mathlib.Core.List.{List}
 
 pub returns-then-h-eq0 : goal.returns-then-h-eq0
 returns-then-h-eq0 t c =
     let a = c.args in
-    leaf-written (bits a.out.now) (window a.counts.now a.from (2 ^ a.h)) a.at a.h c.if-h-eq0.true
-
-pub returns-then-s-eq0 : goal.returns-then-s-eq0
-returns-then-s-eq0 t c =
-    let a = c.args in
-    none_written (bits a.out.now) (window a.counts.now a.from (2 ^ a.h)) a.at a.h a.s c.requires.lies.1 c.if-s-eq0.true
+    let o : List ℕ = bits a.out.now in
+    let xs : List ℕ = window a.counts.now a.from (2 ^ a.h) in
+    elim c.then-h-eq0.branch [
+      | then-h-eq0-via-then-h-eq0 w ↦ leaf-written o xs a.at a.h w.if-h-eq0.true
+      | then-h-eq0-via-else-h-eq0+then-s-eq0 w ↦ none_written o xs a.at a.h a.s c.requires.lies.1 w.if-s-eq0.true
+    ]
 
 pub four-requires : goal.four-requires
 four-requires t c =
@@ -39,26 +41,6 @@ returns-then-h-eq2 t c =
     let h = c.if-h-eq2.true in
     let a = c.args in
     f.ensures ∙ ap (λ (k : ℕ). splice (bits a.out.now) a.at (tree k (window a.counts.now a.from (2 ^ k)))) (sym h)
-
-pub overflow_sub-down : goal.overflow_sub-down
-overflow_sub-down t c = omega arith
-
-pub power-half-requires : goal.power-half-requires
-power-half-requires t c = omega arith
-
-pub sum_of-left-requires : goal.sum_of-left-requires
-sum_of-left-requires t c =
-    let h = c.args.h in
-    omega (arith, pow_mono {i = h - 1} {j = h} (omega arith), pow_mono {i = h - 1} {j = 8} (omega arith))
-
-pub digits_of-t-requires : goal.digits_of-t-requires
-digits_of-t-requires t c = omega arith
-
-pub overflow_cast-first : goal.overflow_cast-first
-overflow_cast-first t c = omega arith
-
-pub overflow_add-first : goal.overflow_add-first
-overflow_add-first t c = omega (arith, plan c.if-h-eq0.false c.requires.lies.0 c.requires.lies.1 c.power-half.ensures c.sum_of-left.ensures)
 
 pub reserve_of-requires : goal.reserve_of-requires
 reserve_of-requires t c = omega (arith, plan c.if-h-eq0.false c.requires.lies.0 c.requires.lies.1 c.power-half.ensures c.sum_of-left.ensures)
@@ -90,9 +72,6 @@ nodes-requires t c =
         left-blank p c.requires.blank w.result i.result w.ensures i.ensures f.new.out f.ensures,
       ),
     )
-
-pub overflow_add-from : goal.overflow_add-from
-overflow_add-from t c = omega (arith, plan c.if-h-eq0.false c.requires.lies.0 c.requires.lies.1 c.power-half.ensures c.sum_of-left.ensures)
 
 pub overflow_sub-s : goal.overflow_sub-s
 overflow_sub-s t c = (plan c.if-h-eq0.false c.requires.lies.0 c.requires.lies.1 c.power-half.ensures c.sum_of-left.ensures).left_le

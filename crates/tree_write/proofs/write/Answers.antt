@@ -13,10 +13,6 @@ use Rattle.tree.proofs.Shape.{length-tree}
 use Rattle.tree_write.proofs.Blank.{blank-cleared}
 use Rattle.tree_write.proofs.write.Goals as goal
 
-pub clear_bits-requires : goal.clear_bits-requires
-clear_bits-requires c =
-    omega (arith, c.requires.lies.0, c.requires.r_value)
-
 pub nodes-requires : goal.nodes-requires
 nodes-requires c =
     let room : c.args.at + c.args.r ≤ length (bits c.args.out.now) = omega (arith, length-bits c.args.out.now, c.requires.lies.0.inside, c.requires.r_value) in

@@ -7,4 +7,4 @@ pub get_field-requires : goal.get_field-requires
 get_field-requires c = omega (arith, halves 0 c.requires (omega arith), c.digits_of-t.ensures)
 
 pub returns : goal.returns
-returns c = rooted (left-sum _ _ _ _ _ c.digits_of-t.ensures c.get_field.ensures) c.node.ensures
+returns c = rooted _ _ _ _ _ (left-sum _ _ _ _ _ c.digits_of-t.ensures c.get_field.ensures) c.node.ensures

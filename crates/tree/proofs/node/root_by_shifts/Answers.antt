@@ -8,6 +8,6 @@ part-requires c = omega (arith, c.digits_of-t.ensures, halves 0 c.requires (omeg
 
 pub returns : goal.returns
 returns c =
-    rooted
+    rooted _ _ _ _ _
     (front-sum _ _ _ _ _ _ _ c.requires c.load.ensures c.digits_of-t.ensures
     c.part.ensures) c.node.ensures

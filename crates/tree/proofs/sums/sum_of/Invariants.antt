@@ -7,7 +7,4 @@ use Rattle.tree.proofs.sums.sum_of.Given as goal
 
 abbrev pub invariant-loop-i : goal.invariant-loop-i
 invariant-loop-i l =
-    (l.from ≤ l.i) × (l.i ≤ max l.from l.end) × (l.total ≡ sum (window l.counts l.from (l.i - l.from))) × (l.total ≤ 4294967295 * (l.i - l.from))
-
-abbrev pub decreases-loop-i : goal.decreases-loop-i
-decreases-loop-i l = l.end - l.i
+    record { within : l.i ≤ max l.from l.end; total_is : l.total ≡ sum (window l.counts l.from (l.i - l.from)); small : l.total ≤ 4294967295 * (l.i - l.from) }

@@ -1,15 +1,10 @@
 -- `tree_walk::by_index::walk_eight` meets its contract. Assumes nothing.
-use mathlib.Core.Path.{◌≡◌, refl, ◌∙◌}
-use Prim.Native.Nat.{◌+◌, ◌-◌, ◌≤◌}
+use mathlib.Core.Path.{refl, ◌∙◌}
 use native.Mathlib.Omega.{arith}
-use Rattle.bits.specs.Bits.{bits}
-use Rattle.reserve.specs.Reserve.{digits, reserve}
 use Rattle.reserve.proofs.Fit.{fit_all}
-use Rattle.tree.specs.Read.{left_of}
-use Rattle.tree.specs.Code.InWord.{InWord}
 use Rattle.tree.proofs.OneWord.{eight_fits, loaded, left-read, left_word, right-word}
 use Rattle.tree_walk.proofs.WalkSteps.{kept, walk-low, walk-high}
-use Rattle.tree_walk.proofs.LowPairs.{walk-above, inner}
+use Rattle.tree_walk.proofs.LowPairs.{eight-room, walk-above, inner}
 use Rattle.tree_walk.proofs.by_index.walk_eight.Goals as goal
 
 pub part-left-requires : goal.part-left-requires
@@ -18,13 +13,13 @@ part-left-requires c =
 
 pub returns-then-s-left : goal.returns-then-s-left
 returns-then-s-left c =
-    let word : InWord (bits c.args.b.now) c.args.at 3 c.args.s c.load-w.result 0 = loaded c.requires.0 (eight_fits c.args.s c.requires.1) c.load-w.ensures in
-    let left_is : left_of c.args.s (bits c.args.b.now) c.args.at ≡ c.part-left.result = left-read word _ _ c.digits_of-t.ensures c.part-left.ensures in
+    let word = loaded c.requires.0 (eight_fits c.args.s c.requires.1) c.load-w.ensures in
+    let left_is = left-read word _ _ c.digits_of-t.ensures c.part-left.ensures in
     walk-above 2 _ _ _ _ left_is c.if-s-left.true _ _ _
 
 pub walk_four-requires : goal.walk_four-requires
 walk_four-requires c =
-    let room : digits c.args.s + reserve 2 c.part-left.result + reserve 2 (c.args.s - c.part-left.result) ≤ 57 = omega (arith, c.if-s-left.false, fit_all 2 c.args.s c.part-left.result (c.args.s - c.part-left.result) (omega (arith, c.if-s-left.false)), eight_fits c.args.s c.requires.1) in (
+    let room = eight-room c.requires.1 c.if-s-left.false in (
       omega (arith, room, c.digits_of-t.ensures),
       omega (arith, c.requires.2, c.if-s-left.false),
       c.requires.3,
@@ -32,36 +27,24 @@ walk_four-requires c =
 
 pub returns-then-j-lt4 : goal.returns-then-j-lt4
 returns-then-j-lt4 c =
-    let word : InWord (bits c.args.b.now) c.args.at 3 c.args.s c.load-w.result 0 = loaded c.requires.0 (eight_fits c.args.s c.requires.1) c.load-w.ensures in
-    let left_is : left_of c.args.s (bits c.args.b.now) c.args.at ≡ c.part-left.result = left-read word _ _ c.digits_of-t.ensures c.part-left.ensures in
+    let word = loaded c.requires.0 (eight_fits c.args.s c.requires.1) c.load-w.ensures in
+    let left_is = left-read word _ _ c.digits_of-t.ensures c.part-left.ensures in
     c.walk_four.ensures _ _ (left_word word _ c.if-s-left.false _ (omega (arith, c.digits_of-t.ensures)))
     ∙ walk-low (inner 2 _ _ _ _ left_is c.if-s-left.false) _ _ _ {m = 4} refl c.if-j-lt4.true
 
-pub reserve_of-requires : goal.reserve_of-requires
-reserve_of-requires c =
-    (omega arith, omega (arith, c.if-s-left.false, c.requires.1))
-
 pub overflow_cast-k : goal.overflow_cast-k
 overflow_cast-k c =
-    let room : digits c.args.s + reserve 2 c.part-left.result + reserve 2 (c.args.s - c.part-left.result) ≤ 57 = omega (arith, c.if-s-left.false, fit_all 2 c.args.s c.part-left.result (c.args.s - c.part-left.result) (omega (arith, c.if-s-left.false)), eight_fits c.args.s c.requires.1) in
+    let room = eight-room c.requires.1 c.if-s-left.false in
     omega (arith, room, c.reserve_of.ensures)
 
 pub overflow_add-k : goal.overflow_add-k
 overflow_add-k c =
-    let room : digits c.args.s + reserve 2 c.part-left.result + reserve 2 (c.args.s - c.part-left.result) ≤ 57 = omega (arith, c.if-s-left.false, fit_all 2 c.args.s c.part-left.result (c.args.s - c.part-left.result) (omega (arith, c.if-s-left.false)), eight_fits c.args.s c.requires.1) in
+    let room = eight-room c.requires.1 c.if-s-left.false in
     omega (arith, room, c.reserve_of.ensures, c.digits_of-t.ensures)
-
-pub overflow_mul-keep : goal.overflow_mul-keep
-overflow_mul-keep c =
-    omega (arith, kept _ c.part-left.result c.requires.3, c.if-s-left.false, c.requires.1)
-
-pub overflow_add-acc : goal.overflow_add-acc
-overflow_add-acc c =
-    omega (arith, kept _ c.part-left.result c.requires.3, c.if-s-left.false, c.requires.2)
 
 pub walk_four-requires-2 : goal.walk_four-requires-2
 walk_four-requires-2 c =
-    let room : digits c.args.s + reserve 2 c.part-left.result + reserve 2 (c.args.s - c.part-left.result) ≤ 57 = omega (arith, c.if-s-left.false, fit_all 2 c.args.s c.part-left.result (c.args.s - c.part-left.result) (omega (arith, c.if-s-left.false)), eight_fits c.args.s c.requires.1) in (
+    let room = eight-room c.requires.1 c.if-s-left.false in (
       omega (arith, room, c.reserve_of.ensures, c.digits_of-t.ensures),
       omega (arith, kept _ c.part-left.result c.requires.3, c.if-s-left.false, c.requires.2),
       c.requires.3,
@@ -69,7 +52,7 @@ walk_four-requires-2 c =
 
 pub returns : goal.returns
 returns c =
-    let word : InWord (bits c.args.b.now) c.args.at 3 c.args.s c.load-w.result 0 = loaded c.requires.0 (eight_fits c.args.s c.requires.1) c.load-w.ensures in
-    let left_is : left_of c.args.s (bits c.args.b.now) c.args.at ≡ c.part-left.result = left-read word _ _ c.digits_of-t.ensures c.part-left.ensures in
+    let word = loaded c.requires.0 (eight_fits c.args.s c.requires.1) c.load-w.ensures in
+    let left_is = left-read word _ _ c.digits_of-t.ensures c.part-left.ensures in
     c.walk_four-2.ensures _ _ (right-word word _ c.if-s-left.false _ (omega (arith, c.reserve_of.ensures, c.digits_of-t.ensures)))
     ∙ walk-high (inner 2 _ _ _ _ left_is c.if-s-left.false) _ _ _ {m = 4} refl c.if-j-lt4.false

@@ -1,9 +1,8 @@
 -- `tree_walk::by_index::walk_four` meets its contract. Assumes nothing.
-use Prim.Native.Nat.{◌+◌, ◌*◌, ◌≤◌}
+use Prim.Native.Nat.{◌≤◌}
 use native.Mathlib.Omega.{arith}
-use Rattle.tree_walk.proofs.WalkSteps.{kept}
 use Rattle.tree.proofs.OneWord.{left-read, three-fields}
-use Rattle.tree_walk.proofs.LowPairs.{pick-le, skipped, in_sum, walk-above, walk-two-bad, walk-two}
+use Rattle.tree_walk.proofs.LowPairs.{pair_fit, pick-le, skipped, walk-above, walk-two-bad, walk-two}
 use Rattle.tree_walk.proofs.by_index.walk_four.Goals as goal
 
 pub part-left-requires : goal.part-left-requires
@@ -21,74 +20,14 @@ returns-then-p c =
 pub overflow_sub-first : goal.overflow_sub-first
 overflow_sub-first c = rw c.either.ensures (skipped _)
 
-pub overflow_mul-result : goal.overflow_mul-result
-overflow_mul-result c =
-    let fits :
-    let k = c.args.keep in
-    let p = c.one_pair-p.result in
-    (k * p.passed ≤ p.passed) × (k * p.count ≤ p.count) × (p.count ≤ p.sum) × (p.passed + p.sum ≤ c.args.s)
-    = (
-      kept _ _ c.requires.2,
-      kept _ _ c.requires.2,
-      c.if-p.false,
-      in_sum c.if-s-left.false _ c.one_pair-p.ensures.sum_is c.one_pair-p.ensures.passed_is,
-    ) in
-    omega (arith, fits, c.requires)
-
 pub overflow_add-result : goal.overflow_add-result
 overflow_add-result c =
-    let fits :
-    let k = c.args.keep in
-    let p = c.one_pair-p.result in
-    (k * p.passed ≤ p.passed) × (k * p.count ≤ p.count) × (p.count ≤ p.sum) × (p.passed + p.sum ≤ c.args.s)
-    = (
-      kept _ _ c.requires.2,
-      kept _ _ c.requires.2,
-      c.if-p.false,
-      in_sum c.if-s-left.false _ c.one_pair-p.ensures.sum_is c.one_pair-p.ensures.passed_is,
-    ) in
-    omega (arith, fits, c.requires)
-
-pub overflow_mul-keep : goal.overflow_mul-keep
-overflow_mul-keep c =
-    let fits :
-    let k = c.args.keep in
-    let p = c.one_pair-p.result in
-    (k * p.passed ≤ p.passed) × (k * p.count ≤ p.count) × (p.count ≤ p.sum) × (p.passed + p.sum ≤ c.args.s)
-    = (
-      kept _ _ c.requires.2,
-      kept _ _ c.requires.2,
-      c.if-p.false,
-      in_sum c.if-s-left.false _ c.one_pair-p.ensures.sum_is c.one_pair-p.ensures.passed_is,
-    ) in
-    omega (arith, fits, c.requires)
-
-pub overflow_add-p : goal.overflow_add-p
-overflow_add-p c =
-    let fits :
-    let k = c.args.keep in
-    let p = c.one_pair-p.result in
-    (k * p.passed ≤ p.passed) × (k * p.count ≤ p.count) × (p.count ≤ p.sum) × (p.passed + p.sum ≤ c.args.s)
-    = (
-      kept _ _ c.requires.2,
-      kept _ _ c.requires.2,
-      c.if-p.false,
-      in_sum c.if-s-left.false _ c.one_pair-p.ensures.sum_is c.one_pair-p.ensures.passed_is,
-    ) in
+    let fits = pair_fit c.args.keep c.requires.2 c.if-s-left.false c.if-p.false c.one_pair-p.ensures in
     omega (arith, fits, c.requires)
 
 pub overflow_add-result-2 : goal.overflow_add-result-2
 overflow_add-result-2 c =
-    let fits :
-    let k = c.args.keep in
-    let p = c.one_pair-p.result in
-    (k * p.passed ≤ p.passed) × (k * p.count ≤ p.count) × (p.count ≤ p.sum) × (p.passed + p.sum ≤ c.args.s)
-    = (
-      kept _ _ c.requires.2,
-      kept _ _ c.requires.2,
-      c.if-p.false,
-      in_sum c.if-s-left.false _ c.one_pair-p.ensures.sum_is c.one_pair-p.ensures.passed_is,
-    ) in
+    let fits = pair_fit c.args.keep c.requires.2 c.if-s-left.false c.if-p.false c.one_pair-p.ensures in
     let z : c.either-2.result ≤ c.one_pair-p.result.sum = rw c.either-2.ensures (pick-le _ (omega (arith, fits)) (omega (arith, fits))) in
     omega (arith, fits, c.requires)
 

@@ -4,4 +4,4 @@ use Rattle.tree_whole.proofs.FewCounts.{quarters-put}
 use Rattle.tree_whole.proofs.sparse.spread.Goals as goal
 
 pub returns : goal.returns
-returns c = quarters-put c.args.x c.args.out.now c.args.from (omega (arith, c.requires.0, c.requires.1))
+returns c = rw c.from-four.ensures (quarters-put c.args.x c.args.out.now c.args.from (omega arith))

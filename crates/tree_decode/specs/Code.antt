@@ -1,0 +1,2 @@
+-- What one function hands the next.
+pub mod Coded
