@@ -8,16 +8,16 @@ use native.Mathlib.Omega.{arith}
 use lib.ListN.{length, get_or}
 use lib.Dec.{eqb, leb, ltb}
 use borrow.Author.Tests.{le-leb, lt-ltb, leb-true, ltb-true, eq-eqb, ne_eqb, eqb-true}
-use Rattle.lists.specs.Lists.{every, part}
+use Rattle.lists.specs.Lists.{part}
 use Rattle.lists.proofs.Parts.{length_part, part-more}
-use Rattle.lists.proofs.Tests.{agree, each, every-no, every_of}
+use Rattle.lists.proofs.Tests.{each, every-no, every_of}
 use Rattle.bits.specs.Numbers.{Number, number, number_at}
 use Rattle.image.specs.Check.{head_tests, headed, wide_right}
-use Rattle.image.specs.Code.Head.{HeadOf, HeadWith, Opened, Tailed, TailOf}
+use Rattle.image.specs.Code.Head.{HeadOf, HeadWith, Opened, TailOf}
 use Rattle.image.specs.Image.{bits_place, bytes_for, edition, header_length, max_hours, max_total, narrow_total, pages, size, total_width}
 use Rattle.image.specs.Read.{code_at, e_of, l_of, n_of, page_count_of, s_of, wide_of}
 use Rattle.image.proofs.Editions.{header-most}
-use Rattle.image.proofs.HeadLaws.{never, pages-le, too_short}
+use Rattle.image.proofs.HeadLaws.{pages-le, too_short}
 use Rattle.image.specs.declared.head.Head.{Head}
 use Rattle.image.specs.declared.head.Tail.{Tail}
 
@@ -26,27 +26,21 @@ refuted : (b : Bool) → (b ≡ true → ⊥) → b ≡ false
 refuted true h = absurd (h refl)
 refuted false h = refl
 
-pub unread : {s : List ℕ} {t : Tail} → t.ok ≡ false → headed s ≡ false → Tailed s t
-unread n w = record { fine = λ y. absurd (never (sym n ∙ y)); wrong = λ _. w }
-
 -- ---- edition 1
 pub narrow-read : (s : List ℕ) {t l : ℕ} → 16 ≤ length s → get_or s 0 0 ≡ 1 → Number s 8 4 t → Number s 12 4 l
-    → Tailed s (record { ok = true; total = t; bits = l; table = 16 })
+    → TailOf s (record { total = t; bits = l; table = 16 })
 unfolding wide_of wide_right s_of l_of
 narrow-read s {t} {l} long one g h =
     let w : wide_of s ≡ false = ap (λ (k : ℕ). eqb k 2) one in
     record {
-      fine = λ _. record {
-        edition-is = one ∙ ap edition (sym w);
-        long = omega (arith, ap header_length w);
-        right = ap (λ (b : Bool). wide_right b s) w;
-        total-is = g.is ∙ ap (λ (b : Bool). number_at s 8 (total_width b)) (sym w);
-        bits_is = h.is ∙ ap (λ (b : Bool). number_at s (bits_place b) 4) (sym w);
-        table_is = ap header_length (sym w);
-        total-small = omega (arith, g.small);
-        bits_small = omega (arith, h.small);
-      };
-      wrong = λ n. absurd (never (sym n));
+      edition-is = one ∙ ap edition (sym w);
+      long = omega (arith, ap header_length w);
+      right = ap (λ (b : Bool). wide_right b s) w;
+      total-is = g.is ∙ ap (λ (b : Bool). number_at s 8 (total_width b)) (sym w);
+      bits_is = h.is ∙ ap (λ (b : Bool). number_at s (bits_place b) 4) (sym w);
+      table_is = ap header_length (sym w);
+      total-small = omega (arith, g.small);
+      bits_small = omega (arith, h.small);
     }
 
 -- ---- edition 2
@@ -74,64 +68,47 @@ module _ (s : List ℕ) {t u z : ℕ} (two : get_or s 0 0 ≡ 2) (long : 24 ≤ 
       ∙ ap (λ (b : Bool). number_at s 8 (total_width b)) (sym (is_wide s two))
 
   -- the upper four bytes say whether S is in its range
-  right_is : every (leb 1 u ∷ leb u 255 ∷ eqb z 0 ∷ []) ≡ wide_right (wide_of s) s
+  right_then : wide_right (wide_of s) s ≡ true → (1 ≤ u) × (u ≤ 255) × (z ≡ 0)
   unfolding wide_right
-  right_is = agree (every (leb 1 u ∷ leb u 255 ∷ eqb z 0 ∷ [])) (wide_right true s) to from ∙ ap (λ (b : Bool). wide_right b s) (sym (is_wide s two))
-    where
-      to : every (leb 1 u ∷ leb u 255 ∷ eqb z 0 ∷ []) ≡ true → wide_right true s ≡ true
-      to q =
-          let w = each (leb 1 u ∷ leb u 255 ∷ eqb z 0 ∷ []) q in
-          let low = leb-true 1 u w.0 in
-          let high = leb-true u 255 w.1.0 in
-          every_of (ltb narrow_total (s_of s) ∷ leb (s_of s) max_total ∷ eqb (number_at s 20 4) 0 ∷ []) (
-            lt-ltb narrow_total (s_of s) (omega (arith, low, total-is)),
-            (
-              le-leb (s_of s) max_total (omega (arith, high, total-is, g.small)),
-              (
-                ap (λ (n : ℕ). eqb n 0) (sym k.is) ∙ w.1.1.0,
-                tt,
-              ),
-            ),
-          )
+  right_then q =
+      let w = each (ltb narrow_total (s_of s) ∷ leb (s_of s) max_total ∷ eqb (number_at s 20 4) 0 ∷ []) (ap (λ (b : Bool). wide_right b s) (sym (is_wide s two)) ∙ q) in
+      let low = ltb-true narrow_total (s_of s) w.0 in
+      let high = leb-true (s_of s) max_total w.1.0 in
+      (omega (arith, low, total-is, g.small), omega (arith, high, total-is), k.is ∙ eqb-true (number_at s 20 4) 0 w.1.1.0)
 
-      from : wide_right true s ≡ true → every (leb 1 u ∷ leb u 255 ∷ eqb z 0 ∷ []) ≡ true
-      from q =
-          let w = each (ltb narrow_total (s_of s) ∷ leb (s_of s) max_total ∷ eqb (number_at s 20 4) 0 ∷ []) q in
-          let low = ltb-true narrow_total (s_of s) w.0 in
-          let high = leb-true (s_of s) max_total w.1.0 in
-          every_of (leb 1 u ∷ leb u 255 ∷ eqb z 0 ∷ []) (
-            le-leb 1 u (omega (arith, low, total-is, g.small)),
-            (
-              le-leb u 255 (omega (arith, high, total-is)),
-              (
-                ap (λ (n : ℕ). eqb n 0) k.is ∙ w.1.1.0,
-                tt,
-              ),
-            ),
-          )
+  then_right : 1 ≤ u → u ≤ 255 → z ≡ 0 → wide_right (wide_of s) s ≡ true
+  unfolding wide_right
+  then_right low high zero =
+      ap (λ (b : Bool). wide_right b s) (is_wide s two)
+      ∙ every_of (ltb narrow_total (s_of s) ∷ leb (s_of s) max_total ∷ eqb (number_at s 20 4) 0 ∷ []) (
+        lt-ltb narrow_total (s_of s) (omega (arith, low, total-is)),
+        (
+          le-leb (s_of s) max_total (omega (arith, high, total-is, g.small)),
+          (
+            eq-eqb (number_at s 20 4) 0 (sym k.is ∙ zero),
+            tt,
+          ),
+        ),
+      )
 
-  pub wide-wrong : every (leb 1 u ∷ leb u 255 ∷ eqb z 0 ∷ []) ≡ false → headed s ≡ false
+  pub wide-wrong : ((1 ≤ u) × (u ≤ 255) × (z ≡ 0) → ⊥) → headed s ≡ false
   unfolding headed
-  wide-wrong q = every-no (head_tests s) 7 (sym right_is ∙ q)
+  wide-wrong q = every-no (head_tests s) 7 (refuted (wide_right (wide_of s) s) (λ r. q (right_then r)))
 
-  pub wide_read : {l : ℕ} → every (leb 1 u ∷ leb u 255 ∷ eqb z 0 ∷ []) ≡ true → Number s 16 4 l
-      → Tailed s (record { ok = true; total = t + 4294967296 * u; bits = l; table = 24 })
+  pub wide_read : {l : ℕ} → 1 ≤ u → u ≤ 255 → z ≡ 0 → Number s 16 4 l
+      → TailOf s (record { total = t + 4294967296 * u; bits = l; table = 24 })
   unfolding l_of
-  wide_read {l} q b =
+  wide_read {l} low high zero b =
       let w : wide_of s ≡ true = is_wide s two in
-      let high = leb-true u 255 (each (leb 1 u ∷ leb u 255 ∷ eqb z 0 ∷ []) q).1.0 in
       record {
-        fine = λ _. record {
-          edition-is = two ∙ ap edition (sym w);
-          long = omega (arith, ap header_length w);
-          right = sym right_is ∙ q;
-          total-is = total-is;
-          bits_is = b.is ∙ ap (λ (c : Bool). number_at s (bits_place c) 4) (sym w);
-          table_is = ap header_length (sym w);
-          total-small = omega (arith, high, g.small);
-          bits_small = omega (arith, b.small);
-        };
-        wrong = λ n. absurd (never (sym n));
+        edition-is = two ∙ ap edition (sym w);
+        long = omega (arith, ap header_length w);
+        right = then_right low high zero;
+        total-is = total-is;
+        bits_is = b.is ∙ ap (λ (c : Bool). number_at s (bits_place c) 4) (sym w);
+        table_is = ap header_length (sym w);
+        total-small = omega (arith, high, g.small);
+        bits_small = omega (arith, b.small);
       }
 
 -- ---- neither
@@ -162,18 +139,11 @@ first-bytes (a ∷ b ∷ c ∷ d ∷ s) {w} bytes l g =
     let q = first-alg a b c d w (bytes 0) g.is in
     record { low = q.0; high = q.1 }
 
-module _ {s : List ℕ} {w n : ℕ} {t : Tail} (f : First s w) (m : Number s 4 4 n) (r : Tailed s t) where
-  abbrev pub four : List Bool
-  four = t.ok ∷ leb 2 (w / 256) ∷ leb (w / 256) 8 ∷ leb n max_hours ∷ []
-
-  pub four-wrong : every four ≡ false → headed s ≡ false
+module _ {s : List ℕ} {w n : ℕ} (f : First s w) (m : Number s 4 4 n) where
+  pub three-wrong : ((2 ≤ w / 256) × (w / 256 ≤ 8) × (n ≤ max_hours) → ⊥) → headed s ≡ false
   unfolding headed e_of n_of
-  four-wrong q = refuted (headed s) no
+  three-wrong q = refuted (headed s) no
     where
-      ok-then : headed s ≡ true → (b : Bool) → t.ok ≡ b → t.ok ≡ true
-      ok-then h true e = e
-      ok-then h false e = absurd (never (sym (r.wrong e) ∙ h))
-
       no : headed s ≡ true → ⊥
       no h =
           let v = each (head_tests s) h in
@@ -182,30 +152,10 @@ module _ {s : List ℕ} {w n : ℕ} {t : Tail} (f : First s w) (m : Number s 4 4
           let second = eqb-true (get_or s 2 0) 0 v.1.1.1.1.0 in
           let third = eqb-true (get_or s 3 0) 0 v.1.1.1.1.1.0 in
           let hours = leb-true (n_of s) max_hours v.1.1.1.1.1.1.0 in
-          never (sym q ∙ every_of four (
-            ok-then h t.ok refl,
-            (
-              le-leb 2 (w / 256) (omega (arith, f.high)),
-              (
-                le-leb (w / 256) 8 (omega (arith, f.high, second, third)),
-                (
-                  le-leb n max_hours (omega (arith, m.is)),
-                  tt,
-                ),
-              ),
-            ),
-          ))
+          q (omega (arith, f.high), omega (arith, f.high, second, third), omega (arith, m.is))
 
-  module _ (q : every four ≡ true) where
-    tail-right : TailOf s t
-    tail-right = r.fine (each four q).0
-
-    pub e-high : w / 256 ≤ 8
-    e-high = leb-true (w / 256) 8 (each four q).1.1.0
-
-    pub hours-few : n ≤ max_hours
-    hours-few = leb-true n max_hours (each four q).1.1.1.0
-
+  -- past these three tests
+  module _ {t : Tail} (tail-right : TailOf s t) (e-low : 2 ≤ w / 256) (e-high : w / 256 ≤ 8) (hours-few : n ≤ max_hours) where
     pub table-low : t.table ≤ 24
     table-low = omega (arith, tail-right.table_is, header-most (wide_of s))
 
@@ -246,9 +196,10 @@ module _ {s : List ℕ} {w n : ℕ} {t : Tail} (f : First s w) (m : Number s 4 4
       length-wrong e g =
           every-no (head_tests s) 8 (ne_eqb (length s) (size (wide_of s) (e_of s) (n_of s) (l_of s)) (λ y. g (y ∙ sym (e ∙ head-end))))
 
-      pub opened : {z : ℕ} → z ≡ h.code / 8 + (h.bits + 7) / 8 → length s ≡ z → Opened s h
+      pub opened : {z : ℕ} → ((i : ℕ) → get_or s i 0 < 256) → z ≡ h.code / 8 + (h.bits + 7) / 8 → length s ≡ z → Opened s h
       unfolding headed e_of n_of
-      opened e y = record {
+      opened b e y = record {
+        bytes = b;
         head = head-is;
         passed =
             every_of (head_tests s) (
@@ -256,7 +207,7 @@ module _ {s : List ℕ} {w n : ℕ} {t : Tail} (f : First s w) (m : Number s 4 4
               (
                 eq-eqb (get_or s 0 0) (edition (wide_of s)) tail-right.edition-is,
                 (
-                  le-leb 2 (e_of s) (omega (arith, e-is, leb-true 2 (w / 256) (each four q).1.0)),
+                  le-leb 2 (e_of s) (omega (arith, e-is)),
                   (
                     le-leb (e_of s) 8 (omega (arith, e-is, e-high)),
                     (

@@ -4,7 +4,8 @@ use Rattle.answers.specs.Refusals.{buffer_short, list_too_long, page_size_wrong,
 use Rattle.lists.specs.Lists.{sum, pick}
 use Rattle.image.specs.Image.{image, max_hours, max_total}
 use Rattle.answers.specs.Image.{Reply, Verdict, fails, given, holds, refused, told}
-use Rattle.answers.specs.declared.image.Answer.{Answer}
+use Rattle.std.specs.Prelude.{Result as Answer}
+use Rattle.answers.specs.declared.refusal.Refusal.{Refusal}
 
 -- length: 1, 'e outside 2 to 8'; 2, 'over 65,536 counts'; 3, the total 'above 2^40 - 1'; else 'the image's length in bytes'
 unfoldable pub length_call : ℕ → List ℕ → Reply
@@ -19,7 +20,7 @@ pub record Result : Type 0 where
   pub bytes : List ℕ
 
 -- the code's answer in document 01's numbers, with the buffer
-abbrev pub result_of : Answer → List ℕ → Result
+abbrev pub result_of : Answer ℕ Refusal → List ℕ → Result
 result_of a out = record { reply = told a; bytes = out }
 
 -- 'A refusal is its number alone; no byte changes.'

@@ -1,10 +1,12 @@
 // The header of an image of either edition, read and tested once, and what it says of the image's parts.
-ghost use Rattle.std.specs.Prelude.{Bool, false, ◌≡◌, ◌+◌, ◌*◌, ◌≤◌, ◌<◌, length, get_or};
-ghost use Rattle.lists.specs.Lists.{every};
+ghost use Rattle.std.specs.Prelude.{Bool, ◌≡◌, ◌+◌, ◌*◌, ◌≤◌, ◌<◌, length, get_or};
 ghost use Rattle.image.specs.Image.{header_length, max_hours, pages, size};
-ghost use Rattle.image.specs.Code.Head.{HeadWith, Opens, Tailed};
+ghost use Rattle.image.specs.Code.Head.{HeadWith, TailOf, Tailed};
+ghost use Rattle.image.specs.Code.Opened.{Opens};
 
-use bits::numbers::get4;
+use crate::opened::Image;
+use answers::refusal::Refusal;
+use bits::numbers::get;
 
 // The header's fields e, N, S and L; how many pages there are, at which byte the table of their start bits stands, and where the code starts
 // among the bits of all the bytes.
@@ -34,13 +36,6 @@ impl Head {
     pub const NARROW_TOTAL: u64 = 4294967295;
 }
 
-// What bytes are by their header and length: an image, or refused 5.
-#[derive(Clone, Copy)]
-pub enum Opening {
-    Image(Head),
-    Wrong,
-}
-
 // How many pages of 2^e counts n counts have.
 pub fn pages_of(e: u32, n: u64) -> u64
     requires { (e ≤ 8) × (n < 4294967296) }
@@ -66,20 +61,6 @@ pub fn size_of(table: usize, e: u32, n: u64, l: u64) -> u64
     (table_at(table, pages_of(e, n)) as u64) + (l + 7) / 8
 }
 
-// Whether all tests of a table hold.
-fn all(tests: &[bool]) -> bool
-    ensures { result ≡ every tests.now }
-{
-    let mut i = 0;
-    while i < tests.len() {
-        if !tests[i] {
-            return false;
-        }
-        i = i + 1;
-    }
-    true
-}
-
 // How long an edition's header is. Edition 2 is wide.
 pub fn header_size(wide: bool) -> usize
     ensures { (result ≡ header_length wide) × (result ≤ 24) }
@@ -87,36 +68,22 @@ pub fn header_size(wide: bool) -> usize
     if wide { Head::WIDE_SIZE } else { Head::SIZE }
 }
 
-// What stands behind N in the header, where the editions differ: S, L, and the byte where the header ends and the table starts. Where it is
-// wrong, ok is false and the rest says nothing.
+// What stands behind N in the header, where the editions differ: S, L, and the byte where the header ends and the table starts.
 #[derive(Clone, Copy)]
 struct Tail {
-    ok: bool,
     total: u64,
     bits: u64,
     table: usize,
 }
 
-fn wrong_tail() -> Tail
-    ensures { result.ok ≡ false }
-{
-    Tail {
-        ok: false,
-        total: 0,
-        bits: 0,
-        table: 0,
-    }
-}
-
 // Edition 1 has four bytes for S.
 fn narrow_tail(s: &[u8]) -> Tail
     requires { (16 ≤ length s.now) × (get_or s.now 0 0 ≡ 1) }
-    ensures { Tailed s.now result }
+    ensures { TailOf s.now result }
 {
-    let total = get4(s, 8);
-    let bits = get4(s, 12);
+    let total = get::<4>(s, 8);
+    let bits = get::<4>(s, 12);
     Tail {
-        ok: true,
         total,
         bits,
         table: Head::SIZE,
@@ -124,39 +91,37 @@ fn narrow_tail(s: &[u8]) -> Tail
 }
 
 // Edition 2 has eight for S, which is from 2^32 to 2^40 - 1, so that the upper four say 1 to 255, and four zero bytes behind L.
-fn wide_tail(s: &[u8]) -> Tail
+fn wide_tail(s: &[u8]) -> Option<Tail>
     requires { get_or s.now 0 0 ≡ 2 }
     ensures { Tailed s.now result }
 {
     if s.len() < Head::WIDE_SIZE {
-        return wrong_tail();
+        return None;
     }
-    let low = get4(s, 8);
-    let high = get4(s, 12);
-    let zeros = get4(s, 20);
-    if !all(&[1 <= high, high <= 255, zeros == 0]) {
-        return wrong_tail();
+    let low = get::<4>(s, 8);
+    let high = get::<4>(s, 12);
+    let zeros = get::<4>(s, 20);
+    if high < 1 || 255 < high || zeros != 0 {
+        return None;
     }
-    let bits = get4(s, 16);
-    Tail {
-        ok: true,
+    let bits = get::<4>(s, 16);
+    Some(Tail {
         total: low + 4294967296 * high,
         bits,
         table: Head::WIDE_SIZE,
-    }
+    })
 }
 
-fn tail_of(s: &[u8], edition: u64) -> Tail
+// The tail as the edition has it; there is no other edition.
+fn tail_of(s: &[u8], edition: u64) -> Option<Tail>
     requires { (16 ≤ length s.now) × (edition ≡ get_or s.now 0 0) }
     ensures { Tailed s.now result }
 {
-    if edition == 1 {
-        return narrow_tail(s);
+    match edition {
+        1 => Some(narrow_tail(s)),
+        2 => wide_tail(s),
+        _ => None,
     }
-    if edition == 2 {
-        return wide_tail(s);
-    }
-    wrong_tail()
 }
 
 // The whole header of e, N and a tail that is right.
@@ -179,23 +144,23 @@ fn head_of(e: u32, hours: u64, tail: Tail) -> Head
 
 // Reads the header of bytes and tests it and their length: refusal 5. Bytes 1 to 3, e and two zeros, are one number: e, if it is 8 at most. It
 // is kept small, so that the compiler joins it with every call.
-pub fn open_image(s: &[u8]) -> Opening
+pub fn open_image(s: &[u8]) -> Result<Image, Refusal>
     ensures { Opens s.now result }
 {
     if s.len() < Head::SIZE {
-        return Opening::Wrong;
+        return Err(Refusal::Header);
     }
-    let first = get4(s, 0);
-    let hours = get4(s, 4);
-    let tail = tail_of(s, first % 256);
+    let first = get::<4>(s, 0);
+    let hours = get::<4>(s, 4);
+    let tail = tail_of(s, first % 256).ok_or(Refusal::Header)?;
     let e = first / 256;
-    if !all(&[tail.ok, 2 <= e, e <= 8, hours <= Head::MAX_HOURS]) {
-        return Opening::Wrong;
+    if e < 2 || 8 < e || Head::MAX_HOURS < hours {
+        return Err(Refusal::Header);
     }
-    let h = head_of(e as u32, hours, tail);
-    let end = h.code / 8 + ((h.bits + 7) / 8) as usize;
+    let head = head_of(e as u32, hours, tail);
+    let end = head.code / 8 + ((head.bits + 7) / 8) as usize;
     if s.len() != end {
-        return Opening::Wrong;
+        return Err(Refusal::Header);
     }
-    Opening::Image(h)
+    Ok(Image { bytes: s, head })
 }

@@ -4,4 +4,5 @@
 #![tactic(auto)]
 
 pub mod head;
+pub mod opened;
 pub mod page;

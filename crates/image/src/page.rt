@@ -1,106 +1,76 @@
 // A page of an image: its root, the root before it, and the tests of both and of its tree.
-ghost use Rattle.std.specs.Prelude.{false, ◌≡◌, ◌+◌, ◌<◌};
+ghost use Rattle.std.specs.Prelude.{◌+◌, ◌<◌};
 ghost use Rattle.image.specs.Read.{page_count_of};
-ghost use Rattle.image.specs.Code.Head.{Opened};
 ghost use Rattle.image.specs.Code.Page.{BeforeAt, PageAt, Rooted, RootAt};
 
-use crate::head::{Head, table_at};
-use bits::numbers::get4;
+use crate::head::table_at;
+use crate::opened::Image;
+use bits::numbers::get;
 
-// A root that was read: its number, and where it ends in the code. Where it passes L, ok is false and the rest says nothing.
+// A root that was read: its number, and where it ends in the code.
 #[derive(Clone, Copy)]
 pub struct Root {
-    pub ok: bool,
     pub value: u64,
     pub end: u64,
 }
 
-// Page p's root.
-pub fn root_of(s: &[u8], h: Head, p: u64) -> Root
-    requires { Opened s.now h × (p < page_count_of s.now) }
-    ensures { RootAt s.now p result }
+// Page p's root, if it does not pass L.
+pub fn root_of(image: &Image, p: u64) -> Option<Root>
+    requires { p < page_count_of image.now.bytes.now }
+    ensures { RootAt image.now.bytes.now p result }
 {
-    let start = get4(s, table_at(h.table, p));
-    let w = reserve::digits_of(h.total);
-    let end = start + (w as u64);
-    if h.bits < end {
-        return Root {
-            ok: false,
-            value: 0,
-            end: 0,
-        };
+    let head = image.head;
+    let start = get::<4>(image.bytes, table_at(head.table, p));
+    let w = reserve::digits_of(head.total);
+    let end = start + u64::from(w);
+    if head.bits < end {
+        return None;
     }
-    let value = bits_field::get_field(s, h.code + (start as usize), w);
-    Root {
-        ok: true,
-        value,
-        end,
-    }
+    let value = bits_field::get_field(image.bytes, head.code + (start as usize), w);
+    Some(Root { value, end })
 }
 
 // The root of the page before page p: 0 before page 0.
-pub fn root_before(s: &[u8], h: Head, p: u64) -> Root
-    requires { Opened s.now h × (p < page_count_of s.now) }
-    ensures { BeforeAt s.now p result }
+pub fn root_before(image: &Image, p: u64) -> Option<Root>
+    requires { p < page_count_of image.now.bytes.now }
+    ensures { BeforeAt image.now.bytes.now p result }
 {
     if p == 0 {
-        return Root {
-            ok: true,
-            value: 0,
-            end: 0,
-        };
+        return Some(Root { value: 0, end: 0 });
     }
-    root_of(s, h, p - 1)
+    root_of(image, p - 1)
 }
 
 // A page without damage in its roots, whose tree does not pass L: the root before it, its sum, and where its tree starts among the bits of
-// all the bytes. For another page ok is false and the rest says nothing.
+// all the bytes.
 #[derive(Clone, Copy)]
 pub struct Page {
-    pub ok: bool,
     pub before: u64,
     pub sum: u64,
     pub at: usize,
 }
 
-fn damaged() -> Page
-    ensures { result.ok ≡ false }
+// The page between two roots, its own and the one before it, tested: none for damage. It reads nothing: its callers read both roots themselves,
+// so that the compiler keeps header, roots and page in registers. A function that reads two roots is too large for it to be joined with its
+// callers.
+pub fn page_between(image: &Image, own: Option<Root>, last: Option<Root>) -> Option<Page>
+    requires { Rooted image.now.bytes.now own last }
+    ensures { (a : Rooted image.now.bytes.now own last) → PageAt image.now.bytes.now a.p result }
 {
-    Page {
-        ok: false,
-        before: 0,
-        sum: 0,
-        at: 0,
-    }
-}
-
-// The page between two roots, its own and the one before it, tested. It reads nothing: its callers read both roots themselves, so that the
-// compiler keeps header, roots and page in registers. A function that reads two roots is too large for it to be joined with its callers.
-pub fn page_between(h: Head, own: Root, last: Root) -> Page
-    requires { Rooted h own last }
-    ensures { (a : Rooted h own last) → PageAt a.s a.p result }
-{
-    if !own.ok {
-        return damaged();
-    }
-    if !last.ok {
-        return damaged();
-    }
-    if h.total < own.value {
-        return damaged();
-    }
-    if own.value < last.value {
-        return damaged();
+    let head = image.head;
+    let own = own?;
+    let last = last?;
+    if head.total < own.value || own.value < last.value {
+        return None;
     }
     let sum = own.value - last.value;
-    if h.bits < own.end + (reserve::reserve_of(h.e, sum) as u64) {
-        return damaged();
+    if head.bits < own.end + (reserve::reserve_of(head.e, sum) as u64) {
+        return None;
     }
-    let at = h.code + (own.end as usize);
-    Page {
-        ok: true,
+    let at = head.code + (own.end as usize);
+    Some(Page {
         before: last.value,
         sum,
         at,
-    }
+    })
 }

@@ -2,31 +2,26 @@
 // blocks, whatever their pages. Behind the list's end a block has zeros.
 #![tactic(auto)]
 
-ghost use Rattle.std.specs.Prelude.{true, ◌≡◌, ◌*◌, ◌≤◌, replicate};
+ghost use Rattle.std.specs.Prelude.{◌≡◌, ◌*◌, ◌≤◌, replicate};
 ghost use Rattle.lists.specs.Lists.{window};
-ghost use Rattle.sum_table.specs.Code.Sums.{Sums};
-ghost use Rattle.image.specs.Check.{accepted};
-ghost use Rattle.image.specs.Code.Head.{HeadOf};
 ghost use Rattle.image.specs.Read.{list_of};
 
-use image::head::Head;
+use image::opened::Accepted;
 use image_page::page_counts;
-use lists::{excess, smaller};
 use reserve::power;
+use sum_table::SumTable;
 
-// Puts the counts of block b of the image s, whose header is h, into an array of zeros. The table of small sums is lent.
-pub fn unpack(s: &[u8], table: &[u8; 864], h: Head, b: usize, counts: &mut [u32; 256])
-    requires { (accepted s.now ≡ true) × HeadOf s.now h × Sums table.now × (counts.old ≡ replicate 256 0) × (b ≤ 256) }
-    ensures { counts.new ≡ window (list_of s.now) (256 * b) 256 }
+// Puts the counts of block b of the image into an array of zeros. The table of small sums is lent.
+pub fn unpack(image: &Accepted, table: &SumTable, b: usize, counts: &mut [u32; 256])
+    requires { (counts.old ≡ replicate 256 0) × (b ≤ 256) }
+    ensures { counts.new ≡ window (list_of image.now.bytes.now) (256 * b) 256 }
 {
-    let w = reserve::digits_of(h.total);
-    let m = power(h.e) as usize;
-    let many = power(8 - h.e) as usize;
+    let e = image.head.e;
+    let m = power(e) as usize;
+    let many = power(8 - e) as usize;
     let first = many * b;
-    let some = smaller(excess(h.pages as usize, first), many);
-    let mut j = 0;
-    while j < some {
-        page_counts(s, table, h.table, h.code, w, h.e, first + j, counts, m * j);
-        j = j + 1;
+    let some = (image.head.pages as usize).saturating_sub(first).min(many);
+    for j in 0..some {
+        page_counts(image, table, first + j, counts, m * j);
     }
 }

@@ -4,111 +4,90 @@
 ghost use Rattle.std.specs.Prelude.{◌&&◌, ◌≡◌, ◌+◌, ◌-◌, ◌*◌, ◌≤◌};
 ghost use Rattle.lists.specs.Counts.{max_count, within};
 ghost use Rattle.bits.specs.Bits.{bits};
-ghost use Rattle.reserve_table.specs.Code.Tabled.{Tabled};
 ghost use Rattle.tree.specs.Code.Exact.{clear};
 ghost use Rattle.image.specs.Image.{bytes_for};
 ghost use Rattle.image.specs.Read.{n_of, s_of, l_of, page_count_of, code_at, list_of};
 ghost use Rattle.image.specs.Check.{accepted, check as check_of};
 ghost use Rattle.answers.specs.Image.{ruled};
-ghost use Rattle.image.specs.Code.Head.{Opened};
 ghost use Rattle.image_test.specs.Code.Test.{pages_from, says, sum_at};
 ghost use Rattle.image_check.specs.Code.Access.{Accesses};
 
-use answers::image::Verdict;
-use answers::refusal;
-use image::head::{Head, Opening, open_image};
+use answers::image::Contents;
+use answers::refusal::Refusal;
+use image::head::{Head, open_image};
+use image::opened::{Accepted, Image};
 use image_query::look;
 use image_test::page_test;
+use reserve_table::ReserveTable;
 use tree_lowest::zero_bits;
 
 // Whether each page passes with no count above widest, all L bits are used, and the last root is S.
-fn pages_pass(s: &[u8], table: &[u8; 512], h: Head, widest: u64) -> bool
-    requires { Opened s.now h × Tabled table.now }
-    ensures { result ≡ pages_from widest s.now (page_count_of s.now) 0 0 0 }
+fn pages_pass(image: &Image, table: &ReserveTable, widest: u64) -> bool
+    ensures { result ≡ pages_from widest image.now.bytes.now (page_count_of image.now.bytes.now) 0 0 0 }
 {
-    let n = h.pages;
-    let mut p = 0;
     let mut end = 0;
     let mut root = 0;
-    while p < n {
-        let t = page_test(s, table, h, p, end, root, widest);
-        if !t.ok {
+    for p in 0..image.head.pages {
+        let Some(t) = page_test(image, table, p, end, root, widest) else {
             return false;
-        }
+        };
         end = t.end;
         root = t.root;
-        p = p + 1;
     }
-    if end != h.bits {
-        return false;
-    }
-    root == h.total
+    end == image.head.bits && root == image.head.total
 }
 
 // Whether the reading at N is S, so that the hours from N on are 0.
-fn rest_zero(s: &[u8], h: Head) -> bool
-    requires { Opened s.now h }
-    ensures { result ≡ says (sum_at s.now (n_of s.now)) (s_of s.now) }
+fn rest_zero(image: &Image) -> bool
+    ensures { result ≡ says (sum_at image.now.bytes.now (n_of image.now.bytes.now)) (s_of image.now.bytes.now) }
 {
-    if h.hours == 0 {
-        return h.total == 0;
+    let head = image.head;
+    if head.hours == 0 {
+        return head.total == 0;
     }
-    look(s, h, h.hours - 1, 1) == h.total
+    look(image, head.hours - 1, 1) == head.total
 }
 
 // Whether the last byte's other bits are 0.
-fn fill_zero(s: &[u8], h: Head) -> bool
-    requires { Opened s.now h }
-    ensures { result ≡ clear (bits s.now) (code_at s.now + l_of s.now)
-        (8 * bytes_for (l_of s.now) - l_of s.now) }
+fn fill_zero(image: &Image) -> bool
+    ensures { let s = image.now.bytes.now in result ≡ clear (bits s) (code_at s + l_of s) (8 * bytes_for (l_of s) - l_of s) }
 {
-    let end = h.code + (h.bits as usize);
-    let spare = 8 * s.len() - end;
-    zero_bits(s, end, spare)
+    let end = image.head.code + (image.head.bits as usize);
+    let spare = 8 * image.bytes.len() - end;
+    zero_bits(image.bytes, end, spare)
 }
 
-// Whether an image with header h is the writer's and has no count above widest. All counts are looked at in the one pass of the check.
-pub fn passes(s: &[u8], h: Head, widest: u64) -> bool
-    requires { Opened s.now h × (widest ≤ max_count) }
-    ensures { result ≡ (accepted s.now && within widest (list_of s.now)) }
+// Whether an image is the writer's and has no count above widest. All counts are looked at in the one pass of the check.
+pub fn passes(image: &Image, widest: u64) -> bool
+    requires { widest ≤ max_count }
+    ensures { result ≡ (accepted image.now.bytes.now && within widest (list_of image.now.bytes.now)) }
 {
-    let table = reserve_table::table();
-    if !pages_pass(s, &table, h, widest) {
-        return false;
-    }
-    if !rest_zero(s, h) {
-        return false;
-    }
-    fill_zero(s, h)
-}
-
-// The header of an image that the check accepts, or the number of the check's refusal.
-#[derive(Clone, Copy)]
-pub enum Access {
-    Image(Head),
-    Refused(u32),
+    let table = ReserveTable::new();
+    pages_pass(image, &table, widest) && rest_zero(image) && fill_zero(image)
 }
 
 // Opens an image and checks it: 5 for a wrong header or length, 6 for bytes that are not the writer's. Its limit is one that no count is
 // above.
-pub fn open_accepted(s: &[u8]) -> Access
+pub fn open_accepted(s: &[u8]) -> Result<Accepted, Refusal>
     ensures { Accesses s.now result }
 {
-    let Opening::Image(h) = open_image(s) else {
-        return Access::Refused(refusal::HEADER);
-    };
-    if !passes(s, h, Head::MAX_COUNT) {
-        return Access::Refused(refusal::BODY);
+    let image = open_image(s)?;
+    if !passes(&image, Head::MAX_COUNT) {
+        return Err(Refusal::Body);
     }
-    Access::Image(h)
+    Ok(Accepted {
+        bytes: image.bytes,
+        head: image.head,
+    })
 }
 
 // The check: N and S of an image, or a refusal.
-pub fn check(s: &[u8]) -> Verdict
+pub fn check(s: &[u8]) -> Result<Contents, Refusal>
     ensures { ruled result ≡ check_of s.now }
 {
-    match open_accepted(s) {
-        Access::Refused(k) => Verdict::Refused(k),
-        Access::Image(h) => Verdict::Holds(h.hours, h.total),
-    }
+    let head = open_accepted(s)?.head;
+    Ok(Contents {
+        hours: head.hours,
+        total: head.total,
+    })
 }

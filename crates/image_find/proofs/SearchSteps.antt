@@ -1,6 +1,6 @@
 -- Reach, step by step, over plain numbers. Assumes nothing.
 use mathlib.Core.Path.{◌≡◌, refl, sym, ap, ap₂, ◌∙◌, subst}
-use mathlib.Core.Bool.{Bool, true, false}
+use mathlib.Core.Bool.{Bool, true, false, not}
 use mathlib.Core.List.{List}
 use Prim.Native.Nat.{ℕ, suc, ◌+◌, ◌-◌, ◌*◌, ◌^◌, ◌≤◌, ◌<◌}
 use native.Mathlib.Nat.{mul-le-mul_right}
@@ -8,6 +8,7 @@ use native.Mathlib.Numerals.{add-one}
 use native.Mathlib.Omega.{arith}
 use native.Mathlib.Decide.{dec_le}
 use lib.ListN.{length}
+use Rattle.std.specs.Prelude.{Some, None}
 use lib.Pow.{pow_mono}
 use borrow.Author.Tests.{le-leb, lt-leb}
 use Rattle.lists.specs.Lists.{pick}
@@ -18,12 +19,12 @@ use Rattle.tree.specs.Read.{Sought, nowhere, at-index, seek}
 use Rattle.image.specs.Check.{accepted, headed}
 use Rattle.image.specs.Image.{IsImage, pages}
 use Rattle.image.specs.Code.Head.{Opened}
-use Rattle.image.specs.Code.Page.{PageAt, RootAt}
+use Rattle.image.specs.Code.Page.{PageOf, RootAt, RootOf}
 use Rattle.image.specs.Query.{page_fine, page_tests}
 use Rattle.image.specs.Reach.{Reach, above-total, damage, header-wrong}
 use Rattle.image.specs.Read.{before_of, e_of, list_of, n_of, page_count_of, root_at, s_of, sum_of, tree_at}
 use Rattle.answers.specs.Image.{given, refused}
-use Rattle.image_find.specs.Code.Span.{Between, Hit, Narrowable, Narrowed}
+use Rattle.image_find.specs.Code.Span.{Between, HitAt, Narrowable, Narrowed}
 use Rattle.image_find.specs.Code.Step.{placed, reach_from}
 use Rattle.image.proofs.DamageLaws.{is_within}
 use Rattle.image.proofs.HeadLaws.{bounds, never}
@@ -73,59 +74,47 @@ module _ {s : List ℕ} {h : Head} {q : ℕ} {at : Span} (o : Opened s h) (b : B
   pub narrowable : at.lo < at.hi → Narrowable q at
   narrowable l = record { many = l; few = omega (arith, b.inside, (bounds s h o).few); low = b.low; high = b.high; small = b.small }
 
-  module _ {m : ℕ} {t : Root} (l : at.lo ≤ m) (u : m < at.hi) (rt : RootAt s m t) where
-    pub narrow-bad : {r : Span} → r.ok ≡ false → t.ok ≡ false → Narrowed s q at r
+  module _ {m : ℕ} (l : at.lo ≤ m) (u : m < at.hi) where
+    pub narrow-bad : RootAt s m None → accepted s ≡ false
     unfolding page_fine
-    narrow-bad e f = record {
-      damage = λ _. not-accepted s (λ a. never (sym f ∙ rt.ok-is ∙ (each (page_tests s m) (fine s a m (omega (arith, b.inside)))).0));
-      between = λ n. absurd (never (sym e ∙ n));
-      fewer = λ n. absurd (never (sym e ∙ n));
-    }
+    narrow-bad e = not-accepted s (λ a. never (sym (ap not e) ∙ (each (page_tests s m) (fine s a m (omega (arith, b.inside)))).0))
 
-    module _ (ok : t.ok ≡ true) where
+    module _ {t : Root} (rt : RootOf s m t) where
       value-small : t.value < 1099511627776
-      value-small = omega (arith, rt.value-is ok, root-small s m (bounds s h o).narrow)
+      value-small = omega (arith, rt.value-is, root-small s m (bounds s h o).narrow)
 
-      pub narrow-left : q ≤ t.value → Narrowed s q at (record { ok = true; lo = at.lo; hi = m; below = at.below; above = t.value })
-      narrow-left k = record {
-        damage = λ n. absurd (never (sym n));
-        between = λ _. record {
+      pub narrow-left : q ≤ t.value → Narrowed s q at (Some (record { lo = at.lo; hi = m; below = at.below; above = t.value }))
+      narrow-left k = (
+        record {
           ordered = l;
           inside = omega (arith, b.inside);
           before = b.before;
-          reaches = λ _. omega (arith, rt.value-is ok);
+          reaches = λ _. omega (arith, rt.value-is);
           low = b.low;
           high = k;
           small = omega (arith, value-small);
-        };
-        fewer = λ _. omega arith;
-      }
+        },
+        omega arith,
+      )
 
-      pub narrow-right : t.value < q → Narrowed s q at (record { ok = true; lo = m + 1; hi = at.hi; below = t.value; above = at.above })
+      pub narrow-right : t.value < q → Narrowed s q at (Some (record { lo = m + 1; hi = at.hi; below = t.value; above = at.above }))
       unfolding before_of
-      narrow-right k = record {
-        damage = λ n. absurd (never (sym n));
-        between = λ _. record {
+      narrow-right k = (
+        record {
           ordered = omega arith;
           inside = b.inside;
-          before = omega (arith, rt.value-is ok, ap (before_of s) (add-one m));
+          before = omega (arith, rt.value-is, ap (before_of s) (add-one m));
           reaches = b.reaches;
           low = k;
           high = b.high;
           small = b.small;
-        };
-        fewer = λ _. omega arith;
-      }
+        },
+        omega arith,
+      )
 
 -- ---- the search
-pub hit-none : {s : List ℕ} {q : ℕ} {r : Span} → r.ok ≡ false → accepted s ≡ false → Hit s q r
-hit-none e a = record { damage = λ _. a; between = λ n. absurd (never (sym e ∙ n)); one = λ n. absurd (never (sym e ∙ n)) }
-
-pub hit-one : {s : List ℕ} {q : ℕ} {r : Span} → r.ok ≡ true → Between s q r → r.hi ≤ r.lo → Hit s q r
-hit-one e b l = record { damage = λ n. absurd (never (sym n ∙ e)); between = λ _. b; one = λ _. l }
-
 pub whole : (s : List ℕ) (q n t : ℕ) → 1 ≤ q → q ≤ t → t < 1099511627776 → n ≡ page_count_of s → (n ≡ 0 → ⊥)
-    → Between s q (record { ok = true; lo = 0; hi = n - 1; below = 0; above = t })
+    → Between s q (record { lo = 0; hi = n - 1; below = 0; above = t })
 unfolding before_of
 whole s q n t l m u e f = record {
   ordered = omega arith;
@@ -158,23 +147,22 @@ found-six s h o q w a = damage o.passed (omega (arith, o.head.total-is)) a
 pub page-in : {s : List ℕ} {q : ℕ} {at : Span} → Between s q at → at.lo < page_count_of s
 page-in b = omega (arith, b.inside, b.ordered)
 
--- the page that was found, and what was read of it
-pub record AtPage (s : List ℕ) (h : Head) (q : ℕ) (at : Span) (r : Page) : Type 0 where
+-- the image and the page of it that was found
+pub record Found (s : List ℕ) (h : Head) (q : ℕ) (at : Span) : Type 0 where
   pub opened : Opened s h
   pub within : q ≤ h.total
-  pub between : Between s q at
-  pub one : at.hi ≤ at.lo
-  pub page : PageAt s at.lo r
+  pub hit : HitAt s q at
 
-module _ {s : List ℕ} {h : Head} {q : ℕ} {at : Span} {r : Page} (g : AtPage s h q at r) where
+-- a page of it has damage
+pub page-six : {s : List ℕ} {h : Head} {q : ℕ} {at : Span} → Found s h q at → page_fine s at.lo ≡ false → Reach s q (refused 6)
+page-six {s} {h} {q} {at} g e = found-six s h g.opened q g.within (not-accepted s (λ a. never (sym e ∙ fine s a at.lo (page-in g.hit.between))))
+
+module _ {s : List ℕ} {h : Head} {q : ℕ} {at : Span} {r : Page} (g : Found s h q at) (pr : PageOf s at.lo r) where
   abbrev o : Opened s h
   o = g.opened
 
   abbrev b : Between s q at
-  b = g.between
-
-  abbrev pr : PageAt s at.lo r
-  pr = g.page
+  b = g.hit.between
 
   abbrev p : ℕ
   p = at.lo
@@ -182,70 +170,66 @@ module _ {s : List ℕ} {h : Head} {q : ℕ} {at : Span} {r : Page} (g : AtPage 
   six : accepted s ≡ false → Reach s q (refused 6)
   six = found-six s h o q g.within
 
-  pub page-six : r.ok ≡ false → Reach s q (refused 6)
-  page-six e = six (not-accepted s (λ a. never (sym e ∙ pr.ok-is ∙ fine s a p (page-in b))))
-
-  module _ (ok : r.ok ≡ true) where
-    root_is : r.before + r.sum ≡ root_at s p
-    unfolding page_fine sum_of
-    root_is =
-        omega (
-          arith,
-          is_within (before_of s p) (root_at s p) (each (page_tests s p) (sym pr.ok-is ∙ ok)).1.1.1.1.0,
-          pr.before-is ok,
-          pr.sum_is ok,
-        )
-
-    pub above : r.before < q
-    above = omega (arith, pr.before-is ok, b.before)
-
-    -- only the image's last page can have a root below q, and then it is not S
-    pub last-six : r.before + r.sum < q → Reach s q (refused 6)
-    unfolding before_of
-    last-six k = six (not-accepted s (λ a. go a (dec_le (p + 2) (page_count_of s))))
-      where
-        same : at.hi ≡ p
-        same = omega (arith, b.ordered, g.one)
-
-        go : accepted s ≡ true → Dec (p + 2 ≤ page_count_of s) → ⊥
-        go a (yes i) = omega (arith, root_is, b.reaches (omega (arith, i, same)), ap (root_at s) same)
-        go a (no i) =
-            omega (
-              arith,
-              root_is,
-              o.head.total-is,
-              last-root s a,
-              g.within,
-              ap (before_of s) {x = page_count_of s} {y = suc p} (omega (arith, page-in b)),
-            )
-
-    module _ {i m : ℕ} (em : m ≡ 2 ^ h.e) (ei : i ≡ search_answer (m * p) (seek h.e r.sum (bits s) r.at (q - r.before)))
-        (k : q ≤ r.before + r.sum) where
-      abbrev P : Sought
-      P = seek (e_of s) (sum_of s p) (bits s) (tree_at s p) (q - before_of s p)
-
-      found-is : i ≡ search_answer (2 ^ e_of s * p) P
-      found-is =
-          ei ∙ ap₂ (λ (z e : ℕ). search_answer (z * p) (seek e r.sum (bits s) r.at (q - r.before))) (em ∙ ap (λ (z : ℕ). 2 ^ z) o.head.e-is)
-          o.head.e-is
-          ∙ (λ j. search_answer (2 ^ e_of s * p) (seek (e_of s) (pr.sum_is ok j) (bits s) (pr.at-is ok j) (q - pr.before-is ok j)))
-
-      from_is : reach_from s q p ≡ placed (2 ^ e_of s * p) (n_of s) P
-      unfolding reach_from pick
-      from_is = rw (sym pr.ok-is ∙ ok)
-
-      answers : Reach s q (reach_from s q p)
-      answers = reach-found s q p o.passed (omega (arith, o.head.total-is, g.within)) (page-in b) b.before (omega (arith, root_is))
-
-      spots : (i ≤ n_of s → placed (2 ^ e_of s * p) (n_of s) P ≡ given i) × (n_of s < i → placed (2 ^ e_of s * p) (n_of s) P ≡ refused 6)
-      spots = spot (2 ^ e_of s * p) (n_of s) i P (omega (arith, o.head.hours-is, o.head.hours-small)) found-is
-
-      -- the index that the search tells, or damage if it is past the hours
-      pub index : (i ≤ h.hours → Reach s q (given i)) × (h.hours < i → Reach s q (refused 6))
-      index = (
-        (λ (n : i ≤ h.hours). subst (Reach s q) (from_is ∙ spots.0 (omega (arith, o.head.hours-is))) answers),
-        (λ (n : h.hours < i). subst (Reach s q) (from_is ∙ spots.1 (omega (arith, o.head.hours-is))) answers),
+  root_is : r.before + r.sum ≡ root_at s p
+  unfolding page_fine sum_of
+  root_is =
+      omega (
+        arith,
+        is_within (before_of s p) (root_at s p) (each (page_tests s p) pr.fine).1.1.1.1.0,
+        pr.before-is,
+        pr.sum_is,
       )
+
+  pub above : r.before < q
+  above = omega (arith, pr.before-is, b.before)
+
+  -- only the image's last page can have a root below q, and then it is not S
+  pub last-six : r.before + r.sum < q → Reach s q (refused 6)
+  unfolding before_of
+  last-six k = six (not-accepted s (λ a. go a (dec_le (p + 2) (page_count_of s))))
+    where
+      same : at.hi ≡ p
+      same = omega (arith, b.ordered, g.hit.one)
+
+      go : accepted s ≡ true → Dec (p + 2 ≤ page_count_of s) → ⊥
+      go a (yes i) = omega (arith, root_is, b.reaches (omega (arith, i, same)), ap (root_at s) same)
+      go a (no i) =
+          omega (
+            arith,
+            root_is,
+            o.head.total-is,
+            last-root s a,
+            g.within,
+            ap (before_of s) {x = page_count_of s} {y = suc p} (omega (arith, page-in b)),
+          )
+
+  module _ {i m : ℕ} (em : m ≡ 2 ^ h.e) (ei : i ≡ search_answer (m * p) (seek h.e r.sum (bits s) r.at (q - r.before)))
+      (k : q ≤ r.before + r.sum) where
+    abbrev P : Sought
+    P = seek (e_of s) (sum_of s p) (bits s) (tree_at s p) (q - before_of s p)
+
+    found-is : i ≡ search_answer (2 ^ e_of s * p) P
+    found-is =
+        ei ∙ ap₂ (λ (z e : ℕ). search_answer (z * p) (seek e r.sum (bits s) r.at (q - r.before))) (em ∙ ap (λ (z : ℕ). 2 ^ z) o.head.e-is)
+        o.head.e-is
+        ∙ (λ j. search_answer (2 ^ e_of s * p) (seek (e_of s) (pr.sum_is j) (bits s) (pr.at-is j) (q - pr.before-is j)))
+
+    from_is : reach_from s q p ≡ placed (2 ^ e_of s * p) (n_of s) P
+    unfolding reach_from pick
+    from_is = rw pr.fine
+
+    answers : Reach s q (reach_from s q p)
+    answers = reach-found s q p o.passed (omega (arith, o.head.total-is, g.within)) (page-in b) b.before (omega (arith, root_is))
+
+    spots : (i ≤ n_of s → placed (2 ^ e_of s * p) (n_of s) P ≡ given i) × (n_of s < i → placed (2 ^ e_of s * p) (n_of s) P ≡ refused 6)
+    spots = spot (2 ^ e_of s * p) (n_of s) i P (omega (arith, o.head.hours-is, o.head.hours-small)) found-is
+
+    -- the index that the search tells, or damage if it is past the hours
+    pub index : (i ≤ h.hours → Reach s q (given i)) × (h.hours < i → Reach s q (refused 6))
+    index = (
+      (λ (n : i ≤ h.hours). subst (Reach s q) (from_is ∙ spots.0 (omega (arith, o.head.hours-is))) answers),
+      (λ (n : h.hours < i). subst (Reach s q) (from_is ∙ spots.1 (omega (arith, o.head.hours-is))) answers),
+    )
 
 -- ---- the refusals before
 pub reach-five : (s : List ℕ) (q : ℕ) → headed s ≡ false → Reach s q (refused 5)

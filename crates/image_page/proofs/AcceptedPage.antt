@@ -21,7 +21,6 @@ use Rattle.image.specs.Code.Head.{HeadOf}
 use Rattle.image.specs.Image.{Limits, bytes_for, code, code_start, header_length, image, max_total, page, pages, root, size, start, table_at, wide}
 use Rattle.image.specs.Read.{before_of, code_at, e_of, list_of, page_count_of, root_at, start_of, sum_of, tree_at, wide_of, width_of}
 use Rattle.image.specs.declared.head.Head.{Head}
-use Rattle.image_page.specs.Code.Places.{Places}
 use Rattle.image.proofs.Accepted.{accepted-only}
 use Rattle.image.proofs.ReadLaws.{before-is, code_is, length-image, pages-is, root_is, start_is, sum_is, tree_is, wide_is, width_is}
 use Rattle.image.proofs.Editions.{header-least, header-most}
@@ -111,10 +110,10 @@ module _ (s : List ℕ) (a : accepted s ≡ true) where
           counts-are = read;
         }
 
--- where the parts stand, as the code works it out of the header
-pub places : {s : List ℕ} {h : Head} {w : ℕ} → HeadOf s h → w ≡ digits h.total → Places s h.table h.code w
+-- a root's width, as the code works it out of the header
+pub wide-as : {s : List ℕ} {h : Head} {w : ℕ} → HeadOf s h → w ≡ digits h.total → w ≡ width_of s
 unfolding width_of
-places d q = record { entries-are = d.table_is; code_is = d.code_is; width_is = q ∙ ap digits d.total-is }
+wide-as d q = q ∙ ap digits d.total-is
 
 -- page 0 has no page before it, another one has
 pub before-first : (s : List ℕ) (p : ℕ) → p ≡ 0 → 0 ≡ before_of s p
@@ -138,6 +137,10 @@ pub record Numbers (s : List ℕ) (e p t a : ℕ) : Type 0 where
   pub e-is : e ≡ e_of s
   pub sum_is : t ≡ sum_of s p
   pub tree_is : a ≡ tree_at s p
+
+pub numbers : {s : List ℕ} {h : Head} {p t a : ℕ} → accepted s ≡ true → HeadOf s h → p < page_count_of s → t ≡ sum_of s p → a ≡ tree_at s p
+    → Numbers s h.e p t a
+numbers {s} {p = p} a q l m t = record { page = accepted-page s a p l; e-is = q.e-is; sum_is = m; tree_is = t }
 
 -- what decoding asks, and what it gives
 module _ {s : List ℕ} {e p t a : ℕ} (n : Numbers s e p t a) where

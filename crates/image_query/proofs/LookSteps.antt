@@ -13,7 +13,7 @@ use Rattle.tree_walk.specs.Code.Answers.{damage_word, walk_answer as walked}
 use Rattle.tree.specs.Read.{Found, damaged, found, later, walk}
 use Rattle.image.specs.Check.{headed}
 use Rattle.image.specs.Code.Head.{Opened}
-use Rattle.image.specs.Code.Page.{BeforeAt, PageAt, Rooted, RootAt}
+use Rattle.image.specs.Code.Page.{BeforeAt, PageAt, PageOf, Rooted, RootAt}
 use Rattle.image_query.specs.Code.Walk.{Ends, answered, count_answered}
 use Rattle.image.specs.Query.{count, ended, look, count_in_page, page_fine, reading, reading_at, the_count, the_reading}
 use Rattle.image.specs.Read.{before_of, e_of, n_of, page_count_of, s_of, sum_of, tree_at}
@@ -21,6 +21,7 @@ use Rattle.answers.specs.Image.{given, refused}
 use Rattle.image.proofs.QueryLaws.{Most, look-most, most-ended, walk-most}
 use Rattle.image.proofs.HeadLaws.{never}
 use Rattle.image.proofs.PageLaws.{hour-page}
+use Rattle.std.specs.Prelude.{Option}
 use Rattle.image.specs.declared.head.Head.{Head}
 use Rattle.image.specs.declared.page.Page.{Page}
 use Rattle.image.specs.declared.page.Root.{Root}
@@ -40,21 +41,24 @@ module _ (s : List ℕ) (h : Head) (o : Opened s h) (i k : ℕ) where
   look-page e l = rw (e, same) (hour-page (e_of s) (n_of s) i (omega (arith, o.head.hours-is)))
 
   -- the page between the roots of the hour's page is the hour's
-  pub look-between : {p : ℕ} {t x : Root} {r : Page} → p ≡ i / 2 ^ h.e → RootAt s p t → BeforeAt s p x
-      → ((a : Rooted h t x) → PageAt a.s a.p r) → PageAt s (i / 2 ^ h.e) r
-  look-between {p} {t} {x} {r} e own last f =
-      subst (λ (q : ℕ). PageAt s q r) e (f (record { s = s; p = p; opened = o; own_at = own; last-at = last }))
+  pub look-between : {p : ℕ} (own last : Option Root) (r : Option Page) → p ≡ i / 2 ^ h.e → RootAt s p own → BeforeAt s p last
+      → ((a : Rooted s own last) → PageAt s a.p r) → PageAt s (i / 2 ^ h.e) r
+  look-between own last r e t x f = subst (λ (q : ℕ). PageAt s q r) e (f (record { p = _; own_at = t; last-at = x }))
 
-  pub look-bad : (r : Page) → PageAt s (i / 2 ^ h.e) r → r.ok ≡ false → damage_word ≡ walked 0 k (look s i)
-  unfolding look count_in_page pick walked
-  look-bad r p e = sym (rw (← same, sym p.ok-is ∙ e))
+  look-lost : page_fine s (i / 2 ^ h.e) ≡ false → look s i ≡ damaged
+  unfolding look count_in_page pick
+  look-lost e = rw (← same, e)
 
-  pub look-good : (r : Page) (m y : ℕ) → PageAt s (i / 2 ^ h.e) r → r.ok ≡ true → m ≡ 2 ^ h.e → y ≡ k * r.before
+  pub look-bad : page_fine s (i / 2 ^ h.e) ≡ false → damage_word ≡ walked 0 k (look s i)
+  unfolding walked
+  look-bad e = rw (look-lost e)
+
+  pub look-good : (r : Page) (m y : ℕ) → PageOf s (i / 2 ^ h.e) r → m ≡ 2 ^ h.e → y ≡ k * r.before
       → walked y k (walk h.e r.sum (bits s) r.at (i % m)) ≡ walked 0 k (look s i)
   unfolding look count_in_page pick
-  look-good r m y p e em ey =
+  look-good r m y p em ey =
       told-later k r.before y (walk h.e r.sum (bits s) r.at (i % m)) ey
-      ∙ ap (walked 0 k) (rw (em, p.before-is e, p.sum_is e, p.at-is e, o.head.e-is, ← same, sym p.ok-is ∙ e))
+      ∙ ap (walked 0 k) (rw (em, p.before-is, p.sum_is, p.at-is, o.head.e-is, ← same, p.fine))
 
 -- ---- the answers
 pub count-five : (s : List ℕ) (i : ℕ) → headed s ≡ false → refused 5 ≡ count s i
@@ -101,9 +105,9 @@ unfolding ended later pick
 later-ended x t damaged m l = refl
 later-ended x t (found y c) m l = rw (le-leb c max_count (omega arith)) refl
 
-pub ends-few : {s : List ℕ} {h : Head} (i : ℕ) {r : Page} → Opened s h → PageAt s (i / 2 ^ h.e) r → r.sum ≤ max_count → Ends (look s i) true
+pub ends-few : {s : List ℕ} {h : Head} (i : ℕ) {r : Page} → Opened s h → PageOf s (i / 2 ^ h.e) r → r.sum ≤ max_count → Ends (look s i) true
 unfolding look count_in_page pick ended
-ends-few {s} {h} i {r} o p l = record { kept = λ _. go r.ok refl; lost = λ q. absurd (never (sym q)) }
+ends-few {s} {h} i {r} o p l = record { kept = λ _. kept; lost = λ q. absurd (never (sym q)) }
   where
     e-same : 2 ^ h.e ≡ 2 ^ e_of s
     e-same = ap (λ (e : ℕ). 2 ^ e) o.head.e-is
@@ -111,15 +115,14 @@ ends-few {s} {h} i {r} o p l = record { kept = λ _. go r.ok refl; lost = λ q. 
     page : ℕ
     page = i / 2 ^ e_of s
 
-    fine : r.ok ≡ page_fine s page
-    fine = p.ok-is ∙ ap (λ (m : ℕ). page_fine s (i / m)) e-same
+    fine : page_fine s page ≡ true
+    fine = ap (λ (m : ℕ). page_fine s (i / m)) (sym e-same) ∙ p.fine
 
-    go : (b : Bool) → r.ok ≡ b → ended (look s i) ≡ look s i
-    go true q =
-        rw (sym fine ∙ q) (later-ended (before_of s page) (sum_of s page) (walk (e_of s) (sum_of s page) (bits s) (tree_at s page) (i % 2 ^ e_of s))
+    kept : ended (look s i) ≡ look s i
+    kept =
+        rw fine (later-ended (before_of s page) (sum_of s page) (walk (e_of s) (sum_of s page) (bits s) (tree_at s page) (i % 2 ^ e_of s))
         (walk-most (e_of s) (sum_of s page) (bits s) (tree_at s page) (i % 2 ^ e_of s))
-        (omega (arith, p.sum_is q ∙ ap (λ (m : ℕ). sum_of s (i / m)) e-same)))
-    go false q = rw (sym fine ∙ q) refl
+        (omega (arith, p.sum_is ∙ ap (λ (m : ℕ). sum_of s (i / m)) e-same)))
 
 -- the way as a reading takes it
 pub through-bad : {f : Found} {r : Bool} → Ends f r → r ≡ false → damage_word ≡ walked 0 1 (ended f)
@@ -134,6 +137,10 @@ unfolding answered walked the_reading pick
 answer-reading t damaged l m = refl
 answer-reading t (found x c) l m =
     rw (ne_eqb (0 + 1 * x + c) damage_word (λ e. omega (arith, e))) (ap given {x = 0 + 1 * x + c} {y = x + c} (omega arith))
+
+pub count-lost : {s : List ℕ} {h : Head} (o : Opened s h) (i : ℕ) → i < h.hours → page_fine s (i / 2 ^ h.e) ≡ false → refused 6 ≡ count s i
+unfolding count pick ended the_count
+count-lost {s} {h} o i l e = rw (o.passed, lt-leb (n_of s) i (omega (arith, o.head.hours-is)), look-lost s h o i 0 e)
 
 pub count-found : {s : List ℕ} {h : Head} → Opened s h → (i : ℕ) {r : ℕ} → i < h.hours → r ≡ walked 0 0 (look s i) → count_answered r ≡ count s i
 unfolding count pick
@@ -153,6 +160,14 @@ pub reading-none : {s : List ℕ} {h : Head} → Opened s h → (i : ℕ) → i 
 unfolding reading pick reading_at
 reading-none {s} o zero z = rw (o.passed, le-ltb (n_of s) 0 (omega arith))
 reading-none o (suc i) z = absurd (omega (arith, z))
+
+pub reading-lost : {s : List ℕ} {h : Head} (o : Opened s h) (i : ℕ) → 1 ≤ i → i ≤ h.hours → page_fine s ((i - 1) / 2 ^ h.e) ≡ false
+    → refused 6 ≡ reading s i
+unfolding reading pick reading_at ended the_reading
+reading-lost o zero k l e = absurd (omega arith)
+reading-lost {s} {h} o (suc i) k l e =
+    let z : suc i - 1 ≡ i = omega arith in
+    rw (o.passed, le-ltb (n_of s) (suc i) (omega (arith, o.head.hours-is)), look-lost s h o i 0 (ap (λ (j : ℕ). page_fine s (j / 2 ^ h.e)) (sym z) ∙ e))
 
 -- 'Reading at i > 0 walks to hour i-1'
 pub reading-found : {s : List ℕ} {h : Head} → Opened s h → (i : ℕ) {r : ℕ} → 1 ≤ i → i ≤ h.hours → r ≡ walked 0 1 (ended (look s (i - 1)))

@@ -3,57 +3,51 @@
 
 ghost use Rattle.std.specs.Prelude.{◌≤◌};
 ghost use Rattle.image.specs.Reach.{Reach};
-ghost use Rattle.image.specs.Code.Head.{Opened};
 ghost use Rattle.answers.specs.Image.{told};
-ghost use Rattle.image_find.specs.Code.Span.{Hit};
+ghost use Rattle.image_find.specs.Code.Span.{HitAt};
 
-use answers::image::Answer;
-use answers::refusal;
-use image::head::{Head, Opening, open_image};
+use answers::refusal::Refusal;
+use image::head::open_image;
+use image::opened::Image;
 use image::page::{page_between, root_before, root_of};
 use image_find::{Span, find};
 
 // The answer from the page that was found.
-fn reach_in(s: &[u8], h: Head, q: u64, at: Span) -> Answer
-    requires { Opened s.now h × (q ≤ h.total) × Hit s.now q at }
-    ensures { Reach s.now q (told result) }
+fn reach_in(image: &Image, q: u64, at: Span) -> Result<u64, Refusal>
+    requires { (q ≤ image.now.head.total) × HitAt image.now.bytes.now q at }
+    ensures { Reach image.now.bytes.now q (told result) }
 {
-    if !at.ok {
-        return Answer::Refused(refusal::BODY);
-    }
-    let r = page_between(h, root_of(s, h, at.lo), root_before(s, h, at.lo));
-    if !r.ok {
-        return Answer::Refused(refusal::BODY);
-    }
-    if r.before + r.sum < q {
-        return Answer::Refused(refusal::BODY);
+    let head = image.head;
+    let found = page_between(image, root_of(image, at.lo), root_before(image, at.lo));
+    let page = found.ok_or(Refusal::Body)?;
+    if page.before + page.sum < q {
+        return Err(Refusal::Body);
     }
     let i = tree_search::search(
-        s,
-        r.at,
-        h.e,
-        r.sum,
-        q - r.before,
-        reserve::power(h.e) * at.lo,
+        image.bytes,
+        page.at,
+        head.e,
+        page.sum,
+        q - page.before,
+        reserve::power(head.e) * at.lo,
     );
-    if h.hours < i {
-        return Answer::Refused(refusal::BODY);
+    if head.hours < i {
+        return Err(Refusal::Body);
     }
-    Answer::Number(i)
+    Ok(i)
 }
 
 // The least index whose reading is p or more.
-pub fn reach(s: &[u8], p: u64) -> Answer
+pub fn reach(s: &[u8], p: u64) -> Result<u64, Refusal>
     ensures { Reach s.now p (told result) }
 {
-    let Opening::Image(h) = open_image(s) else {
-        return Answer::Refused(refusal::HEADER);
-    };
-    if h.total < p {
-        return Answer::Refused(refusal::FIGURE);
+    let image = open_image(s)?;
+    if image.head.total < p {
+        return Err(Refusal::Figure);
     }
     if p == 0 {
-        return Answer::Number(0);
+        return Ok(0);
     }
-    reach_in(s, h, p, find(s, h, p))
+    let at = find(&image, p).ok_or(Refusal::Body)?;
+    reach_in(&image, p, at)
 }

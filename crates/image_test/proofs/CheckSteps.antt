@@ -8,7 +8,8 @@ use native.Mathlib.Omega.{arith}
 use native.Mathlib.Decide.{ℕ_discrete}
 use lib.ListN.{length, get_or, take}
 use lib.Dec.{leb, eqb}
-use borrow.Author.Tests.{le-leb, lt-leb, eq-eqb, ne_eqb}
+use borrow.Author.Tests.{le-leb, lt-leb, eq-eqb, ltb-true, ne_eqb}
+use Rattle.std.specs.Prelude.{None}
 use Rattle.lists.specs.Counts.{max_count, within}
 use Rattle.lists.proofs.CountLaws.{within-each}
 use Rattle.lists.specs.Lists.{every, pick}
@@ -22,16 +23,16 @@ use Rattle.tree_lowest.specs.Code.Narrow.{narrow}
 use Rattle.tree.specs.Read.{Found, damaged, found}
 use Rattle.image.specs.Check.{accepted, check}
 use Rattle.answers.specs.Image.{fails, Reply}
-use Rattle.image_test.specs.Code.Test.{Tests}
+use Rattle.image_test.specs.Code.Test.{Passed, Stopped}
 use Rattle.image.specs.Code.Head.{Opened}
-use Rattle.image.specs.Code.Page.{RootAt}
+use Rattle.image.specs.Code.Page.{RootAt, RootOf}
 use Rattle.image.specs.Image.{bytes_for}
 use Rattle.image.specs.Query.{look, passing, the_reading}
 use Rattle.image.specs.Read.{code_at, e_of, l_of, list_of, n_of, page_count_of, root_at, s_of, start_of, width_of}
 use Rattle.image_test.specs.Code.Test.{passes_test, pages_from, says, sum_at}
 use Rattle.image.proofs.Accepted.{accepted-only}
-use Rattle.image.proofs.DamageLaws.{beyond, is-beyond, within as not_beyond}
-use Rattle.image.proofs.HeadLaws.{Bounds, bounds, never}
+use Rattle.image.proofs.DamageLaws.{beyond, within as not_beyond}
+use Rattle.image.proofs.HeadLaws.{Bounds, bounds}
 use Rattle.image_test.proofs.TestLaws.{test-is}
 use Rattle.image.proofs.PageLaws.{reserve-most}
 use Rattle.image.proofs.RootLaws.{root-small}
@@ -50,14 +51,9 @@ five most s k p a x =
     ∷ []
 
 -- one test that fails, the same whatever pages follow
-tests-bad : {most : ℕ} {s : List ℕ} {p a x : ℕ} {r : Tested} → r.ok ≡ false → (i : ℕ) → ((k : ℕ) → get_or (five most s k p a x) i true ≡ false)
-    → Tests most s p a x r
+tests-bad : {most : ℕ} {s : List ℕ} {p a x : ℕ} (i : ℕ) → ((k : ℕ) → get_or (five most s k p a x) i true ≡ false) → Stopped most s p a x
 unfolding pages_from
-tests-bad {most} {s} {p} {a} {x} e i f = record {
-  stops = λ _ k. every-no (five most s k p a x) i (f k);
-  goes_on = λ n. absurd (never (sym e ∙ n));
-  end-le = λ n. absurd (never (sym e ∙ n));
-}
+tests-bad {most} {s} {p} {a} {x} i f = record { stops = λ k. every-no (five most s k p a x) i (f k) }
 
 pages-yes : (most : ℕ) (s : List ℕ) (k p a x : ℕ) → start_of s p ≡ a → x ≤ root_at s p → a + width_of s + reserve (e_of s) (root_at s p - x) ≤ l_of s
     → narrow most (e_of s) (root_at s p - x) (bits s) (code_at s + a + width_of s) ≡ true
@@ -70,39 +66,38 @@ pages-yes most s k p a x f g h t =
     ))
 
 -- the root passes L: it stands elsewhere, or the tree passes L too
-pub root-passes : {most : ℕ} {s : List ℕ} {p a x : ℕ} {t : Root} {r : Tested} → RootAt s p t → r.ok ≡ false → t.ok ≡ false → Tests most s p a x r
-root-passes {most} {s} {p} {a} {x} {t} {r} rt n e = go (ℕ_discrete (start_of s p) a)
+pub root-passes : {most : ℕ} {s : List ℕ} {p a x : ℕ} → RootAt s p None → Stopped most s p a x
+root-passes {most} {s} {p} {a} {x} e = go (ℕ_discrete (start_of s p) a)
   where
-    go : Dec (start_of s p ≡ a) → Tests most s p a x r
+    go : Dec (start_of s p ≡ a) → Stopped most s p a x
     go (yes q) =
-        tests-bad n 2 (λ _. beyond (a + width_of s + reserve (e_of s) (root_at s p - x)) (l_of s)
-        (omega (arith, q, is-beyond (start_of s p + width_of s) (l_of s) (sym rt.ok-is ∙ e))))
-    go (no q) = tests-bad n 0 (λ _. ne_eqb (start_of s p) a q)
+        tests-bad 2 (λ _. beyond (a + width_of s + reserve (e_of s) (root_at s p - x)) (l_of s)
+        (omega (arith, q, ltb-true (l_of s) (start_of s p + width_of s) e)))
+    go (no q) = tests-bad 0 (λ _. ne_eqb (start_of s p) a q)
 
 -- page p's root t was read
 pub record Own (s : List ℕ) (h : Head) (p : ℕ) (t : Root) : Type 0 where
   pub opened : Opened s h
-  pub root : RootAt s p t
-  pub ok : t.ok ≡ true
+  pub root : RootOf s p t
 
 module _ {s : List ℕ} {h : Head} {p : ℕ} {t : Root} (g : Own s h p t) where
   abbrev f : Bounds s h
   f = bounds s h g.opened
 
   own : t.value ≡ root_at s p
-  own = g.root.value-is g.ok
+  own = g.root.value-is
 
   pub own-small : t.value < 1099511627776
   own-small = omega (arith, own, root-small s p f.narrow)
 
   pub own-within : t.end ≤ h.bits
-  own-within = omega (arith, g.root.end-le g.ok, g.opened.head.bits_is)
+  own-within = omega (arith, g.root.end-le, g.opened.head.bits_is)
 
-  pub elsewhere : {most a x : ℕ} {r : Tested} {w : ℕ} → r.ok ≡ false → w ≡ digits h.total → (t.end ≡ a + w → ⊥) → Tests most s p a x r
-  elsewhere {most} {a} n e k = tests-bad n 0 (λ _. ne_eqb (start_of s p) a (λ q. k (omega (arith, q, e, f.width, g.root.end_is g.ok))))
+  pub elsewhere : {most a x w : ℕ} → w ≡ digits h.total → (t.end ≡ a + w → ⊥) → Stopped most s p a x
+  elsewhere {most} {a} e k = tests-bad 0 (λ _. ne_eqb (start_of s p) a (λ q. k (omega (arith, q, e, f.width, g.root.end_is))))
 
-  pub falls : {most a x : ℕ} {r : Tested} → r.ok ≡ false → t.value < x → Tests most s p a x r
-  falls {most} {a} {x} n l = tests-bad n 1 (λ _. lt-leb x (root_at s p) (omega (arith, own)))
+  pub falls : {most a x : ℕ} → t.value < x → Stopped most s p a x
+  falls {most} {a} {x} l = tests-bad 1 (λ _. lt-leb x (root_at s p) (omega (arith, own)))
 
 -- it stands where it is to, behind bit a; its tree has v bits, the root before it being x
 pub record Standing (s : List ℕ) (h : Head) (p : ℕ) (t : Root) (a x v : ℕ) : Type 0 where
@@ -121,7 +116,7 @@ module _ {s : List ℕ} {h : Head} {p : ℕ} {t : Root} {a x v : ℕ} (g : Stand
   end_is = omega (arith, g.end-at, (bounds s h o).width)
 
   start_is : start_of s p ≡ a
-  start_is = omega (arith, end_is, g.own_root.root.end_is g.own_root.ok)
+  start_is = omega (arith, end_is, g.own_root.root.end_is)
 
   reserve-is : v ≡ reserve (e_of s) (root_at s p - x)
   reserve-is = g.tree-bits ∙ ap₂ (λ (z y : ℕ). reserve z (y - x)) o.head.e-is value-is
@@ -131,9 +126,9 @@ module _ {s : List ℕ} {h : Head} {p : ℕ} {t : Root} {a x v : ℕ} (g : Stand
       let most = reserve-most h.e (t.value - x) (bounds s h o).e-high (omega (arith, own-small g.own_root)) in
       omega (arith, own-within g.own_root, o.head.bits_small, g.tree-bits)
 
-  pub tree_over : {most : ℕ} {r : Tested} → r.ok ≡ false → h.bits < t.end + v → Tests most s p a x r
-  tree_over n l =
-      tests-bad n 2 (λ _. beyond (a + width_of s + reserve (e_of s) (root_at s p - x)) (l_of s) (omega (arith, end_is, reserve-is, o.head.bits_is)))
+  pub tree_over : {most : ℕ} → h.bits < t.end + v → Stopped most s p a x
+  tree_over l =
+      tests-bad 2 (λ _. beyond (a + width_of s + reserve (e_of s) (root_at s p - x)) (l_of s) (omega (arith, end_is, reserve-is, o.head.bits_is)))
 
   at-is : h.code + t.end ≡ code_at s + a + width_of s
   at-is = omega (arith, o.head.code_is, end_is)
@@ -154,33 +149,32 @@ module _ {s : List ℕ} {h : Head} {p : ℕ} {t : Root} {a x v : ℕ} (g : Stand
         small = omega (arith, ev, o.head.code_is, f.code-at, f.few, f.head-high, o.head.bits_small);
       }
 
-  pub inexact : {most : ℕ} {r : Tested} → r.ok ≡ false → narrow most h.e (t.value - x) (bits s) (h.code + t.end) ≡ false → Tests most s p a x r
-  inexact {most} n e = tests-bad n 3 (λ _. sym (narrow-is most) ∙ e)
+  pub inexact : {most : ℕ} → narrow most h.e (t.value - x) (bits s) (h.code + t.end) ≡ false → Stopped most s p a x
+  inexact {most} e = tests-bad 3 (λ _. sym (narrow-is most) ∙ e)
 
   pub page-passes : (most : ℕ) → x ≤ t.value → t.end + v ≤ h.bits → narrow most h.e (t.value - x) (bits s) (h.code + t.end) ≡ true
-      → Tests most s p a x (record { ok = true; end = t.end + v; root = t.value })
+      → Passed most s p a x (record { end = t.end + v; root = t.value })
   page-passes most l m e =
       let q : t.end + v ≡ a + width_of s + reserve (e_of s) (root_at s p - x) = omega (arith, end_is, reserve-is) in
       record {
-        stops = λ n. absurd (never (sym n));
         goes_on =
-            λ _ k. pages-yes most s k p a x start_is (omega (arith, value-is)) (omega (arith, q, o.head.bits_is)) (sym (narrow-is most) ∙ e)
+            λ k. pages-yes most s k p a x start_is (omega (arith, value-is)) (omega (arith, q, o.head.bits_is)) (sym (narrow-is most) ∙ e)
             ∙ sym (ap₂ (pages_from most s k (suc p)) q value-is);
-        end-le = λ _. omega (arith, o.head.bits_is);
+        end-le = omega (arith, o.head.bits_is);
       }
 
 -- ---- the pages in turn
-module _ {most : ℕ} {s : List ℕ} {p a x : ℕ} {r : Tested} (t : Tests most s p a x r) (n : ℕ) (l : p < n) where
-  left_over : n - p ≡ suc (n - (p + 1))
-  left_over = omega arith
+left_over : (n p : ℕ) → p < n → n - p ≡ suc (n - (p + 1))
+left_over n p l = omega arith
 
-  pub pages-stop : r.ok ≡ false → pages_from most s (n - p) p a x ≡ false
-  pages-stop e = ap (λ (k : ℕ). pages_from most s k p a x) left_over ∙ t.stops e (n - (p + 1))
+pub pages-stop : {most : ℕ} {s : List ℕ} {p a x : ℕ} → Stopped most s p a x → (n : ℕ) → p < n → pages_from most s (n - p) p a x ≡ false
+pages-stop {most} {s} {p} {a} {x} t n l = ap (λ (k : ℕ). pages_from most s k p a x) (left_over n p l) ∙ t.stops (n - (p + 1))
 
-  pub pages-on : r.ok ≡ true → pages_from most s (n - p) p a x ≡ pages_from most s (n - (p + 1)) (p + 1) r.end r.root
-  pages-on e =
-      ap (λ (k : ℕ). pages_from most s k p a x) left_over ∙ t.goes_on e (n - (p + 1))
-      ∙ ap (λ (k : ℕ). pages_from most s (n - (p + 1)) k r.end r.root) (sym (add-one p))
+pub pages-on : {most : ℕ} {s : List ℕ} {p a x : ℕ} {r : Tested} → Passed most s p a x r → (n : ℕ) → p < n
+    → pages_from most s (n - p) p a x ≡ pages_from most s (n - (p + 1)) (p + 1) r.end r.root
+pages-on {most} {s} {p} {a} {x} {r} t n l =
+    ap (λ (k : ℕ). pages_from most s k p a x) (left_over n p l) ∙ t.goes_on (n - (p + 1))
+    ∙ ap (λ (k : ℕ). pages_from most s (n - (p + 1)) k r.end r.root) (sym (add-one p))
 
 module _ (most : ℕ) (s : List ℕ) (h : Head) (o : Opened s h) (n p a x : ℕ) (l : n ≤ p) where
   done : pages_from most s (n - p) p a x ≡ (eqb a (l_of s) && eqb x (s_of s))
@@ -235,7 +229,7 @@ fill_is s h o =
     ap₂ (clear (bits s)) a (omega (arith, a, b))
 
 -- ---- the answer
-module _ {most : ℕ} (few : most ≤ max_count) {s : List ℕ} {h : Head} (o : Opened s h) (bytes : (i : ℕ) → get_or s i 0 < 256) where
+module _ {most : ℕ} (few : most ≤ max_count) {s : List ℕ} {h : Head} (o : Opened s h) where
   abbrev three : List Bool
   three =
       pages_from most s (page_count_of s) 0 0 0
@@ -245,7 +239,7 @@ module _ {most : ℕ} (few : most ≤ max_count) {s : List ℕ} {h : Head} (o : 
 
   accepts : every three ≡ (accepted s && within most (list_of s))
   unfolding passes_test
-  accepts = sym (ap (λ (z : Bool). z && every three) o.passed) ∙ test-is most few s bytes
+  accepts = sym (ap (λ (z : Bool). z && every three) o.passed) ∙ test-is most few s o.bytes
 
   pub test-fails : (i : ℕ) → get_or three i true ≡ false → false ≡ (accepted s && within most (list_of s))
   test-fails i e = sym (sym accepts ∙ every-no three i e)

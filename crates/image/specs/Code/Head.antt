@@ -1,12 +1,10 @@
 -- What the functions of src/head.rt ask and answer. Assumes nothing.
-use Rattle.std.specs.Prelude.{false, true, List, ◌≡◌, ℕ, ◌+◌, ◌*◌, ◌≤◌, ◌<◌, length, get_or}
+use Rattle.std.specs.Prelude.{false, true, Option, Some, None, List, ◌≡◌, ℕ, ◌+◌, ◌*◌, ◌≤◌, ◌<◌, length, get_or}
 use Rattle.image.specs.Check.{headed, wide_right}
 use Rattle.image.specs.Image.{edition, header_length, max_total, pages}
 use Rattle.image.specs.Read.{code_at, e_of, l_of, n_of, page_count_of, s_of, wide_of}
 use Rattle.image.specs.declared.head.Head.{Head}
 use Rattle.image.specs.declared.head.Tail.{Tail}
-use Rattle.image.specs.declared.head.Opening.{Opening}
-use Rattle.image.specs.declared.head.Opening.TheVariants.{Image, Wrong}
 
 -- the header of the bytes s, and where their parts stand
 pub record HeadOf (s : List ℕ) (h : Head) : Type 0 where
@@ -34,9 +32,9 @@ pub record TailOf (s : List ℕ) (t : Tail) : Type 0 where
   pub bits_small : t.bits < 4294967296
 
 -- what reading the tail gives: it, or refusal 5
-pub record Tailed (s : List ℕ) (t : Tail) : Type 0 where
-  pub fine : t.ok ≡ true → TailOf s t
-  pub wrong : t.ok ≡ false → headed s ≡ false
+abbrev pub Tailed : List ℕ → Option Tail → Type 0
+Tailed s (Some t) = TailOf s t
+Tailed s None = headed s ≡ false
 
 -- a header of e, N and a tail
 pub record HeadWith (e hours : ℕ) (t : Tail) (h : Head) : Type 0 where
@@ -50,10 +48,6 @@ pub record HeadWith (e hours : ℕ) (t : Tail) (h : Head) : Type 0 where
 
 -- bytes past refusal 5, and their header
 pub record Opened (s : List ℕ) (h : Head) : Type 0 where
+  pub bytes : (i : ℕ) → get_or s i 0 < 256
   pub head : HeadOf s h
   pub passed : headed s ≡ true
-
--- what opening the bytes s gives: their header, past refusal 5, or refusal 5
-abbrev pub Opens : List ℕ → Opening → Type 0
-Opens s (Image h) = Opened s h
-Opens s Wrong = headed s ≡ false

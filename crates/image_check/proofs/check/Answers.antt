@@ -1,17 +1,19 @@
 -- `image_check::check` meets its contract. Assumes nothing.
-use mathlib.Core.Path.{subst, sym, ap₂, ◌∙◌}
+use mathlib.Core.Path.{◌≡◌, sym, ap₂, ◌∙◌}
+use native.Mathlib.Omega.{arith}
+use Rattle.std.specs.Prelude.{Err}
 use Rattle.answers.specs.Image.{holds, ruled}
 use Rattle.image.proofs.CheckLaws.{check-holds}
-use Rattle.image_check.specs.Code.Access.{Accesses}
 use Rattle.image_check.proofs.check.Goals as goal
 
-pub returns-in-Refused : goal.returns-in-Refused
+pub returns-in_err-head : goal.returns-in_err-head
 unfolding ruled
-returns-in-Refused c =
-    sym (subst (Accesses c.args.s.now) c.in-Refused.is c.open_accepted.ensures)
+returns-in_err-head c =
+    let e : c.from_residual.result ≡ Err c.in_err-head.field-0.0 = grind arith in
+    rw e (sym c.in_err-head.ensures)
 
-pub returns-in-Image : goal.returns-in-Image
+pub returns : goal.returns
 unfolding ruled
-returns-in-Image c =
-    let a = subst (Accesses c.args.s.now) c.in-Image.is c.open_accepted.ensures in
-    ap₂ holds a.1.hours-is a.1.total-is ∙ sym (check-holds _ a.0)
+returns c =
+    let a = c.in_ok-head.field-0 in
+    rw (← c.in_ok-head.ensures) (ap₂ holds a.head_of.hours-is a.head_of.total-is ∙ sym (check-holds _ a.accepted))

@@ -7,25 +7,25 @@ use Rattle.image_check.proofs.fill_zero.Goals as goal
 
 pub overflow_add-end : goal.overflow_add-end
 overflow_add-end c =
-    let f = bounds c.args.s.now c.args.h c.requires in
-    omega (arith, c.requires.head.code_is, f.code-at, f.few, f.head-high, c.requires.head.bits_small)
+    let f = bounds _ _ c.args.image.now.opened in
+    omega (arith, c.args.image.now.opened.head.code_is, f.code-at, f.few, f.head-high, c.args.image.now.opened.head.bits_small)
 
 pub overflow_mul-spare : goal.overflow_mul-spare
 overflow_mul-spare c =
-    let f = bounds c.args.s.now c.args.h c.requires in
-    omega (arith, f.long, f.few, f.head-high, c.requires.head.bits_small)
+    let f = bounds _ _ c.args.image.now.opened in
+    omega (arith, f.long, f.few, f.head-high, c.args.image.now.opened.head.bits_small)
 
 pub overflow_sub-spare : goal.overflow_sub-spare
 overflow_sub-spare c =
-    let f = bounds c.args.s.now c.args.h c.requires in
-    omega (arith, c.requires.head.code_is, f.code-at, f.long)
+    let f = bounds _ _ c.args.image.now.opened in
+    omega (arith, c.args.image.now.opened.head.code_is, f.code-at, f.long)
 
 pub zero_bits-requires : goal.zero_bits-requires
 zero_bits-requires c =
-    let f = bounds c.args.s.now c.args.h c.requires in
-    let q = c.requires.head.code_is in
-    (omega (arith, q, f.code-at, f.long), omega (arith, q, f.code-at, f.long, f.few, f.head-high, c.requires.head.bits_small), omega (arith, f.long, f.head-low))
+    let f = bounds _ _ c.args.image.now.opened in
+    let q = c.args.image.now.opened.head.code_is in
+    (omega (arith, q, f.code-at, f.long), omega (arith, q, f.code-at, f.long, f.few, f.head-high, c.args.image.now.opened.head.bits_small), omega (arith, f.long, f.head-low))
 
 pub returns : goal.returns
 returns c =
-    c.zero_bits.ensures ∙ fill_is c.args.s.now c.args.h c.requires
+    c.zero_bits.ensures ∙ fill_is _ _ c.args.image.now.opened

@@ -1,32 +1,22 @@
 -- `image_check::open_accepted` meets its contract. Assumes nothing.
-use mathlib.Core.Bool.{false}
-use mathlib.Core.Path.{◌≡◌, sym, subst, ◌∙◌}
+use mathlib.Core.Path.{◌≡◌, sym, ◌∙◌}
 use native.Mathlib.Omega.{arith}
+use Rattle.std.specs.Prelude.{Err}
+use Rattle.answers.specs.declared.refusal.Refusal.TheVariants.{Header}
 use Rattle.lists.proofs.Tests.{left}
-use Rattle.image.specs.Check.{headed}
-use Rattle.image.specs.Code.Head.{Opens}
 use Rattle.image.proofs.CheckLaws.{check-5}
 use Rattle.image_test.proofs.CheckSteps.{check-6}
 use Rattle.image_check.proofs.open_accepted.Goals as goal
 
--- at refusal 5
-wrong : (c : goal.In_default) → headed c.args.s.now ≡ false
-wrong c =
-    subst (Opens c.args.s.now) c.in_default.is c.open_image.ensures
-
-pub open_image-requires : goal.open_image-requires
-open_image-requires c = tt
-
-pub returns-in_default : goal.returns-in_default
-returns-in_default c = check-5 _ (wrong c)
-
-pub passes-requires : goal.passes-requires
-passes-requires c = (c.in-Image.ensures, omega arith)
+pub returns-in_err-image : goal.returns-in_err-image
+returns-in_err-image c =
+    let e : c.from_residual.result ≡ Err Header = grind arith in
+    rw e (check-5 _ c.in_err-image.ensures.0)
 
 pub returns-then-not-passes : goal.returns-then-not-passes
 returns-then-not-passes c =
-    check-6 c.in-Image.ensures (sym c.passes.ensures ∙ c.if-not-passes.true)
+    rw (← c.in_ok-image.ensures) (check-6 c.in_ok-image.image.opened (sym c.passes.ensures ∙ c.if-not-passes.true))
 
-pub returns : goal.returns
-returns c =
-    (left _ _ (sym c.passes.ensures ∙ c.if-not-passes.false), c.in-Image.ensures.head)
+pub invariant_of-result : goal.invariant_of-result
+invariant_of-result c =
+    record { accepted = left _ _ (sym c.passes.ensures ∙ c.if-not-passes.false); head_of = c.in_ok-image.image.opened.head }

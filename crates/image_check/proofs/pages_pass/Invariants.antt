@@ -6,7 +6,8 @@ use Rattle.image_test.specs.Code.Test.{pages_from}
 use Rattle.image_check.proofs.pages_pass.Given as goal
 
 abbrev pub invariant-loop-p : goal.invariant-loop-p
-invariant-loop-p l = (l.p ≤ l.n) × (l.end ≤ l.h.bits) × (pages_from l.widest l.s (page_count_of l.s) 0 0 0 ≡ pages_from l.widest l.s (l.n - l.p) l.p l.end l.root)
-
-abbrev pub decreases-loop-p : goal.decreases-loop-p
-decreases-loop-p l = l.n - l.p
+invariant-loop-p l = record {
+  inside : l.end ≤ l.image.head.bits;
+  rest_is : pages_from l.widest l.image.bytes.now (page_count_of l.image.bytes.now) 0 0 0
+      ≡ pages_from l.widest l.image.bytes.now (l.image.head.pages - l.p) l.p l.end l.root;
+}

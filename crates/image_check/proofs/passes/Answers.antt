@@ -1,20 +1,24 @@
 -- `image_check::passes` meets its contract. Assumes nothing.
 use mathlib.Core.Path.{sym, ◌∙◌}
-use native.Mathlib.Omega.{arith}
+use Rattle.image.proofs.HeadLaws.{never}
 use Rattle.image_test.proofs.CheckSteps.{test-fails, test-last}
 use Rattle.image_check.proofs.passes.Goals as goal
+use Rattle.image_check.proofs.passes.Goals.{then-pages_pass, else-pages_pass}
 
-pub returns-then-not-pages_pass : goal.returns-then-not-pages_pass
-returns-then-not-pages_pass c =
-    test-fails c.requires.1 c.requires.0 (λ i. omega (arith, c.type_inv.s i)) 0 (sym c.pages_pass.ensures ∙ c.if-not-pages_pass.true)
+pub returns-then-rest_zero : goal.returns-then-rest_zero
+returns-then-rest_zero c =
+    elim c.if-pages_pass.branch [
+      | then-pages_pass w ↦
+          c.fill_zero.ensures
+          ∙ test-last c.requires c.args.image.now.opened (sym c.pages_pass.ensures ∙ w.if-pages_pass.true)
+          (sym w.rest_zero.ensures ∙ sym w.value-is ∙ c.if-rest_zero.true)
+      | else-pages_pass w ↦ absurd (never (sym w.if-pages_pass.false ∙ sym w.value-is ∙ c.if-rest_zero.true))
+    ]
 
-pub returns-then-not-rest_zero : goal.returns-then-not-rest_zero
-returns-then-not-rest_zero c =
-    test-fails c.requires.1 c.requires.0 (λ i. omega (arith, c.type_inv.s i)) 1 (sym c.rest_zero.ensures ∙ c.if-not-rest_zero.true)
-
-pub returns : goal.returns
-returns c =
-    c.fill_zero.ensures
-    ∙ test-last c.requires.1 c.requires.0 (λ i. omega (arith, c.type_inv.s i))
-    (sym c.pages_pass.ensures ∙ c.if-not-pages_pass.false)
-    (sym c.rest_zero.ensures ∙ c.if-not-rest_zero.false)
+pub returns-else-rest_zero : goal.returns-else-rest_zero
+returns-else-rest_zero c =
+    c.if-rest_zero.false
+    ∙ elim c.if-pages_pass.branch [
+      | then-pages_pass w ↦ test-fails c.requires c.args.image.now.opened 1 (sym w.rest_zero.ensures ∙ sym w.value-is ∙ c.if-rest_zero.false)
+      | else-pages_pass w ↦ test-fails c.requires c.args.image.now.opened 0 (sym c.pages_pass.ensures ∙ w.if-pages_pass.false)
+    ]

@@ -1,12 +1,12 @@
 -- An image that the full check accepts. Assumes nothing.
-use Rattle.std.specs.Prelude.{true, List, ◌≡◌, ℕ}
+use Rattle.std.specs.Prelude.{List, ◌≡◌, ℕ, Result, Ok, Err}
 use Rattle.answers.specs.Image.{fails}
-use Rattle.image.specs.Check.{accepted, check}
-use Rattle.image.specs.Code.Head.{HeadOf}
-use Rattle.image_check.specs.declared.Access.{Access}
-use Rattle.image_check.specs.declared.Access.TheVariants.{Image, Refused}
+use Rattle.answers.specs.Number.{number}
+use Rattle.answers.specs.declared.refusal.Refusal.{Refusal}
+use Rattle.image.specs.Check.{check}
+use Rattle.image.specs.declared.opened.Accepted.{Accepted}
 
--- what opening the bytes s gives: their header where the check accepts them, else the check's refusal
-abbrev pub Accesses : List ℕ → Access → Type 0
-Accesses s (Image h) = (accepted s ≡ true) × HeadOf s h
-Accesses s (Refused k) = check s ≡ fails k
+-- what opening the bytes s gives: them with their header where the check accepts them, else the check's refusal
+abbrev pub Accesses : List ℕ → Result Accepted Refusal → Type 0
+Accesses s (Ok image) = image.bytes.now ≡ s
+Accesses s (Err r) = check s ≡ fails (number r)

@@ -1,5 +1,5 @@
 -- The pages among which a figure is reached, as the search narrows them. Assumes nothing.
-use Rattle.std.specs.Prelude.{true, false, List, ◌≡◌, ℕ, ◌+◌, ◌-◌, ◌≤◌, ◌<◌}
+use Rattle.std.specs.Prelude.{false, Option, Some, None, List, ◌≡◌, ℕ, ◌+◌, ◌-◌, ◌≤◌, ◌<◌}
 use Rattle.image.specs.Image.{max_hours}
 use Rattle.image.specs.Read.{page_count_of, root_at, before_of}
 use Rattle.image.specs.Check.{accepted}
@@ -23,14 +23,17 @@ pub record Between (s : List ℕ) (q : ℕ) (r : Span) : Type 0 where
   pub high : q ≤ r.above
   pub small : r.above < 1099511627776
 
+-- one page
+pub record HitAt (s : List ℕ) (q : ℕ) (r : Span) : Type 0 where
+  pub between : Between s q r
+  pub one : r.hi ≤ r.lo
+
 -- after a look at one of the pages: fewer pages, or damage
-pub record Narrowed (s : List ℕ) (q : ℕ) (at r : Span) : Type 0 where
-  pub damage : r.ok ≡ false → accepted s ≡ false
-  pub between : r.ok ≡ true → Between s q r
-  pub fewer : r.ok ≡ true → r.hi - r.lo < at.hi - at.lo
+abbrev pub Narrowed : List ℕ → ℕ → Span → Option Span → Type 0
+Narrowed s q at (Some r) = Between s q r × (r.hi - r.lo < at.hi - at.lo)
+Narrowed s q at None = accepted s ≡ false
 
 -- one page, or damage
-pub record Hit (s : List ℕ) (q : ℕ) (r : Span) : Type 0 where
-  pub damage : r.ok ≡ false → accepted s ≡ false
-  pub between : r.ok ≡ true → Between s q r
-  pub one : r.ok ≡ true → r.hi ≤ r.lo
+abbrev pub Hit : List ℕ → ℕ → Option Span → Type 0
+Hit s q (Some r) = HitAt s q r
+Hit s q None = accepted s ≡ false

@@ -9,13 +9,16 @@ use Rattle.image_page.proofs.start_of.Goals as goal
 
 pub table_at-requires : goal.table_at-requires
 table_at-requires c =
-    let g = accepted-page c.args.s.now c.requires.0 c.args.p c.requires.2 in
-    (omega (arith, c.requires.1, g.head-high), omega (arith, g.few))
+    let g = accepted-page _ c.args.image.now.accepted c.args.p c.requires in
+    (omega (arith, c.args.image.now.head_of.table_is, g.head-high), omega (arith, g.few))
 
-pub get4-requires : goal.get4-requires
-get4-requires c = omega (arith, (accepted-page c.args.s.now c.requires.0 c.args.p c.requires.2).entry_in, c.table_at.ensures, c.requires.1)
+pub get-requires-clause-in_bounds : goal.get-requires-clause-in_bounds
+get-requires-clause-in_bounds c =
+    let g = accepted-page _ c.args.image.now.accepted c.args.p c.requires in
+    omega (arith, g.entry_in, c.table_at.ensures, c.args.image.now.head_of.table_is)
 
 pub returns : goal.returns
 unfolding start_of
 returns c =
-    c.get4.ensures.is ∙ ap (λ (z : ℕ). number_at c.args.s.now z 4) (c.table_at.ensures ∙ ap (λ (z : ℕ). z + 4 * c.args.p) c.requires.1)
+    c.get.ensures.is ∙ ap (λ (z : ℕ). number_at c.args.image.now.bytes.now z 4)
+    (c.table_at.ensures ∙ ap (λ (z : ℕ). z + 4 * c.args.p) c.args.image.now.head_of.table_is)

@@ -1,69 +1,52 @@
 -- `image_query::reading` meets its contract. Assumes nothing.
-use mathlib.Core.Bool.{false}
-use mathlib.Core.Path.{◌≡◌, subst, ◌∙◌}
+use mathlib.Core.Path.{◌≡◌, ◌∙◌}
 use native.Mathlib.Omega.{arith}
+use Rattle.std.specs.Prelude.{Some, None, Err}
+use Rattle.answers.specs.declared.refusal.Refusal.TheVariants.{Header, Body}
 use Rattle.answers.specs.Image.{told}
-use Rattle.image.specs.Check.{headed}
-use Rattle.image.specs.Code.Head.{Opens}
 use Rattle.image.proofs.HeadLaws.{bounds}
-use Rattle.image_query.proofs.LookSteps.{look-between, look-page, reading-five, reading-found, reading-none, reading-seven}
+use Rattle.image_query.proofs.LookSteps.{look-between, look-page, reading-five, reading-found, reading-lost, reading-none, reading-seven}
 use Rattle.image_query.proofs.reading.Goals as goal
 
--- at refusal 5
-wrong : (c : goal.In_default) → headed c.args.s.now ≡ false
-wrong c = subst (Opens c.args.s.now) c.in_default.is c.open_image.ensures
-
-pub open_image-requires : goal.open_image-requires
-open_image-requires c = tt
-
-pub returns-in_default : goal.returns-in_default
+pub returns-in_err-image : goal.returns-in_err-image
 unfolding told
-returns-in_default c = reading-five _ _ (wrong c)
+returns-in_err-image c =
+    let e : c.from_residual.result ≡ Err Header = grind arith in
+    rw e (reading-five _ _ c.in_err-image.ensures.0)
 
-pub returns-then-h-i : goal.returns-then-h-i
+pub returns-then-image-i : goal.returns-then-image-i
 unfolding told
-returns-then-h-i c = reading-seven c.in-Image.ensures _ c.if-h-i.true
+returns-then-image-i c = rw (← c.in_ok-image.ensures) (reading-seven c.in_ok-image.image.opened _ c.if-image-i.true)
 
 pub returns-then-i-eq0 : goal.returns-then-i-eq0
 unfolding told
-returns-then-i-eq0 c = reading-none c.in-Image.ensures _ c.if-i-eq0.true
-
-pub overflow_sub-hour : goal.overflow_sub-hour
-overflow_sub-hour c = omega (arith, c.if-i-eq0.false)
+returns-then-i-eq0 c = rw (← c.in_ok-image.ensures) (reading-none c.in_ok-image.image.opened _ c.if-i-eq0.true)
 
 pub page_with-p-requires : goal.page_with-p-requires
-page_with-p-requires c = (bounds _ _ c.in-Image.ensures).e-high
+page_with-p-requires c = (bounds _ _ c.in_ok-image.image.opened).e-high
 
 pub root_of-requires : goal.root_of-requires
-root_of-requires c =
-    let o = c.in-Image.ensures in
-    (o, look-page _ _ o _ 1 c.page_with-p.ensures (omega (arith, c.if-h-i.false, c.if-i-eq0.false)))
+root_of-requires c = look-page _ _ c.in_ok-image.image.opened _ 1 c.page_with-p.ensures (omega arith)
 
 pub root_before-requires : goal.root_before-requires
-root_before-requires c =
-    let o = c.in-Image.ensures in
-    (o, look-page _ _ o _ 1 c.page_with-p.ensures (omega (arith, c.if-h-i.false, c.if-i-eq0.false)))
+root_before-requires c = look-page _ _ c.in_ok-image.image.opened _ 1 c.page_with-p.ensures (omega arith)
 
-pub page_between-page-requires : goal.page_between-page-requires
-page_between-page-requires c = record {
-  s = _;
-  p = _;
-  opened = c.in-Image.ensures;
-  own_at = c.root_of.ensures;
-  last-at = c.root_before.ensures;
-}
+pub returns-in_err-page : goal.returns-in_err-page
+unfolding told
+returns-in_err-page c =
+    let b = look-between _ _ c.in_ok-image.image.opened _ 1 _ _ c.page_between-found.result c.page_with-p.ensures c.root_of.ensures c.root_before.ensures
+    c.page_between-found.ensures in
+    let e : c.from_residual-in_err-page.result ≡ Err Body = grind arith in
+    let n : c.page_between-found.result ≡ None = grind arith in
+    rw (e, ← c.in_ok-image.ensures) (reading-lost c.in_ok-image.image.opened c.args.i (omega arith) c.if-image-i.false (rw n at b))
 
 pub look_through-requires : goal.look_through-requires
 look_through-requires c =
-    let o = c.in-Image.ensures in (
-      o,
-      look-between _ _ o _ 1 c.page_with-p.ensures c.root_of.ensures c.root_before.ensures c.page_between-page.ensures,
-    )
-
-pub answer_of-requires : goal.answer_of-requires
-answer_of-requires c = tt
+    let b = look-between _ _ c.in_ok-image.image.opened _ 1 _ _ c.page_between-found.result c.page_with-p.ensures c.root_of.ensures c.root_before.ensures
+    c.page_between-found.ensures in
+    let n : c.page_between-found.result ≡ Some c.in_ok-page.page = grind arith in
+    rw n at b
 
 pub returns : goal.returns
 returns c =
-    c.answer_of.ensures
-    ∙ reading-found c.in-Image.ensures _ (omega (arith, c.if-i-eq0.false)) c.if-h-i.false c.look_through.ensures
+    rw (← c.in_ok-image.ensures) (c.answer_of.ensures ∙ reading-found c.in_ok-image.image.opened _ (omega arith) c.if-image-i.false c.look_through.ensures)

@@ -1,43 +1,38 @@
 -- `image_reach::reach` meets its contract. Assumes nothing.
-use mathlib.Core.Bool.{false}
-use mathlib.Core.Path.{◌≡◌, sym, subst}
-use Prim.Native.Nat.{ℕ}
+use mathlib.Core.Path.{◌≡◌}
 use native.Mathlib.Omega.{arith}
-use Rattle.answers.specs.Image.{told, given}
-use Rattle.image.specs.Check.{headed}
-use Rattle.image.specs.Code.Head.{Opens}
-use Rattle.image.specs.Reach.{Reach}
-use Rattle.image_find.proofs.SearchSteps.{reach-eight, reach-five}
+use Rattle.std.specs.Prelude.{None, Some, Err}
+use Rattle.answers.specs.declared.refusal.Refusal.TheVariants.{Body, Header}
+use Rattle.answers.specs.Image.{told}
+use Rattle.image_find.proofs.SearchSteps.{found-six, reach-eight, reach-five}
 use Rattle.image_find.proofs.ReachLaws.{reach-zero}
 use Rattle.image_reach.proofs.reach.Goals as goal
 
--- at refusal 5
-wrong : (c : goal.In_default) → headed c.args.s.now ≡ false
-wrong c = subst (Opens c.args.s.now) c.in_default.is c.open_image.ensures
-
-pub open_image-requires : goal.open_image-requires
-open_image-requires c = tt
-
-pub returns-in_default : goal.returns-in_default
+pub returns-in_err-image : goal.returns-in_err-image
 unfolding told
-returns-in_default c = reach-five _ _ (wrong c)
+returns-in_err-image c =
+    let e : c.from_residual.result ≡ Err Header = grind arith in
+    rw e (reach-five _ _ c.in_err-image.ensures.0)
 
-pub returns-then-h-p : goal.returns-then-h-p
+pub returns-then-image-p : goal.returns-then-image-p
 unfolding told
-returns-then-h-p c = reach-eight c.in-Image.ensures _ c.if-h-p.true
+returns-then-image-p c = rw (← c.in_ok-image.ensures) (reach-eight c.in_ok-image.image.opened _ c.if-image-p.true)
 
 pub returns-then-p-eq0 : goal.returns-then-p-eq0
 unfolding told
-returns-then-p-eq0 c =
-    let s = c.args.s.now in
-    subst (λ (q : ℕ). Reach s q (given 0)) (sym c.if-p-eq0.true) (reach-zero s c.in-Image.ensures.passed)
+returns-then-p-eq0 c = rw (← c.in_ok-image.ensures, c.if-p-eq0.true) (reach-zero _ c.in_ok-image.image.opened.passed)
 
-pub find-requires : goal.find-requires
-find-requires c = (c.in-Image.ensures, omega (arith, c.if-p-eq0.false), c.if-h-p.false)
+pub returns-in_err-at : goal.returns-in_err-at
+unfolding told
+returns-in_err-at c =
+    let e : c.from_residual-in_err-at.result ≡ Err Body = grind arith in
+    let n : c.find.result ≡ None = grind arith in
+    rw (e, ← c.in_ok-image.ensures) (found-six _ _ c.in_ok-image.image.opened _ c.if-image-p.false (rw n at c.find.ensures))
 
 pub reach_in-requires : goal.reach_in-requires
 reach_in-requires c =
-    (c.in-Image.ensures, c.if-h-p.false, c.find.ensures)
+    let n : c.find.result ≡ Some c.in_ok-at.at = grind arith in
+    (c.if-image-p.false, rw n at c.find.ensures)
 
 pub returns : goal.returns
-returns c = c.reach_in.ensures
+returns c = rw (← c.in_ok-image.ensures) c.reach_in.ensures

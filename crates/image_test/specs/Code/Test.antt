@@ -1,7 +1,7 @@
 -- The test of an image as the code makes it, page by page, with a limit for its counts. What it means is `accepted` and `within`:
 -- proofs/TestLaws.antt shows them equal.
 -- Assumes nothing.
-use Rattle.std.specs.Prelude.{Bool, true, false, ◌&&◌, not, List, [], ◌∷◌, ◌≡◌, ℕ, zero, suc, ◌+◌, ◌-◌, ◌*◌, ◌≤◌, leb, eqb}
+use Rattle.std.specs.Prelude.{Bool, false, Option, Some, None, ◌&&◌, not, List, [], ◌∷◌, ◌≡◌, ℕ, zero, suc, ◌+◌, ◌-◌, ◌*◌, ◌≤◌, leb, eqb}
 use Rattle.lists.specs.Lists.{every}
 use Rattle.bits.specs.Bits.{bits}
 use Rattle.reserve.specs.Reserve.{reserve}
@@ -48,9 +48,17 @@ passes_test widest s =
     ∷ clear (bits s) (code_at s + l_of s) (8 * bytes_for (l_of s) - l_of s)
     ∷ [])
 
--- page p, which is to start at bit a of the code, the root before it being x: where it fails, so do all pages from p on; where it does
--- not, the next page is to start at its end, its root being the one before
-pub record Tests (widest : ℕ) (s : List ℕ) (p a x : ℕ) (r : Tested) : Type 0 where
-  pub stops : r.ok ≡ false → (k : ℕ) → pages_from widest s (suc k) p a x ≡ false
-  pub goes_on : r.ok ≡ true → (k : ℕ) → pages_from widest s (suc k) p a x ≡ pages_from widest s k (suc p) r.end r.root
-  pub end-le : r.ok ≡ true → r.end ≤ l_of s
+-- a page p that passes, which starts at bit a of the code, the root before it being x: the next page is to start at its end, its root being
+-- the one before
+pub record Passed (widest : ℕ) (s : List ℕ) (p a x : ℕ) (r : Tested) : Type 0 where
+  pub goes_on : (k : ℕ) → pages_from widest s (suc k) p a x ≡ pages_from widest s k (suc p) r.end r.root
+  pub end-le : r.end ≤ l_of s
+
+-- a page p that fails, and so do all pages from p on
+pub record Stopped (widest : ℕ) (s : List ℕ) (p a x : ℕ) : Type 0 where
+  pub stops : (k : ℕ) → pages_from widest s (suc k) p a x ≡ false
+
+-- page p, tested
+abbrev pub Tests : ℕ → List ℕ → ℕ → ℕ → ℕ → Option Tested → Type 0
+Tests widest s p a x (Some r) = Passed widest s p a x r
+Tests widest s p a x None = Stopped widest s p a x

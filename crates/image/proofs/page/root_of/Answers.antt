@@ -17,30 +17,32 @@ start_is {s} p g h k = g.is ∙ ap (λ (z : ℕ). number_at s z 4) (h ∙ ap (λ
 
 pub table_at-requires : goal.table_at-requires
 table_at-requires c =
-    let f = bounds c.args.s.now c.args.h c.requires.0 in
-    (f.table-low, omega (arith, f.few, c.requires.1))
+    let f = bounds _ _ c.args.image.now.opened in
+    (f.table-low, omega (arith, f.few, c.requires))
 
-pub get4-start-requires : goal.get4-start-requires
-get4-start-requires c =
-    omega (arith, (bounds c.args.s.now c.args.h c.requires.0).long, c.requires.1, c.table_at.ensures, c.requires.0.head.table_is)
+pub get-start-requires-clause-in_bounds : goal.get-start-requires-clause-in_bounds
+get-start-requires-clause-in_bounds c =
+    let o = c.args.image.now.opened in
+    omega (arith, (bounds _ _ o).long, c.requires, c.table_at.ensures, o.head.table_is)
 
-pub returns-then-h-end : goal.returns-then-h-end
-returns-then-h-end c =
-    root-bad c.args.s.now c.args.h c.requires.0 c.args.p _ _ (start_is c.args.p c.get4-start.ensures c.table_at.ensures c.requires.0.head.table_is)
-    c.digits_of-w.ensures
-    c.if-h-end.true
+pub returns-then-head-end : goal.returns-then-head-end
+returns-then-head-end c =
+    let o = c.args.image.now.opened in
+    root-bad _ _ o c.args.p _ _ (start_is c.args.p c.get-start.ensures c.table_at.ensures o.head.table_is) c.digits_of-w.ensures (omega arith) c.if-head-end.true
 
-pub overflow_add-h : goal.overflow_add-h
-overflow_add-h c =
-    let f = bounds c.args.s.now c.args.h c.requires.0 in
-    omega (arith, f.few, f.head-high, f.code-at, c.requires.0.head.code_is, c.get4-start.ensures.small)
+pub overflow_add-head : goal.overflow_add-head
+overflow_add-head c =
+    let o = c.args.image.now.opened in
+    let f = bounds _ _ o in
+    omega (arith, f.few, f.head-high, f.code-at, o.head.code_is, c.get-start.ensures.small)
 
 pub get_field-value-requires : goal.get_field-value-requires
 get_field-value-requires c =
-    let q = c.requires.0.head in
-    let f = bounds c.args.s.now c.args.h c.requires.0 in
+    let o = c.args.image.now.opened in
+    let q = o.head in
+    let f = bounds _ _ o in
     let w = c.digits_of-w.ensures in
-    let g = c.get4-start.ensures.small in record {
+    let g = c.get-start.ensures.small in record {
       width_bound = (
         omega (arith, q.code_is, f.code-at, f.long),
         omega (arith, q.code_is, f.code-at, f.few, f.head-high, f.narrow, f.width, w, g),
@@ -51,5 +53,6 @@ get_field-value-requires c =
 
 pub returns : goal.returns
 returns c =
-    root-good c.args.s.now c.args.h c.requires.0 c.args.p _ _ (start_is c.args.p c.get4-start.ensures c.table_at.ensures c.requires.0.head.table_is)
-    c.digits_of-w.ensures c.get_field-value.result c.if-h-end.false c.get_field-value.ensures
+    let o = c.args.image.now.opened in
+    root-good _ _ o c.args.p _ _ (start_is c.args.p c.get-start.ensures c.table_at.ensures o.head.table_is)
+    c.digits_of-w.ensures (omega arith) c.if-head-end.false c.get_field-value.ensures

@@ -1,2 +1,0 @@
--- What one function hands the next.
-pub mod Places
