@@ -8,8 +8,8 @@ use native.Mathlib.Decide.{dec_le}
 use native.Mathlib.Omega.{arith}
 use lib.ListN.{length}
 use Rattle.answers.specs.Image.{fails}
-use Rattle.answers.specs.declared.image.Stretch.{Stretch}
-use Rattle.answers.specs.declared.image.Stretch.TheVariants.{Run, Refused}
+use Rattle.answers.specs.Stretch.{Stretch}
+use Rattle.answers.specs.Stretch.Stretch.{Run, Refused}
 use Rattle.lists.proofs.Sums.{sum-take-le}
 use Rattle.image.specs.Check.{accepted, check}
 use Rattle.image.specs.Read.{list_of}

@@ -20,8 +20,8 @@ use Rattle.runs.specs.Runs.{run_sum}
 use Rattle.runs.proofs.PrefixSums.{reading-next}
 
 module _ (s : List ℕ) (a : accepted s ≡ true) {h : Head} (o : HeadOf s h) where
-  pub opened : Opened s h
-  opened = record { head = o; passed = past-5 s a }
+  pub opened : ((i : ℕ) → get_or s i 0 < 256) → Opened s h
+  opened b = record { bytes = b; head = o; passed = past-5 s a }
 
   -- the way finds the reading at the hour and its count
   look-finds : (i : ℕ) → i < length (list_of s) → look s i ≡ found (reading (list_of s) i) (get_or (list_of s) i 0)

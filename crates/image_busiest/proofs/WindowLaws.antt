@@ -2,7 +2,7 @@
 use mathlib.Core.Bool.{true}
 use mathlib.Core.List.{List}
 use mathlib.Core.Path.{◌≡◌, refl, sym, ap, ◌∙◌}
-use Prim.Native.Nat.{ℕ, ◌+◌, ◌-◌, ◌%◌, ◌^◌, ◌≤◌, ◌<◌, min}
+use Prim.Native.Nat.{ℕ, ◌+◌, ◌-◌, ◌%◌, ◌^◌, ◌≤◌, ◌<◌}
 use native.Mathlib.Decide.{dec_le}
 use native.Mathlib.Omega.{arith}
 use lib.ListN.{length, get_or}
@@ -13,9 +13,9 @@ use Rattle.image.specs.Check.{accepted}
 use Rattle.image.specs.Code.Head.{HeadOf}
 use Rattle.image.specs.Read.{list_of}
 use Rattle.image.specs.declared.head.Head.{Head}
-use Rattle.image.proofs.Accepted.{accepted-only, length-list}
-use Rattle.image_cursor.specs.Code.Cursor.{Ahead, Ready}
-use Rattle.image_cursor.proofs.CursorLaws.{count_of, place_in}
+use Rattle.image.proofs.Accepted.{accepted-only}
+use Rattle.image_cursor.specs.Code.Cursor.{Ready}
+use Rattle.image_cursor.proofs.CursorLaws.{count_of, hours, place_in}
 use Rattle.runs.specs.Runs.{Busiest, run_sum}
 use Rattle.runs.proofs.PrefixSums.{reading-next, run-reading}
 use Rattle.runs.proofs.BusiestLaws.{best-all, best-first, best_keeps, best-new, window-moves}
@@ -63,26 +63,14 @@ module _ (s : List ℕ) (k : ℕ) (w : Window) (l : Looked s k w) (i : w.first +
         refl,
       )
 
--- ---- as far as no end leaves its page
-pub along-least : (h : Head) (k j u v r : ℕ) → j + k < h.hours → Ahead h (j + k) u → Ahead h j v → r ≡ min u v → Along h k j r
-along-least h k j u v r l e f g = record {
-  some = omega (arith, e.some l, f.some (omega arith));
-  inside = omega (arith, e.inside);
-  front-room = omega (arith, e.room);
-  back-room = omega (arith, f.room);
-}
-
 module _ (s : List ℕ) (a : accepted s ≡ true) {h : Head} (o : HeadOf s h) where
-  pub hours : length (list_of s) ≡ h.hours
-  hours = omega (arith, length-list s, o.hours-is)
-
   -- no run and no count has more than the total
   run_small : (j k : ℕ) → run_sum (list_of s) j k ≤ 1099511627775
   run_small j k = omega (arith, run-reading (list_of s) j k, sum-take-le (j + k) (list_of s), (accepted-only s a).limits.total)
 
   count_small : (i : ℕ) → i < h.hours → get_or (list_of s) i 0 ≤ 1099511627775
   count_small i l =
-      omega (arith, reading-next (list_of s) i (omega (arith, hours)), sum-take-le (i + 1) (list_of s), (accepted-only s a).limits.total)
+      omega (arith, reading-next (list_of s) i (omega (arith, hours s o)), sum-take-le (i + 1) (list_of s), (accepted-only s a).limits.total)
 
   -- ---- hour i of n that the window moves on from where it stood: f and b are the places of the hours that come in and go out
   module _ (k i n : ℕ) (at w : Window) (c : Along h k at.first n) (m : i < n) (l : Looked s k w) (e : w.first ≡ at.first + i)
@@ -100,7 +88,7 @@ module _ (s : List ℕ) (a : accepted s ≡ true) {h : Head} (o : HeadOf s h) wh
         ∙ ap (λ (t : ℕ). get_or (list_of s) t 0) (sym e)
 
     more-in : w.first + k < length (list_of s)
-    more-in = omega (arith, hours, c.inside)
+    more-in = omega (arith, hours s o, c.inside)
 
     pub front-place : f + i < 256
     front-place = omega (arith, x, place_in s o a (at.first + k) i (omega (arith, c.front-room)))
@@ -110,8 +98,8 @@ module _ (s : List ℕ) (a : accepted s ≡ true) {h : Head} (o : HeadOf s h) wh
 
     pub can-move : (w.first < 4294967296) × (w.sum + get_or front (f + i) 0 < 2 ^ 64) × (get_or back (b + i) 0 ≤ w.sum + get_or front (f + i) 0)
     can-move = (
-      omega (arith, more-in, hours, o.hours-small),
-      omega (arith, l.sum_is, run_small w.first k, more-is, count_small (w.first + k) (omega (arith, more-in, hours))),
+      omega (arith, more-in, hours s o, o.hours-small),
+      omega (arith, l.sum_is, run_small w.first k, more-is, count_small (w.first + k) (omega (arith, more-in, hours s o))),
       less-fits s k w l more-in (get_or front (f + i) 0) (get_or back (b + i) 0) more-is less-is,
     )
 
@@ -123,7 +111,7 @@ module _ (s : List ℕ) (a : accepted s ≡ true) {h : Head} (o : HeadOf s h) wh
   -- ---- the first window, and the last
   pub looked-first : (k t : ℕ) → k ≤ h.hours → t ≡ run_sum (list_of s) 0 k → Looked s k (record { first = 0; sum = t; best = 0; most = t })
   looked-first k t l e =
-      record { inside = omega (arith, hours); sum_is = e; best-is = rw e (best-first (list_of s) k) }
+      record { inside = omega (arith, hours s o); sum_is = e; best-is = rw e (best-first (list_of s) k) }
 
   pub found : (k : ℕ) (w : Window) → h.hours ≤ w.first + k → Looked s k w → Busiest (list_of s) k w.best w.most
-  found k w n l = best-all (list_of s) k w.first w.best w.most l.best-is (omega (arith, hours, l.inside))
+  found k w n l = best-all (list_of s) k w.first w.best w.most l.best-is (omega (arith, hours s o, l.inside))

@@ -2,8 +2,8 @@
 use Rattle.std.specs.Prelude.{true, List, ◌⊎◌, ◌≡◌, ℕ, ◌≤◌, ◌<◌, length}
 use Rattle.answers.specs.Refusals.{stretch_wrong}
 use Rattle.answers.specs.Image.{fails}
-use Rattle.answers.specs.declared.image.Stretch.{Stretch}
-use Rattle.answers.specs.declared.image.Stretch.TheVariants.{Run, Refused}
+use Rattle.answers.specs.Stretch.{Stretch}
+use Rattle.answers.specs.Stretch.Stretch.{Run, Refused}
 use Rattle.image.specs.Check.{accepted, check}
 use Rattle.image.specs.Read.{list_of}
 use Rattle.runs.specs.Runs.{Busiest}

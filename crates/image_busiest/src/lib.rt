@@ -3,40 +3,34 @@
 
 mod window;
 
-ghost use Rattle.std.specs.Prelude.{true, ◌≡◌};
-ghost use Rattle.image.specs.Check.{accepted};
-ghost use Rattle.image.specs.Code.Head.{HeadOf};
+ghost use Rattle.answers.specs.Stretch.{told};
 ghost use Rattle.image_busiest.specs.Busiest.{BusiestCall};
 
 use crate::window::best_window;
 use answers::image::Stretch;
-use answers::refusal;
-use image::head::Head;
-use image_check::{Access, open_accepted};
+use answers::refusal::Refusal;
+use image::opened::Accepted;
+use image_check::open_accepted;
+use sum_table::SumTable;
 
 // The run of k hours of an accepted image with the most coins.
-fn among(s: &[u8], h: Head, k: u64) -> Stretch
-    requires { (accepted s.now ≡ true) × HeadOf s.now h }
-    ensures { BusiestCall s.now k result }
+fn among(image: &Accepted, k: u64) -> Result<Stretch, Refusal>
+    ensures { BusiestCall image.now.bytes.now k (told result) }
 {
-    if k == 0 {
-        return Stretch::Refused(refusal::STRETCH);
+    if k == 0 || image.head.hours < k {
+        return Err(Refusal::Stretch);
     }
-    if h.hours < k {
-        return Stretch::Refused(refusal::STRETCH);
-    }
-    let mut table = [0u8; 864];
-    sum_table::put_sums(&mut table);
-    let w = best_window(s, &table, h, k);
-    Stretch::Run(w.best, w.most)
+    let w = best_window(image, &SumTable::new(), k);
+    Ok(Stretch {
+        first: w.best,
+        total: w.most,
+    })
 }
 
 // The run of exactly k successive hours with the largest sum, the earliest on a tie: its first hour and its sum.
-pub fn busiest(s: &[u8], k: u32) -> Stretch
-    ensures { BusiestCall s.now k result }
+pub fn busiest(s: &[u8], k: u32) -> Result<Stretch, Refusal>
+    ensures { BusiestCall s.now k (told result) }
 {
-    match open_accepted(s) {
-        Access::Refused(j) => Stretch::Refused(j),
-        Access::Image(h) => among(s, h, k as u64),
-    }
+    let image = open_accepted(s)?;
+    among(&image, u64::from(k))
 }

@@ -1,6 +1,5 @@
 // A window of k hours, moved along the hours of an accepted image, so many hours at a time that neither end leaves its page.
 ghost use Rattle.std.specs.Prelude.{true, ◌≡◌, ◌+◌, ◌^◌, ◌≤◌, ◌<◌};
-ghost use Rattle.sum_table.specs.Code.Sums.{Sums};
 ghost use Rattle.image.specs.Check.{accepted};
 ghost use Rattle.image.specs.Code.Head.{HeadOf};
 ghost use Rattle.image.specs.Read.{list_of};
@@ -10,9 +9,10 @@ ghost use Rattle.image_busiest.specs.Code.{Along, Looked, later};
 
 use bits_word::low_bits;
 use image::head::Head;
+use image::opened::{Accepted, Image};
 use image_cursor::cursor::{ahead, follow, read_page, turn};
 use image_query::look;
-use lists::smaller;
+use sum_table::SumTable;
 
 // A window on its way: its first hour and its sum; and the best of the windows so far, its first hour and its sum.
 #[derive(Clone, Copy)]
@@ -29,79 +29,89 @@ fn moved(w: Window, more: u64, less: u64) -> Window
     ensures { result ≡ later w more less }
 {
     let first = w.first + 1;
-    let next = w.sum + more - less;
-    if w.most < next {
-        return Window {
+    let sum = w.sum + more - less;
+    if w.most < sum {
+        Window {
             first,
-            sum: next,
+            sum,
             best: first,
-            most: next,
-        };
-    }
-    Window {
-        first,
-        sum: next,
-        best: w.best,
-        most: w.most,
+            most: sum,
+        }
+    } else {
+        Window { first, sum, ..w }
     }
 }
 
 // How far the window from hour j on moves at a time: to the end of a page at one of its ends, or of the list.
-fn stride(h: Head, k: u64, j: u64) -> usize
-    requires { (h.e ≤ 8) × (h.hours < 4294967296) × (j + k < h.hours) }
-    ensures { Along h k j result }
+fn stride(image: &Accepted, k: u64, j: u64) -> usize
+    requires { j + k < image.now.head.hours }
+    ensures { Along image.now.head k j result }
 {
-    smaller(ahead(h, j + k), ahead(h, j))
+    ahead(image, j + k).min(ahead(image, j))
 }
 
 // The window n hours later: front has the page of the hour behind it, back that of its first hour.
-fn slide(s: &[u8], h: Head, k: u64, at: Window, n: usize, front: &[u32], back: &[u32]) -> Window
-    requires s_value { (accepted s.now ≡ true) × HeadOf s.now h × Looked s.now k at × Along h k at.first n }
-    requires ready { Ready s.now (at.first + k) front.now × Ready s.now at.first back.now }
-    ensures { Looked s.now k result × (result.first ≡ at.first + n) }
+fn slide(
+    image: &Accepted,
+    k: u64,
+    at: Window,
+    n: usize,
+    front: &[u32; 256],
+    back: &[u32; 256],
+) -> Window
+    requires looked { Looked image.now.bytes.now k at × Along image.now.head k at.first n }
+    requires ready { Ready image.now.bytes.now (at.first + k) front.now × Ready image.now.bytes.now at.first back.now }
+    ensures { Looked image.now.bytes.now k result × (result.first ≡ at.first + n) }
 {
-    let f = low_bits(at.first + k, h.e) as usize;
-    let b = low_bits(at.first, h.e) as usize;
+    let f = low_bits(at.first + k, image.head.e) as usize;
+    let b = low_bits(at.first, image.head.e) as usize;
     let mut w = at;
-    let mut i = 0;
-    while i < n {
-        w = moved(w, front[f + i] as u64, back[b + i] as u64);
-        i = i + 1;
+    for i in 0..n {
+        w = moved(w, u64::from(front[f + i]), u64::from(back[b + i]));
     }
     w
 }
 
-// The sum of the first k hours, which the way to the last of them finds: an accepted image has no damage there.
-fn first_sum(s: &[u8], h: Head, k: u64) -> u64
-    requires { (accepted s.now ≡ true) × HeadOf s.now h × (1 ≤ k) × (k ≤ h.hours) }
-    ensures { result ≡ run_sum (list_of s.now) 0 k }
+// An accepted image as one that is past refusal 5.
+fn opened(bytes: &[u8], head: Head) -> Image
+    requires { (accepted bytes.now ≡ true) × HeadOf bytes.now head }
+    ensures { (result.bytes.now ≡ bytes.now) × (result.head ≡ head) }
 {
-    look(s, h, k - 1, 1)
+    Image { bytes, head }
+}
+
+// The sum of the first k hours, which the way to the last of them finds: an accepted image has no damage there.
+fn first_sum(image: &Accepted, k: u64) -> u64
+    requires { (1 ≤ k) × (k ≤ image.now.head.hours) }
+    ensures { result ≡ run_sum (list_of image.now.bytes.now) 0 k }
+{
+    look(&opened(image.bytes, image.head), k - 1, 1)
 }
 
 // The busiest window of k hours.
-pub(crate) fn best_window(s: &[u8], table: &[u8; 864], h: Head, k: u64) -> Window
-    requires { (accepted s.now ≡ true) × HeadOf s.now h × (1 ≤ k) × (k ≤ h.hours) × Sums table.now }
-    ensures { Busiest (list_of s.now) k result.best result.most }
+pub(crate) fn best_window(image: &Accepted, table: &SumTable, k: u64) -> Window
+    requires { (1 ≤ k) × (k ≤ image.now.head.hours) }
+    ensures { Busiest (list_of image.now.bytes.now) k result.best result.most }
 {
     let mut front = [0u32; 256];
     let mut back = [0u32; 256];
-    read_page(s, table, h, k, &mut front);
-    read_page(s, table, h, 0, &mut back);
-    let sum = first_sum(s, h, k);
+    read_page(image, table, k, &mut front);
+    read_page(image, table, 0, &mut back);
+    let sum = first_sum(image, k);
     let mut at = Window {
         first: 0,
         sum,
         best: 0,
         most: sum,
     };
-    while at.first + k < h.hours {
-        let n = stride(h, k, at.first);
-        let next = slide(s, h, k, at, n, &front, &back);
+    // A while: a step is as long as the pages at both ends allow.
+    while at.first + k < image.head.hours {
+        let n = stride(image, k, at.first);
+        let next = slide(image, k, at, n, &front, &back);
         let end = at.first + k;
         // Before the front's turn: where k is no more than a page, the back's next page is the front's.
-        follow(s, table, h, at.first, n as u64, &mut back, &front, end);
-        turn(s, table, h, end, n as u64, &mut front);
+        follow(image, table, at.first, n as u64, &mut back, &front, end);
+        turn(image, table, end, n as u64, &mut front);
         at = next;
     }
     at

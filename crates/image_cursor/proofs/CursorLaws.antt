@@ -2,21 +2,21 @@
 use mathlib.Core.Bool.{true}
 use mathlib.Core.List.{List}
 use mathlib.Core.Path.{◌≡◌, ap, sym, ◌∙◌}
-use Prim.Native.Nat.{ℕ, ◌+◌, ◌-◌, ◌*◌, ◌/◌, ◌%◌, ◌^◌, ◌≤◌, ◌<◌, min}
+use Prim.Native.Nat.{ℕ, ◌+◌, ◌*◌, ◌/◌, ◌%◌, ◌^◌, ◌≤◌, ◌<◌}
 use native.Mathlib.Nat.{lt_of_mul-lt-mul_left}
 use native.Mathlib.Decide.{dec_le}
 use native.Mathlib.Omega.{arith}
 use lib.ListN.{length, get_or, take, drop}
 use lib.Pow.{pow_mono}
-use lib.Seq.{get_or-take, take_at}
-use Rattle.lists.specs.Lists.{splice}
-use Rattle.lists.proofs.Parts.{length-splice}
+use lib.Seq.{ext_get_or, get_or-drop, get_or-take, take_at}
+use Rattle.lists.specs.Lists.{part, splice}
+use Rattle.lists.proofs.Parts.{length_part, length-splice}
 use Rattle.image.specs.Check.{accepted}
 use Rattle.image.specs.Code.Head.{HeadOf}
 use Rattle.image.specs.Image.{page}
 use Rattle.image.specs.Read.{e_of, list_of, n_of, page_count_of}
 use Rattle.image.specs.declared.head.Head.{Head}
-use Rattle.image.proofs.Accepted.{accepted-only}
+use Rattle.image.proofs.Accepted.{accepted-only, length-list}
 use Rattle.image.proofs.PageLaws.{get_d-page, hour-low, hour-page, hour-split, length-page}
 use Rattle.image_cursor.specs.Code.Cursor.{Ahead, Ready}
 
@@ -29,7 +29,7 @@ module _ (s : List ℕ) (a : accepted s ≡ true) where
   pub low : e_of s ≤ 8
   low = (accepted-only s a).limits.e-high
 
-  fits : 2 ^ e_of s ≤ 256
+  pub fits : 2 ^ e_of s ≤ 256
   fits = pow_mono {i = e_of s} {j = 8} low
 
   -- the page of hour i was read into the array
@@ -130,11 +130,29 @@ module _ (s : List ℕ) {h : Head} (o : HeadOf s h) where
       let f : j < 2 ^ e_of s = rw o.e-is at g in
       rw e (count-is s i n c (omega (arith, o.hours-is)) (rw e at f) r)
 
--- the lesser of what the page and what the list has
-pub ahead-least : (h : Head) (i u r : ℕ) → i ≤ h.hours → u + i % 2 ^ h.e ≡ 2 ^ h.e → r ≡ min u (h.hours - i) → Ahead h i r
-ahead-least h i u r l e g = record {
-  inside = omega arith;
-  room = omega arith;
-  some = λ (k : i < h.hours). omega (arith, hour-low h.e i);
-  whole = λ (k : i + r < h.hours). omega arith;
-}
+  pub hours : length (list_of s) ≡ h.hours
+  hours = omega (arith, length-list s, o.hours-is)
+
+  -- the counts of n hours from hour lo on, which are in its page
+  pub counts-ahead : accepted s ≡ true → (lo n b : ℕ) (c : List ℕ) → b ≡ lo % 2 ^ h.e → Ahead h lo n → Ready s lo c
+      → part c b n ≡ part (list_of s) lo n
+  counts-ahead a lo n b c e d r = ext_get_or 0 (part c b n) (part (list_of s) lo n) (l ∙ sym m) (λ k i. at k (omega (arith, l)))
+    where
+      l : length (part c b n) ≡ n
+      l = length_part c b n (omega (arith, page-small a, d.room, r.long, e))
+
+      m : length (part (list_of s) lo n) ≡ n
+      m = length_part (list_of s) lo n (omega (arith, hours, d.inside))
+
+      at : (k : ℕ) → k < n → get_or (part c b n) k 0 ≡ get_or (part (list_of s) lo n) k 0
+      at k i =
+          get_or-take n (drop b c) k 0 i ∙ get_or-drop b c k 0
+          ∙ count_of lo k (b + k) c (ap (λ (z : ℕ). z + k) e) (omega (arith, d.inside)) (omega (arith, d.room)) r
+          ∙ sym (get_or-take n (drop lo (list_of s)) k 0 i ∙ get_or-drop lo (list_of s) k 0)
+
+  -- the same, as a slice of them
+  pub ahead-part : accepted s ≡ true → (lo n b m : ℕ) (c : List ℕ) → b ≡ lo % 2 ^ h.e → Ahead h lo n → Ready s lo c → m ≡ n
+      → Ahead h lo (length (part c b m)) × (part c b m ≡ part (list_of s) lo (length (part c b m)))
+  ahead-part a lo n b m c e d r f =
+      let l : length (part c b n) ≡ n = length_part c b n (omega (arith, page-small a, d.room, r.long, e)) in
+      rw (f, l) (d, counts-ahead a lo n b c e d r)

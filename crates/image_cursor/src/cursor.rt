@@ -1,15 +1,12 @@
 // An accepted image read along its hours, page by page, with one page of counts in a lent array. The table of small sums is lent, too.
-ghost use Rattle.std.specs.Prelude.{true, ◌≡◌, ◌+◌, ◌%◌, ◌^◌, ◌≤◌, ◌<◌, length, take};
-ghost use Rattle.sum_table.specs.Code.Sums.{Sums};
-ghost use Rattle.image.specs.Check.{accepted};
-ghost use Rattle.image.specs.Code.Head.{HeadOf};
+ghost use Rattle.std.specs.Prelude.{◌≡◌, ◌+◌, ◌%◌, ◌^◌, ◌≤◌, ◌<◌};
 ghost use Rattle.image_cursor.specs.Code.Cursor.{Ahead, Ready};
 
 use bits_word::low_bits;
-use image::head::Head;
+use image::opened::Accepted;
 use image_page::page_counts;
-use lists::smaller;
 use reserve::power;
+use sum_table::SumTable;
 
 // How many hours the page of hour i has from hour i on: pages have 2^e.
 fn room(e: u32, i: u64) -> u64
@@ -20,69 +17,53 @@ fn room(e: u32, i: u64) -> u64
 }
 
 // How many hours there are from hour i on to the end of its page, or of the list.
-pub fn ahead(h: Head, i: u64) -> usize
-    requires { (h.e ≤ 8) × (h.hours < 4294967296) × (i ≤ h.hours) }
-    ensures { Ahead h i result }
+pub fn ahead(image: &Accepted, i: u64) -> usize
+    requires { i ≤ image.now.head.hours }
+    ensures { Ahead image.now.head i result }
 {
-    smaller(room(h.e, i) as usize, (h.hours - i) as usize)
+    (room(image.head.e, i) as usize).min((image.head.hours - i) as usize)
 }
 
-// Reads the page of hour i of the image s, whose header is h, if this hour is logged.
-pub fn read_page(s: &[u8], table: &[u8; 864], h: Head, i: u64, counts: &mut [u32; 256])
-    requires { (accepted s.now ≡ true) × HeadOf s.now h × (length counts.old ≡ 256) × Sums table.now }
-    ensures { Ready s.now i counts.new }
+// Reads the page of hour i, if this hour is logged.
+pub fn read_page(image: &Accepted, table: &SumTable, i: u64, counts: &mut [u32; 256])
+    ensures { Ready image.now.bytes.now i counts.new }
 {
-    if h.hours <= i {
-        return;
+    if i < image.head.hours {
+        let p = (i >> image.head.e) as usize;
+        page_counts(image, table, p, counts, 0);
     }
-    let w = reserve::digits_of(h.total);
-    let p = (i >> h.e) as usize;
-    page_counts(s, table, h.table, h.code, w, h.e, p, counts, 0);
 }
 
 // From hour i, whose page is in counts, n hours on: no further than to the first hour of the next page, which is then read.
-pub fn turn(s: &[u8], table: &[u8; 864], h: Head, i: u64, n: u64, counts: &mut [u32; 256])
-    requires s_value { (accepted s.now ≡ true) × HeadOf s.now h × Ready s.now i counts.old }
-    requires i_le_hours { (i ≤ h.hours) × (i % 2 ^ h.e + n ≤ 2 ^ h.e) × Sums table.now }
-    ensures { Ready s.now (i + n) counts.new }
+pub fn turn(image: &Accepted, table: &SumTable, i: u64, n: u64, counts: &mut [u32; 256])
+    requires ready { Ready image.now.bytes.now i counts.old }
+    requires inside { (i ≤ image.now.head.hours) × (i % 2 ^ image.now.head.e + n ≤ 2 ^ image.now.head.e) }
+    ensures { Ready image.now.bytes.now (i + n) counts.new }
 {
     let next = i + n;
-    if low_bits(next, h.e) != 0 {
-        return;
-    }
-    read_page(s, table, h, next, counts);
-}
-
-// Copies the first m counts of lead.
-fn copy_page(m: usize, lead: &[u32], counts: &mut [u32; 256])
-    requires { (m ≤ 256) × (length lead.now ≡ 256) × (length counts.old ≡ 256) }
-    ensures { (length counts.new ≡ 256) × (take m counts.new ≡ take m lead.now) }
-{
-    let mut i = 0;
-    while i < m {
-        counts[i] = lead[i];
-        i = i + 1;
+    if low_bits(next, image.head.e) == 0 {
+        read_page(image, table, next, counts);
     }
 }
 
 // As turn, behind a cursor that has the page of hour j in lead: where it is the next page, it is copied, and not read again.
 pub fn follow(
-    s: &[u8],
-    table: &[u8; 864],
-    h: Head,
+    image: &Accepted,
+    table: &SumTable,
     i: u64,
     n: u64,
     counts: &mut [u32; 256],
-    lead: &[u32],
+    lead: &[u32; 256],
     j: u64,
 )
-    requires s_value { (accepted s.now ≡ true) × HeadOf s.now h × Ready s.now i counts.old × Ready s.now j lead.now }
-    requires i_le_hours { (i ≤ h.hours) × (i % 2 ^ h.e + n ≤ 2 ^ h.e) × (j < h.hours) × Sums table.now }
-    ensures { Ready s.now (i + n) counts.new }
+    requires ready { Ready image.now.bytes.now i counts.old × Ready image.now.bytes.now j lead.now }
+    requires inside { (i ≤ image.now.head.hours) × (i % 2 ^ image.now.head.e + n ≤ 2 ^ image.now.head.e) × (j < image.now.head.hours) }
+    ensures { Ready image.now.bytes.now (i + n) counts.new }
 {
-    if i + n + low_bits(j, h.e) == j {
-        copy_page(power(h.e) as usize, lead, counts);
-        return;
+    if i + n + low_bits(j, image.head.e) == j {
+        let hours = power(image.head.e) as usize;
+        counts[..hours].copy_from_slice(&lead[..hours]);
+    } else {
+        turn(image, table, i, n, counts);
     }
-    turn(s, table, h, i, n, counts);
 }

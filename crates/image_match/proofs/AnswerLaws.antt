@@ -1,5 +1,7 @@
 -- The call has an answer on any bytes, and one alone. Assumes nothing.
 use mathlib.Core.Bool.{true}
+use Rattle.std.specs.Prelude.{Option, Some, Ok}
+use Rattle.std.specs.Prelude.{None as Nowhere}
 use mathlib.Core.List.{List}
 use mathlib.Core.Logic.{◌⊎◌, inl, inr, ⊎_elim}
 use mathlib.Core.Path.{◌≡◌, refl, ap, ◌∙◌}
@@ -8,8 +10,9 @@ use native.Mathlib.Decide.{dec_le}
 use native.Mathlib.Omega.{arith}
 use lib.ListN.{length}
 use Rattle.answers.specs.Image.{fails}
-use Rattle.answers.specs.declared.image.Bag.{Bag}
-use Rattle.answers.specs.declared.image.Bag.TheVariants.{Run, None, Refused}
+use Rattle.answers.specs.Bag.{Bag, told}
+use Rattle.answers.specs.Bag.Bag.{Run, None, Refused}
+use Rattle.answers.specs.declared.image.Run.{Run as Found}
 use Rattle.lists.specs.Lists.{sum}
 use Rattle.lists.proofs.Sums.{sum-take-le}
 use Rattle.image.specs.Check.{accepted, check}
@@ -32,10 +35,9 @@ none-larger s q a h o l =
     no-match-from (list_of s) q 0 (none-before-first (list_of s) q) (omega (arith, sum-take-le (length (list_of s)) (list_of s)))
 
 -- what the search finds is the call's answer
-pub found-answer : (s : List ℕ) (q : ℕ) → accepted s ≡ true → 1 ≤ q → (r : Bag) → Finds (list_of s) q r → MatchCall s q r
-found-answer s q a l (Run f n) m = the-run a l f n m
-found-answer s q a l None m = none a l m
-found-answer s q a l (Refused k) m = absurd m
+pub found-answer : (s : List ℕ) (q : ℕ) → accepted s ≡ true → 1 ≤ q → (r : Option Found) → Finds (list_of s) q r → MatchCall s q (told (Ok r))
+found-answer s q a l (Some r) m = the-run a l r.first r.hours m
+found-answer s q a l Nowhere m = none a l m
 
 pub some-answer : (s : List ℕ) (q : ℕ) → (a : Bag) × MatchCall s q a
 some-answer s q = go (accepted-or s) (dec_le q 0)

@@ -2,8 +2,8 @@
 use Rattle.std.specs.Prelude.{true, List, ◌≡◌, ℕ, ◌≤◌}
 use Rattle.answers.specs.Refusals.{bag_empty}
 use Rattle.answers.specs.Image.{fails}
-use Rattle.answers.specs.declared.image.Bag.{Bag}
-use Rattle.answers.specs.declared.image.Bag.TheVariants.{Run, None, Refused}
+use Rattle.answers.specs.Bag.{Bag}
+use Rattle.answers.specs.Bag.Bag.{Run, None, Refused}
 use Rattle.image.specs.Check.{accepted, check}
 use Rattle.image.specs.Read.{list_of}
 use Rattle.runs.specs.Runs.{FirstMatch, NoMatch}

@@ -6,31 +6,26 @@ use Prim.Native.Nat.{ℕ, suc, ◌+◌, ◌-◌, ◌*◌, ◌/◌, ◌%◌, ◌^
 use native.Mathlib.Nat.{add-mod_right, mul-suc, zero-mod}
 use native.Mathlib.Decide.{dec_le}
 use native.Mathlib.Omega.{arith}
-use lib.ListN.{length, get_or, take, drop}
+use lib.ListN.{take}
 use lib.Seq.{take_all}
-use Rattle.lists.specs.Lists.{reading, sum}
+use Rattle.lists.specs.Lists.{part, reading, sum}
 use Rattle.lists.proofs.Sums.{sum-take-le}
 use Rattle.image.specs.Check.{accepted}
 use Rattle.image.specs.Code.Head.{HeadOf}
 use Rattle.image.specs.Image.{root}
 use Rattle.image.specs.Read.{e_of, list_of, sum_of}
 use Rattle.image.specs.declared.head.Head.{Head}
-use Rattle.image.proofs.Accepted.{accepted-only, length-list}
+use Rattle.image.proofs.Accepted.{accepted-only}
 use Rattle.image.proofs.PageLaws.{hour-low, hour-split}
 use Rattle.image_cursor.specs.Code.Cursor.{Ahead, Ready}
 use Rattle.image_page.proofs.AcceptedPage.{sum-above}
-use Rattle.image_cursor.proofs.CursorLaws.{count_of, page-in, page-small as pages-small}
+use Rattle.image_cursor.proofs.CursorLaws.{counts-ahead, hours, page-in}
 use Rattle.runs.specs.Runs.{run_sum}
-use Rattle.runs.proofs.PrefixSums.{reading-grows, reading-held, run-reading}
-use Rattle.sum_marks.specs.Code.Marks.{Marked}
-use Rattle.match_page.specs.Code.Page.{CountsOf, FrontPageOf, InHand, RunOf}
+use Rattle.runs.proofs.PrefixSums.{reading-grows, run-reading}
+use Rattle.match_page.specs.Code.Page.{FrontPageOf, RunOf}
 use Rattle.match_page.specs.declared.FrontPage.{FrontPage}
-use Rattle.sum_marks.proofs.MarkLaws.{marked-of}
 
 module _ (s : List ℕ) (a : accepted s ≡ true) {h : Head} (o : HeadOf s h) where
-  pub hours : length (list_of s) ≡ h.hours
-  hours = omega (arith, length-list s, o.hours-is)
-
   -- no hours have more coins than all
   pub coins-small : (k : ℕ) → reading (list_of s) k ≤ 1099511627775
   coins-small k = omega (arith, sum-take-le k (list_of s), (accepted-only s a).limits.total)
@@ -40,9 +35,9 @@ module _ (s : List ℕ) (a : accepted s ≡ true) {h : Head} (o : HeadOf s h) wh
   page-small page g =
       omega (arith, run-reading (list_of s) page.first page.hours, g.sum_is, coins-small (page.first + page.hours))
 
-  pub counts-small : (page : FrontPage) (counts : List ℕ) → RunOf (list_of s) page → CountsOf (list_of s) page counts
-      → reading counts page.hours ≤ 1099511627775
-  counts-small page counts g f = omega (arith, page-small page g, g.sum_is, f.readings page.hours (omega arith))
+  pub counts-small : (page : FrontPage) (counts : List ℕ) → RunOf (list_of s) page → counts ≡ part (list_of s) page.first page.hours
+      → sum counts ≤ 1099511627775
+  counts-small page counts g f = omega (arith, page-small page g, g.sum_is, ap sum f)
 
   -- the root of an hour's page
   root-reading : (first r : ℕ) → r ≡ root (e_of s) (list_of s) (first / 2 ^ h.e) → r ≡ reading (list_of s) (2 ^ h.e * suc (first / 2 ^ h.e))
@@ -73,8 +68,8 @@ module _ (s : List ℕ) (a : accepted s ≡ true) {h : Head} (o : HeadOf s h) wh
         go : Dec (h.hours ≤ first + n) → reading (list_of s) (2 ^ h.e * suc p) ≡ reading (list_of s) (first + n)
         go (yes m) =
             ap sum
-            (take_all (2 ^ h.e * suc p) (list_of s) (omega (arith, next, hours, d.inside, d.room))
-            ∙ sym (take_all (first + n) (list_of s) (omega (arith, hours))))
+            (take_all (2 ^ h.e * suc p) (list_of s) (omega (arith, next, hours s o, d.inside, d.room))
+            ∙ sym (take_all (first + n) (list_of s) (omega (arith, hours s o))))
         go (no m) =
             let f : 2 ^ h.e * suc p ≡ first + n = omega (arith, next, z, d.whole (omega arith)) in
             ap (reading (list_of s)) f
@@ -94,32 +89,14 @@ module _ (s : List ℕ) (a : accepted s ≡ true) {h : Head} (o : HeadOf s h) wh
         logged = l;
         meets = z;
         whole = d;
-        run_is = record { inside = omega (arith, d.inside, hours); sum_is = omega (arith, above) };
+        run_is = record { inside = omega (arith, d.inside, hours s o); sum_is = omega (arith, above) };
         sum-of = sum_is;
       }
 
-  -- its counts read, and their sums marked
-  module _ (page : FrontPage) (counts : List ℕ) (g : FrontPageOf s h page) (r : Ready s page.first counts) where
-    pub held-long : page.hours ≤ length counts
-    held-long = omega (arith, g.whole.room, pages-small s o a, r.long)
-
-    held : (k : ℕ) → k < page.hours → get_or counts k 0 ≡ get_or (list_of s) (page.first + k) 0
-    held k m = count_of s o page.first k k counts (omega arith) (omega arith) (omega (arith, g.whole.room)) r
-
-    held-readings : (k : ℕ) → k ≤ page.hours → reading counts k ≡ run_sum (list_of s) page.first k
-    held-readings = reading-held (list_of s) counts page.first page.hours held-long g.run_is.inside held
-
-    held-counts : CountsOf (list_of s) page counts
-    held-counts = record { long = held-long; readings = held-readings }
-
-    pub held_small : reading counts page.hours ≤ 1099511627775
-    held_small = counts-small page counts g.run_is held-counts
-
-    pub held-page : (marks : List ℕ) → Marked counts page.hours page.stamp marks → InHand (list_of s) page counts marks
-    held-page marks m = record {
-      counts-are = held-counts;
-      marked = marked-of counts (drop page.first (list_of s)) page.hours page.stamp marks held-readings m;
-    }
+  -- its counts read
+  pub held : (page : FrontPage) (counts : List ℕ) → FrontPageOf s h page → Ready s page.first counts
+      → take page.hours counts ≡ part (list_of s) page.first page.hours
+  held page counts g r = counts-ahead s o a page.first page.hours 0 counts (sym g.meets) g.whole r
 
 -- ---- the coins before a page
 pub coins-first : (xs : List ℕ) → 0 ≡ reading xs 0

@@ -5,23 +5,31 @@ use Prim.Native.Nat.{ℕ, ◌+◌, ◌-◌, ◌≤◌, ◌<◌}
 use native.Mathlib.Decide.{dec_le}
 use native.Mathlib.Omega.{arith}
 use lib.ListN.{length, get_or, drop}
-use Rattle.lists.specs.Lists.{reading}
+use lib.Seq.{take-take}
+use Rattle.lists.specs.Lists.{part, reading, sum}
+use Rattle.lists.proofs.Parts.{length_part}
 use Rattle.runs.specs.Code.{NoneBefore}
 use Rattle.runs.specs.Runs.{FirstMatch, NoMatch, run_sum}
 use Rattle.runs.proofs.MatchLaws.{match-from, no-match-from, none-before-first, none-before-next}
 use Rattle.runs.proofs.PrefixSums.{reading-grows, reading-next, run-reading}
 use Rattle.sum_marks.specs.Code.Marks.{Marked, Unmarked}
-use Rattle.match_page.specs.Code.Page.{CountsOf, InHand, MarksOf, RunOf}
+use Rattle.match_page.specs.Code.Page.{RunOf}
 use Rattle.sum_marks.specs.Code.Prefix.{Tried}
 use Rattle.match_seek.specs.Code.Seek.{Seeks}
 use Rattle.match_seek.specs.declared.Aim.{Aim}
 use Rattle.match_page.specs.declared.FrontPage.{FrontPage}
 use Rattle.sum_marks.specs.declared.prefix.Prefix.{Prefix}
-use Rattle.sum_marks.proofs.MarkLaws.{marked-of}
 
 -- ---- the search
 pub seeks-first : (xs : List ℕ) (q : ℕ) → 1 ≤ q → Seeks xs q 0 (record { lo = 0; want = q })
 seeks-first xs q l = record { inside = omega arith; wants = refl; some = l; none_before = none-before-first xs q }
+
+-- the sum that is looked for, by where the search stands
+abbrev pub sought : List ℕ → ℕ → Aim → ℕ
+sought xs first at = reading xs first + at.want - reading xs at.lo
+
+pub sought-is : (xs : List ℕ) (q first : ℕ) (at : Aim) → Seeks xs q first at → sought xs first at ≡ q
+sought-is xs q first at w = omega (arith, w.wants)
 
 pub seeks-as : (xs : List ℕ) (q first f : ℕ) (at : Aim) → f ≡ first → Seeks xs q first at → Seeks xs q f at
 seeks-as xs q first f at e w = rw e w
@@ -46,10 +54,12 @@ module _ (xs : List ℕ) (q first : ℕ) (at : Aim) (w : Seeks xs q first at) wh
   seeks-none e = no-match-from xs q at.lo w.none_before (omega (arith, w.wants, w.some, ap (reading xs) e))
 
 -- ---- the search in a page
-pub counts-marked : (xs : List ℕ) (page : FrontPage) (counts marks : List ℕ) → InHand xs page counts marks
-    → Marked counts page.hours page.stamp marks
-counts-marked xs page counts marks g =
-    marked-of (drop page.first xs) counts page.hours page.stamp marks (λ k l. sym (g.counts-are.readings k l)) g.marked
+module _ (xs : List ℕ) (page : FrontPage) (counts : List ℕ) (f : counts ≡ part xs page.first page.hours) where
+  pub counts-long : RunOf xs page → length counts ≡ page.hours
+  counts-long g = ap length f ∙ length_part xs page.first page.hours g.inside
+
+  counts-readings : (k : ℕ) → k ≤ page.hours → reading counts k ≡ run_sum xs page.first k
+  counts-readings k l = ap (λ (z : List ℕ). reading z k) f ∙ ap sum (take-take k page.hours (drop page.first xs) l)
 
 module _ (xs : List ℕ) (q : ℕ) (page : FrontPage) (g : RunOf xs page) (at : Aim) (w : Seeks xs q page.first at) where
   behind : reading xs (page.first + page.hours) ≡ reading xs page.first + page.sum
@@ -94,33 +104,39 @@ module _ (xs : List ℕ) (q : ℕ) (page : FrontPage) (g : RunOf xs page) (at : 
             (omega (arith, g.sum_is, behind, reading-grows xs (page.first + page.hours) m c, w.wants))
         go m e (no d) (no c) = within m e (omega arith) (m - page.first) (omega arith) (omega arith)
 
-    -- there is no mark of it
-    pub over-unmarked : (marks : List ℕ) → MarksOf xs page marks → Unmarked marks page.stamp at.want → NoneBefore xs q (at.lo + 1)
-    over-unmarked marks m u = over (λ k a b e. u (drop page.first xs) page.hours m k a b e)
+    module _ (counts : List ℕ) (f : counts ≡ part xs page.first page.hours) where
+      -- there is no mark of it
+      pub over-unmarked : (marks : List ℕ) → Marked counts page.stamp marks → Unmarked marks page.stamp at.want → NoneBefore xs q (at.lo + 1)
+      over-unmarked marks m u =
+          over (λ k a b e. u counts m k a (omega (arith, counts-long xs page counts f g)) (counts-readings xs page counts f k b ∙ e))
 
-    module _ (counts : List ℕ) (f : CountsOf xs page counts) (r : Prefix) (p : Tried counts page.hours at.want r) where
-      -- it was looked for, and not found
-      pub over-missed : (r.sum ≡ at.want → ⊥) → NoneBefore xs q (at.lo + 1)
-      over-missed n = over (λ k a b e. p.missed n k a b (f.readings k b ∙ e))
+      module _ (r : Prefix) (p : Tried counts at.want r) where
+        -- it was looked for, and not found
+        pub over-missed : (r.sum ≡ at.want → ⊥) → NoneBefore xs q (at.lo + 1)
+        over-missed n =
+            over (λ k a b e. p.missed n k a (omega (arith, counts-long xs page counts f g)) (counts-readings xs page counts f k b ∙ e))
 
-      -- it is there
-      pub found_here : 1 ≤ q → r.sum ≡ at.want → FirstMatch xs q at.lo (page.first + r.hours - at.lo)
-      found_here m e =
-          match-from xs q at.lo w.none_before (page.first + r.hours) m (omega (arith, g.inside, p.prefix.inside))
-          (omega (arith, run-reading xs page.first r.hours, f.readings r.hours p.prefix.inside, p.prefix.sum_is, w.wants))
-          (λ k a i. go k a i (dec_le page.first k))
-        where
-          within : (k d : ℕ) → page.first + d ≡ k → d < r.hours → reading xs k ≡ reading xs at.lo + q → ⊥
-          within k d a b i =
-              omega (
-                arith,
-                p.prefix.short d b,
-                f.readings d (omega (arith, p.prefix.inside)),
-                run-reading xs page.first d,
-                ap (reading xs) a,
-                w.wants,
-              )
+        inside : r.hours ≤ page.hours
+        inside = omega (arith, p.prefix.inside, counts-long xs page counts f g)
 
-          go : (k : ℕ) → k < page.first + r.hours → reading xs k ≡ reading xs at.lo + q → Dec (page.first ≤ k) → ⊥
-          go k a i (yes d) = within k (k - page.first) (omega arith) (omega arith) i
-          go k a i (no d) = omega (arith, reading-grows xs k page.first (omega arith), w.wants, w.some)
+        -- it is there
+        pub found_here : 1 ≤ q → r.sum ≡ at.want → FirstMatch xs q at.lo (page.first + r.hours - at.lo)
+        found_here m e =
+            match-from xs q at.lo w.none_before (page.first + r.hours) m (omega (arith, g.inside, inside))
+            (omega (arith, run-reading xs page.first r.hours, counts-readings xs page counts f r.hours inside, p.prefix.sum_is, w.wants))
+            (λ k a i. go k a i (dec_le page.first k))
+          where
+            within : (k d : ℕ) → page.first + d ≡ k → d < r.hours → reading xs k ≡ reading xs at.lo + q → ⊥
+            within k d a b i =
+                omega (
+                  arith,
+                  p.prefix.short d b,
+                  counts-readings xs page counts f d (omega (arith, inside)),
+                  run-reading xs page.first d,
+                  ap (reading xs) a,
+                  w.wants,
+                )
+
+            go : (k : ℕ) → k < page.first + r.hours → reading xs k ≡ reading xs at.lo + q → Dec (page.first ≤ k) → ⊥
+            go k a i (yes d) = within k (k - page.first) (omega arith) (omega arith) i
+            go k a i (no d) = omega (arith, reading-grows xs k page.first (omega arith), w.wants, w.some)

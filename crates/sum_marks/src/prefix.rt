@@ -1,10 +1,10 @@
 // The first counts of a page, with as many coins as are wanted.
-ghost use Rattle.std.specs.Prelude.{◌≤◌, length};
-ghost use Rattle.lists.specs.Lists.{reading};
+ghost use Rattle.std.specs.Prelude.{◌≤◌};
+ghost use Rattle.lists.specs.Lists.{sum};
 ghost use Rattle.sum_marks.specs.Code.Marks.{Marked};
 ghost use Rattle.sum_marks.specs.Code.Prefix.{PrefixOf, Tried};
 
-use crate::marks::carries;
+use crate::marks::{MARKS_LENGTH, carries};
 
 // How many of a page's first counts, and their sum.
 #[derive(Clone, Copy)]
@@ -13,31 +13,39 @@ pub struct Prefix {
     pub sum: u64,
 }
 
-// The fewest of n counts with as many coins as are wanted, or all. So far no more were wanted, and it goes on from where that ended.
-fn reach(counts: &[u32], n: usize, from: Prefix, want: u64) -> Prefix
-    requires { (n ≤ length counts.now) × (reading counts.now n ≤ 1099511627775) × PrefixOf counts.now n want from }
-    ensures { Tried counts.now n want result }
+// The fewest of the counts with as many coins as are wanted, or all. So far no more were wanted, and it goes on from where that ended.
+fn reach(counts: &[u32], from: Prefix, want: u64) -> Prefix
+    requires { (sum counts.now ≤ 1099511627775) × PrefixOf counts.now want from }
+    ensures { Tried counts.now want result }
 {
     let mut sum = from.sum;
-    let mut i = from.hours;
-    while i < n {
+    for hours in from.hours..counts.len() {
         if want <= sum {
-            break;
+            return Prefix { hours, sum };
         }
-        sum = sum + (counts[i] as u64);
-        i = i + 1;
+        sum += u64::from(counts[hours]);
     }
-    Prefix { hours: i, sum }
+    Prefix {
+        hours: counts.len(),
+        sum,
+    }
 }
 
-// Looks for the first of n counts with just as many coins as are wanted: only where there is a mark.
-pub fn attempt(counts: &[u32], n: usize, marks: &[u8], stamp: u8, from: Prefix, want: u64) -> Prefix
-    requires n_in_bounds { (n ≤ length counts.now) × (reading counts.now n ≤ 1099511627775) × PrefixOf counts.now n want from }
-    requires marked { Marked counts.now n stamp marks.now }
-    ensures { Tried counts.now n want result }
+// Looks for the first of the counts with just as many coins as are wanted: only where there is a mark.
+pub fn attempt(
+    counts: &[u32],
+    marks: &[u8; MARKS_LENGTH as usize],
+    stamp: u8,
+    from: Prefix,
+    want: u64,
+) -> Prefix
+    requires counts_small { (sum counts.now ≤ 1099511627775) × PrefixOf counts.now want from }
+    requires marked { Marked counts.now stamp marks.now }
+    ensures { Tried counts.now want result }
 {
     if carries(marks, want, stamp) {
-        return reach(counts, n, from, want);
+        reach(counts, from, want)
+    } else {
+        from
     }
-    from
 }

@@ -1,16 +1,9 @@
 -- `image_match::matching` meets its contract. Assumes nothing.
-use mathlib.Core.Path.{subst}
-use Rattle.image_check.specs.Code.Access.{Accesses}
+use Rattle.std.proofs.lemmas.Result.{err_from_is_err_and}
 use Rattle.image_match.specs.Match.{not-accepted}
 use Rattle.image_match.proofs.matching.Goals as goal
 
-pub among-requires : goal.among-requires
-among-requires c =
-    subst (Accesses c.args.s.now) c.in-Image.is c.open_accepted.ensures
-
-pub returns-in-Refused : goal.returns-in-Refused
-returns-in-Refused c =
-    not-accepted _ (subst (Accesses c.args.s.now) c.in-Refused.is c.open_accepted.ensures)
-
-pub returns-in-Image : goal.returns-in-Image
-returns-in-Image c = c.among.ensures
+pub returns-in_err-image : goal.returns-in_err-image
+returns-in_err-image c =
+    let p = err_from_is_err_and c.from_residual.result c.from_residual.ensures.1 in
+    rw (p.1, p.2) (not-accepted _ c.in_err-image.ensures)

@@ -1,11 +1,9 @@
 -- What the search along all pages answers. Assumes nothing.
-use Rattle.std.specs.Prelude.{List, ℕ}
+use Rattle.std.specs.Prelude.{List, ℕ, Option, Some, None}
 use Rattle.runs.specs.Runs.{FirstMatch, NoMatch}
-use Rattle.answers.specs.declared.image.Bag.{Bag}
-use Rattle.answers.specs.declared.image.Bag.TheVariants.{Run, None, Refused}
+use Rattle.answers.specs.declared.image.Run.{Run}
 
 -- what was found: the run, or that there is none
-abbrev pub Finds : List ℕ → ℕ → Bag → Type 0
-Finds xs q (Run first hours) = FirstMatch xs q first hours
+abbrev pub Finds : List ℕ → ℕ → Option Run → Type 0
+Finds xs q (Some r) = FirstMatch xs q r.first r.hours
 Finds xs q None = NoMatch xs q
-Finds xs q (Refused k) = ⊥

@@ -6,28 +6,18 @@ use Rattle.match_page.proofs.PageLaws.{front-page-is, root-above}
 use Rattle.match_page.proofs.front_page.Goals as goal
 
 pub overflow_shr-p : goal.overflow_shr-p
-overflow_shr-p c =
-    let a = c.requires.s_value in
-    omega (arith, small _ a.1 a.0)
-
-pub ahead-hours-requires : goal.ahead-hours-requires
-ahead-hours-requires c =
-    let a = c.requires.s_value in
-    (small _ a.1 a.0, a.1.hours-small, omega (arith, a.2))
+overflow_shr-p c = omega (arith, small _ c.args.image.now.head_of c.args.image.now.accepted)
 
 pub page_root-requires : goal.page_root-requires
-page_root-requires c =
-    let a = c.requires.s_value in
-    (a.0, a.1, page-in _ a.1 _ a.2)
+page_root-requires c = page-in _ c.args.image.now.head_of _ c.requires.starts.0
 
-pub overflow_sub-sum : goal.overflow_sub-sum
-overflow_sub-sum c =
-    let g = c.requires in
-    let a = g.s_value in
-    root-above _ a.0 a.1 _ _ _ c.page_root.ensures g.before_value
+pub overflow_sub-result : goal.overflow_sub-result
+overflow_sub-result c =
+    let a = c.args.image.now in
+    root-above _ a.accepted a.head_of _ _ _ c.page_root.ensures c.requires.before_value
 
 pub returns : goal.returns
 returns c =
+    let a = c.args.image.now in
     let g = c.requires in
-    let a = g.s_value in
-    (refl, front-page-is _ a.0 a.1 _ _ a.2 a.3 c.ahead-hours.ensures _ _ c.page_root.ensures g.before_value _)
+    (refl, front-page-is _ a.accepted a.head_of _ _ g.starts.0 g.starts.1 c.ahead.ensures _ _ c.page_root.ensures g.before_value _)

@@ -19,15 +19,13 @@ pub record Seeks (xs : List ℕ) (q first : ℕ) (at : Aim) : Type 0 where
   pub some : 1 ≤ at.want
   pub none_before : NoneBefore xs q at.lo
 
--- i hours from lo on are passed over, and the next is as well: no run from it on has the sum
-abbrev pub Passing : List ℕ → ℕ → FrontPage → ℕ → ℕ → ℕ → Type 0
-Passing xs q page lo i want =
-    Seeks xs q page.first (record { lo = lo + i; want = want }) × (want ≤ page.sum) × NoneBefore xs q (lo + i + 1)
+-- it stands where it passes on: what is wanted is within the page, and no run from hour lo on has the sum
+abbrev pub Passing : List ℕ → ℕ → FrontPage → Aim → Type 0
+Passing xs q page at = Seeks xs q page.first at × (at.want ≤ page.sum) × NoneBefore xs q (at.lo + 1)
 
--- i hours from lo on are passed over, and the next is as well, unless it wants more than the page has
-abbrev pub Reached : List ℕ → ℕ → FrontPage → ℕ → ℕ → ℕ → Type 0
-Reached xs q page lo i want =
-    Seeks xs q page.first (record { lo = lo + i; want = want }) × (want ≤ page.sum → NoneBefore xs q (lo + i + 1))
+-- the same, unless more is wanted than the page has
+abbrev pub Reached : List ℕ → ℕ → FrontPage → Aim → Type 0
+Reached xs q page at = Seeks xs q page.first at × (at.want ≤ page.sum → NoneBefore xs q (at.lo + 1))
 
 -- the first of the four hours after lo that wants more than sum, where they want a, b, c and d, each no less than the one before
 pub data FirstAbove (sum lo a b c d : ℕ) : Aim → Type 0 where
@@ -44,5 +42,5 @@ pub record Later (xs : List ℕ) (h : Head) (q first : ℕ) (at r : Aim) : Type 
 
 -- what a page brought: the run, or a first hour for which more is wanted than the page has, with the page of this hour in an array
 abbrev pub Brings : List ℕ → ℕ → FrontPage → List ℕ → PageSearch → Type 0
-Brings s q page back (Matched lo hours) = FirstMatch (list_of s) q lo hours
+Brings s q page back (Matched run) = FirstMatch (list_of s) q run.first run.hours
 Brings s q page back (Beyond at) = Seeks (list_of s) q page.first at × (page.sum < at.want) × Ready s at.lo back

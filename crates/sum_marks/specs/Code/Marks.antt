@@ -6,12 +6,11 @@ use Rattle.lists.specs.Lists.{reading}
 abbrev pub marks_length : ℕ
 marks_length = 2048
 
--- the sums of the first, the first two, .. the first n counts have the stamp, each at its place
-pub record Marked (counts : List ℕ) (n stamp : ℕ) (marks : List ℕ) : Type 0 where
-  pub long : length marks ≡ marks_length
-  pub stamped : (k : ℕ) → 1 ≤ k → k ≤ n → get_or marks (reading counts k % marks_length) 0 ≡ stamp
+-- the sums of the first count, the first two, .. and all have the stamp, each at its place
+pub record Marked (counts : List ℕ) (stamp : ℕ) (marks : List ℕ) : Type 0 where
+  pub stamped : (k : ℕ) → 1 ≤ k → k ≤ length counts → get_or marks (reading counts k % marks_length) 0 ≡ stamp
 
 -- of no counts whose sums have this stamp is this one of the sums
 abbrev pub Unmarked : List ℕ → ℕ → ℕ → Type 0
 Unmarked marks stamp total =
-    (counts : List ℕ) (n : ℕ) → Marked counts n stamp marks → (k : ℕ) → 1 ≤ k → k ≤ n → reading counts k ≡ total → ⊥
+    (counts : List ℕ) → Marked counts stamp marks → (k : ℕ) → 1 ≤ k → k ≤ length counts → reading counts k ≡ total → ⊥

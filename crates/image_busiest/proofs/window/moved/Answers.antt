@@ -2,8 +2,8 @@
 use Rattle.image_busiest.proofs.WindowLaws.{later-new, later-old}
 use Rattle.image_busiest.proofs.window.moved.Goals as goal
 
-pub returns-then-w-next : goal.returns-then-w-next
-returns-then-w-next c = later-new _ _ _ c.if-w-next.true
+pub returns-then-w-sum : goal.returns-then-w-sum
+returns-then-w-sum c = later-new _ _ _ c.if-w-sum.true
 
-pub returns : goal.returns
-returns c = later-old _ _ _ c.if-w-next.false
+pub returns-else-w-sum : goal.returns-else-w-sum
+returns-else-w-sum c = later-old _ _ _ c.if-w-sum.false

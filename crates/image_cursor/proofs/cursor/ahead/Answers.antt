@@ -1,7 +1,6 @@
 -- `image_cursor::cursor::ahead` meets its contract. Assumes nothing.
-use Rattle.image_cursor.proofs.CursorLaws.{ahead-least}
+use Rattle.image_cursor.proofs.CursorLaws.{small}
 use Rattle.image_cursor.proofs.cursor.ahead.Goals as goal
 
-pub returns : goal.returns
-returns c =
-    ahead-least c.args.h c.args.i _ _ c.requires.2 c.room.ensures c.smaller.ensures
+pub room-requires : goal.room-requires
+room-requires c = small _ c.args.image.now.head_of c.args.image.now.accepted

@@ -5,12 +5,12 @@ use Rattle.image_cursor.proofs.cursor.turn.Goals as goal
 
 pub overflow_add-next : goal.overflow_add-next
 overflow_add-next c =
-    record { fits = omega (arith, c.requires.s_value.1.hours-small, c.requires.i_le_hours.0, c.requires.i_le_hours.1, page-small _ c.requires.s_value.1 c.requires.s_value.0) }
+    let a = c.args.image.now in
+    record { fits = omega (arith, a.head_of.hours-small, c.requires.inside.0, c.requires.inside.1, page-small _ a.head_of a.accepted) }
 
 pub low_bits-requires : goal.low_bits-requires
-low_bits-requires c =
-    omega (arith, small _ c.requires.s_value.1 c.requires.s_value.0)
+low_bits-requires c = omega (arith, small _ c.args.image.now.head_of c.args.image.now.accepted)
 
-pub returns-then-low_bits-ne0 : goal.returns-then-low_bits-ne0
-returns-then-low_bits-ne0 c =
-    ready-stays _ c.requires.s_value.1 c.args.i c.args.n _ _ c.low_bits.ensures c.if-low_bits-ne0.true c.requires.i_le_hours.1 c.requires.s_value.2
+pub returns-else-low_bits-eq0 : goal.returns-else-low_bits-eq0
+returns-else-low_bits-eq0 c =
+    ready-stays _ c.args.image.now.head_of c.args.i c.args.n _ _ c.low_bits.ensures c.if-low_bits-eq0.false c.requires.inside.1 c.requires.ready

@@ -1,7 +1,7 @@
--- `match_seek::first_above` meets its contract. Assumes nothing.
+-- `match_seek::front::first_above` meets its contract. Assumes nothing.
 use native.Mathlib.Omega.{arith}
 use Rattle.match_seek.proofs.AboveLaws.{bit-small, first_of}
-use Rattle.match_seek.proofs.first_above.Goals as goal
+use Rattle.match_seek.proofs.front.first_above.Goals as goal
 
 pub overflow_add-past : goal.overflow_add-past
 overflow_add-past c = omega (arith, bit-small _ _ c.either.ensures, bit-small _ _ c.either-2.ensures)
