@@ -8,7 +8,8 @@ use lib.ListN.{length}
 use lib.Dec.{leb}
 use borrow.Author.Tests.{le-leb, leb-true, lt-leb}
 use Rattle.answers.specs.Image.{given, refused, told}
-use Rattle.answers.specs.declared.image.Answer.TheVariants.{Refused}
+use Rattle.answers.specs.declared.refusal.Refusal.TheVariants.{Book, PageSize}
+use Rattle.std.specs.Prelude.{Err}
 use Rattle.lists.specs.Lists.{pick, sum}
 use Rattle.image.specs.Calls.{length_call, Result, result_of, unwritten, write_call}
 use Rattle.image.specs.Image.{image, max_total}
@@ -18,15 +19,15 @@ use Rattle.book.proofs.BookLaws.{four-list, sum-four}
 use Rattle.book_in.specs.FromBook.{from_call}
 
 -- ---- the tests, one after another
-pub from-e-low : (e : ℕ) (b out : List ℕ) → e < 2 → result_of (Refused 1) out ≡ from_call e b out
+pub from-e-low : (e : ℕ) (b out : List ℕ) → e < 2 → result_of (Err PageSize) out ≡ from_call e b out
 unfolding from_call pick unwritten told
 from-e-low e b out l = rw (lt-leb 2 e l)
 
-pub from-e-high : (e : ℕ) (b out : List ℕ) → 2 ≤ e → 8 < e → result_of (Refused 1) out ≡ from_call e b out
+pub from-e-high : (e : ℕ) (b out : List ℕ) → 2 ≤ e → 8 < e → result_of (Err PageSize) out ≡ from_call e b out
 unfolding from_call pick unwritten told
 from-e-high e b out k l = rw (le-leb 2 e k, lt-leb e 8 l)
 
-pub from-14 : (e : ℕ) (b out : List ℕ) → 2 ≤ e → e ≤ 8 → decimal b ≡ false → result_of (Refused 14) out ≡ from_call e b out
+pub from-14 : (e : ℕ) (b out : List ℕ) → 2 ≤ e → e ≤ 8 → decimal b ≡ false → result_of (Err Book) out ≡ from_call e b out
 unfolding from_call pick unwritten told
 from-14 e b out k l h = rw (le-leb 2 e k, le-leb e 8 l, h)
 

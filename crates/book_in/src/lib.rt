@@ -12,38 +12,29 @@ ghost use Rattle.book_in.specs.FromBook.{from_call};
 
 use crate::plan::layout_of;
 use crate::put::put_image;
-use answers::image::Answer;
-use answers::refusal;
+use answers::refusal::Refusal;
 use book::is_decimal;
-use image_plan::{Planned, size};
+use image_plan::room;
 
 // Writes the image of the list that a book says.
-fn write_list(book: &[u8], e: u32, out: &mut [u8]) -> Answer
+fn write_list(book: &[u8], e: u32, out: &mut [u8]) -> Result<u64, Refusal>
     ensures { result_of result out.new ≡ write_call e (list_of_book book.now) out.old }
 {
-    match layout_of(book, e) {
-        Planned::Refused(k) => Answer::Refused(k),
-        Planned::Image(r) => {
-            let n = size(r);
-            if (out.len() as u64) < n {
-                return Answer::Refused(refusal::BUFFER);
-            }
-            put_image(out, book, r);
-            Answer::Number(n)
-        }
-    }
+    let r = layout_of(book, e)?;
+    let n = room(r, out.len())?;
+    put_image(out, book, r);
+    Ok(n)
 }
 
 // Writes the image of a book to the start of out, and no byte beyond it.
-pub fn from_bcd(book: &[u8], e: u32, out: &mut [u8]) -> Answer
+pub fn from_bcd(book: &[u8], e: u32, out: &mut [u8]) -> Result<u64, Refusal>
     ensures { result_of result out.new ≡ from_call e book.now out.old }
 {
-    let e_wrong = e < 2 || 8 < e;
-    if e_wrong {
-        return Answer::Refused(refusal::PAGE_SIZE);
+    if e < 2 || 8 < e {
+        return Err(Refusal::PageSize);
     }
     if !is_decimal(book) {
-        return Answer::Refused(refusal::BOOK);
+        return Err(Refusal::Book);
     }
     write_list(book, e, out)
 }

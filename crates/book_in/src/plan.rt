@@ -1,10 +1,11 @@
 // The plan of the image of a book's list.
 ghost use Rattle.std.specs.Prelude.{◌≤◌};
 ghost use Rattle.book.specs.Book.{list_of_book};
-ghost use Rattle.image_plan.specs.Code.Planning.{Drafted, Planned as PlannedOf};
+ghost use Rattle.image_plan.specs.Code.Planning.{Drafted, Planned};
 
+use answers::refusal::Refusal;
 use book::sum_at;
-use image_plan::{Plan, Planned, Started, add_page, finish, start};
+use image_plan::{Layout, Plan, add_page, finish, start};
 
 // Adds the pages that a plan of a book's list lacks.
 fn add_pages(book: &[u8], e: u32, plan: Plan) -> Plan
@@ -13,19 +14,17 @@ fn add_pages(book: &[u8], e: u32, plan: Plan) -> Plan
 {
     let m = reserve::power(e) as usize;
     let mut next = plan;
-    while next.done < next.pages {
-        let s = sum_at(book, m * next.done, m);
+    for page in plan.done..plan.pages {
+        let s = sum_at(book, m * page, m);
         next = add_page(next, s);
     }
     next
 }
 
 // The layout of the image of a book's list, or why it has none.
-pub(crate) fn layout_of(book: &[u8], e: u32) -> Planned
-    ensures { PlannedOf e (list_of_book book.now) result }
+pub(crate) fn layout_of(book: &[u8], e: u32) -> Result<Layout, Refusal>
+    ensures { Planned e (list_of_book book.now) result }
 {
-    match start(e, (book.len() / 2) as u64) {
-        Started::Refused(k) => Planned::Refused(k),
-        Started::Open(plan) => finish(add_pages(book, e, plan)),
-    }
+    let plan = start(e, (book.len() / 2) as u64)?;
+    finish(add_pages(book, e, plan))
 }

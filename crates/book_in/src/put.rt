@@ -15,11 +15,12 @@ pub(crate) fn put_image(out: &mut [u8], book: &[u8], r: Layout)
     ensures { out.new ≡ splice out.old 0 (image r.e (list_of_book book.now)) }
 {
     let m = reserve::power(r.e) as usize;
-    let mut counts = [0u32; 256];
+    let mut room = [0u32; 256];
+    let counts = &mut room[..m];
     let mut at = begin(out, r);
-    while at.page < r.pages {
-        hours(book, m * at.page, m, &mut counts);
-        at = put_page(out, r, at, &counts, 0);
+    for page in 0..r.pages {
+        hours(book, m * page, counts);
+        at = put_page(out, r, at, counts, 0);
     }
     end(out, r);
 }

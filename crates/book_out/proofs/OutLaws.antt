@@ -12,13 +12,13 @@ use Rattle.lists.proofs.CountLaws.{within-at, within-take}
 use Rattle.lists.specs.Lists.{splice, tabulate, window}
 use Rattle.lists.proofs.Parts.{length-splice, splice-nil, splice-then, take-smaller}
 use Rattle.lists.proofs.Tables.{tabulate-ext, tabulate-get_d, take-tabulate}
-use Rattle.image.specs.Check.{accepted}
 use Rattle.image.specs.Code.Head.{HeadOf}
 use Rattle.image.specs.Image.{Limits, page}
 use Rattle.image.specs.Read.{e_of, list_of, n_of, page_count_of}
 use Rattle.image.specs.declared.head.Head.{Head}
+use Rattle.image.specs.declared.opened.Accepted.{Accepted}
 use Rattle.image.proofs.Accepted.{accepted-only, length-list}
-use Rattle.image.proofs.PageLaws.{length-page, page-few, pages-cover, pages-few, pages-tight}
+use Rattle.image.proofs.PageLaws.{length-page, page-few, pages-cover, pages-tight}
 use Rattle.book.specs.Book.{book_of, four_digits}
 use Rattle.book.proofs.BookLaws.{book-append, length-book}
 
@@ -78,20 +78,20 @@ pub record Sizes (s : List ℕ) (h : Head) (m : ℕ) : Type 0 where
   pub size_is : m ≡ 2 ^ e_of s
   pub size-most : m ≤ 256
   pub hours-are : h.hours ≡ length (list_of s)
-  pub few : h.pages ≤ 16384
   pub cover : length (list_of s) ≤ 2 ^ e_of s * h.pages
   pub inside : (p : ℕ) → p < h.pages → m * p < length (list_of s)
 
-pub sizes : {s : List ℕ} {h : Head} (m : ℕ) → accepted s ≡ true → HeadOf s h → m ≡ 2 ^ h.e → Sizes s h m
+pub sizes : (image : Accepted) (m : ℕ) → m ≡ 2 ^ image.head.e → Sizes image.bytes.now image.head m
 unfolding page_count_of
-sizes {s} {h} m a o q =
-    let l : Limits (e_of s) (list_of s) = (accepted-only s a).limits in
+sizes image m q =
+    let s : List ℕ = image.bytes.now in
+    let o : HeadOf s image.head = image.head_of in
+    let l : Limits (e_of s) (list_of s) = (accepted-only s image.accepted).limits in
     let z : m ≡ 2 ^ e_of s = q ∙ ap (λ (k : ℕ). 2 ^ k) o.e-is in
     record {
       size_is = z;
       size-most = omega (arith, pow_mono {i = e_of s} {j = 8} l.e-high);
       hours-are = o.hours-is ∙ sym (length-list s);
-      few = omega (arith, o.pages-are, pages-few (e_of s) (n_of s) l.e-low (omega (arith, length-list s, l.hours)));
       cover = rw (o.pages-are, length-list s) (pages-cover (e_of s) (n_of s));
       inside = λ p k. rw (z, length-list s) (pages-tight (e_of s) (n_of s) p (omega (arith, k, o.pages-are)));
     }
@@ -103,10 +103,6 @@ module _ {s : List ℕ} {h : Head} {m : ℕ} (z : Sizes s h m) (p : ℕ) (c d : 
 
   long-page : length (page (e_of s) xs p) ≡ m
   long-page = length-page (e_of s) xs p ∙ sym z.size_is
-
-  -- the array is as long as it was
-  pub read-long : length c ≡ 256 → length d ≡ 256
-  read-long l = ap length e ∙ length-splice c 0 (page (e_of s) xs p) (omega (arith, long-page, z.size-most)) ∙ l
 
   pub read-four : (k : ℕ) → k ≤ m → four_digits xs ≡ true → four_digits (take k d) ≡ true
   read-four k l f =

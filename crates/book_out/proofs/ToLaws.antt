@@ -8,7 +8,10 @@ use lib.ListN.{length}
 use borrow.Author.Tests.{le-leb, lt-leb}
 use Rattle.lists.specs.Counts.{within}
 use Rattle.answers.specs.Image.{Verdict, fails, given, holds, refused, told}
-use Rattle.answers.specs.declared.image.Answer.TheVariants.{Number, Refused}
+use Rattle.answers.specs.Number.{number}
+use Rattle.answers.specs.declared.refusal.Refusal.{Refusal}
+use Rattle.answers.specs.declared.refusal.Refusal.TheVariants.{Buffer, FourDigits}
+use Rattle.std.specs.Prelude.{Ok, Err}
 use Rattle.lists.specs.Lists.{pick, splice}
 use Rattle.lists.proofs.Tests.{right}
 use Rattle.image.specs.Calls.{past, put, result_of, unwritten}
@@ -22,7 +25,7 @@ use Rattle.book.proofs.BookLaws.{length-book}
 use Rattle.book_out.specs.ToBook.{book_put, to_call}
 
 -- ---- the tests, one after another
-pub to-fails : (s out : List ℕ) (k : ℕ) → check s ≡ fails k → result_of (Refused k) out ≡ to_call s out
+pub to-fails : (s out : List ℕ) (k : Refusal) → check s ≡ fails (number k) → result_of (Err k) out ≡ to_call s out
 unfolding to_call past unwritten told
 to-fails s out k h = rw h
 
@@ -30,16 +33,16 @@ pub to-past : (s out : List ℕ) → accepted s ≡ true → book_put (list_of s
 unfolding to_call past
 to-past s out a = rw (check-holds s a)
 
-pub book-15 : (xs out : List ℕ) → four_digits xs ≡ false → result_of (Refused 15) out ≡ book_put xs out
+pub book-15 : (xs out : List ℕ) → four_digits xs ≡ false → result_of (Err FourDigits) out ≡ book_put xs out
 unfolding book_put pick unwritten told
 book-15 xs out h = rw h
 
-pub book-4 : (xs out : List ℕ) (n : ℕ) → four_digits xs ≡ true → n ≡ 2 * length xs → length out < n → result_of (Refused 4) out ≡ book_put xs out
+pub book-4 : (xs out : List ℕ) (n : ℕ) → four_digits xs ≡ true → n ≡ 2 * length xs → length out < n → result_of (Err Buffer) out ≡ book_put xs out
 unfolding book_put put pick unwritten told
 book-4 xs out n h q l = rw (h, lt-leb (length (book_of xs)) (length out) (omega (arith, length-book xs)))
 
 pub book-put : (xs out now : List ℕ) (n : ℕ) → four_digits xs ≡ true → n ≡ 2 * length xs → n ≤ length out → now ≡ splice out 0 (book_of xs)
-    → result_of (Number n) now ≡ book_put xs out
+    → result_of (Ok n) now ≡ book_put xs out
 unfolding book_put put pick told
 book-put xs out now n h q l e =
     rw (h, le-leb (length (book_of xs)) (length out) (omega (arith, length-book xs)))
@@ -51,7 +54,7 @@ unfolding four_digits within
 four_is s e = right (accepted s) (within 9999 (list_of s)) e
 
 -- an accepted image that does not pass
-pub to-wide : (s out : List ℕ) → accepted s ≡ true → (accepted s && within 9999 (list_of s)) ≡ false → result_of (Refused 15) out ≡ to_call s out
+pub to-wide : (s out : List ℕ) → accepted s ≡ true → (accepted s && within 9999 (list_of s)) ≡ false → result_of (Err FourDigits) out ≡ to_call s out
 unfolding four_digits within
 to-wide s out a e = book-15 (list_of s) out (ap (λ (t : Bool). t && within 9999 (list_of s)) (sym a) ∙ e) ∙ to-past s out a
 

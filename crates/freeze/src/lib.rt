@@ -8,36 +8,28 @@ ghost use Rattle.store.specs.Sound.{sound};
 ghost use Rattle.image.specs.Calls.{result_of, write_call};
 ghost use Rattle.freeze.specs.Freeze.{freeze_call};
 
-use answers::image::Answer;
-use answers::refusal;
+use answers::refusal::Refusal;
 use freeze_plan::layout_of;
 use freeze_put::put_image;
-use image_plan::{Planned, size};
+use image_plan::room;
 
 // Writes the image of a sound store's list.
-fn freeze_list(s: &[u8], e: u32, out: &mut [u8]) -> Answer
+fn freeze_list(s: &[u8], e: u32, out: &mut [u8]) -> Result<u64, Refusal>
     requires { sound s.now ≡ true }
     ensures { result_of result out.new ≡ write_call e (list_in s.now) out.old }
 {
-    match layout_of(s, e) {
-        Planned::Refused(k) => Answer::Refused(k),
-        Planned::Image(r) => {
-            let n = size(r);
-            if (out.len() as u64) < n {
-                return Answer::Refused(refusal::BUFFER);
-            }
-            put_image(out, s, r);
-            Answer::Number(n)
-        }
-    }
+    let r = layout_of(s, e)?;
+    let n = room(r, out.len())?;
+    put_image(out, s, r);
+    Ok(n)
 }
 
 // Writes the image of a store's list to the start of out, and no byte beyond it.
-pub fn freeze(s: &[u8], e: u32, out: &mut [u8]) -> Answer
+pub fn freeze(s: &[u8], e: u32, out: &mut [u8]) -> Result<u64, Refusal>
     ensures { result_of result out.new ≡ freeze_call e s.now out.old }
 {
     if !soundness::check(s) {
-        return Answer::Refused(refusal::UNSOUND);
+        return Err(Refusal::Unsound);
     }
     freeze_list(s, e, out)
 }

@@ -9,13 +9,13 @@ use native.Mathlib.Omega.{arith}
 use lib.ListN.{length, get_or, set}
 use lib.Pow.{pow_pos}
 use lib.Seq.{get_or-set_other, get_or-set_same}
-use borrow.Author.Tests.{le-leb}
+use Rattle.std.specs.Prelude.{Option, Some, None, IsSome}
 use Rattle.lists.specs.Lists.{part, sum, window}
 use Rattle.bits.specs.Bits.{bits}
 use Rattle.reserve.specs.Reserve.{reserve}
 use Rattle.tree.specs.Tree.{tree}
 use Rattle.tree.specs.Read.{left_at, left_of, right_at}
-use Rattle.tree.specs.Code.Node.{Lies, Rooted}
+use Rattle.tree.specs.Code.Node.{Lies, PartsOf, Rooted}
 use Rattle.tree.specs.declared.node.Split.{Split}
 use Rattle.tree.proofs.Rooting.{Inner, left-lies, right-lies, top}
 use Rattle.tree.proofs.Shape.{left-read, left-region, right-region}
@@ -23,39 +23,45 @@ use Rattle.tree.proofs.Windows.{half-left, half-right, half-sums}
 use Rattle.freeze_plan.specs.Code.Parts.{Branch, Summed}
 
 -- ---- the root of a tree of the counts of xs from f on
--- the trees of its halves, as r says them
-pub record Opened (b xs : List ℕ) (f h t : ℕ) (r : Split) : Type 0 where
-  pub sound : r.ok ≡ true
-  pub left_le : r.left ≤ t
-  pub left-sum : r.left ≡ sum (window xs f (2 ^ h))
-  pub left-tree : part b r.first (reserve h r.left) ≡ tree h (window xs f (2 ^ h))
-  pub right-sum : t - r.left ≡ sum (window xs (f + 2 ^ h) (2 ^ h))
-  pub right-tree : part b r.second (reserve h (t - r.left)) ≡ tree h (window xs (f + 2 ^ h) (2 ^ h))
+record Opened (b xs : List ℕ) (f h t : ℕ) (r : Split) : Type 0 where
+  left_le : r.left ≤ t
+  left-sum : r.left ≡ sum (window xs f (2 ^ h))
+  left-tree : part b r.first (reserve h r.left) ≡ tree h (window xs f (2 ^ h))
+  right-sum : t - r.left ≡ sum (window xs (f + 2 ^ h) (2 ^ h))
+  right-tree : part b r.second (reserve h (t - r.left)) ≡ tree h (window xs (f + 2 ^ h) (2 ^ h))
 
-opened : (h : ℕ) (b xs : List ℕ) (f at t : ℕ) {r : Split} → t ≡ sum (window xs f (2 ^ suc h))
-    → part b at (reserve (suc h) t) ≡ tree (suc h) (window xs f (2 ^ suc h)) → Rooted b at h t r → Opened b xs f h t r
-opened h b xs f at t {r} q e o =
-    let ys : List ℕ = window xs f (2 ^ suc h) in
-    let x : part b at (reserve (suc h) (sum ys)) ≡ tree (suc h) ys = ap (λ (z : ℕ). part b at (reserve (suc h) z)) (sym q) ∙ e in
-    let l : left_of t b at ≡ sum (window xs f (2 ^ h)) =
-    ap (λ (z : ℕ). left_of z b at) q ∙ left-read h ys b at x ∙ ap sum (half-left xs f h) in
-    let n : left_of t b at ≤ t = omega (arith, l, q, half-sums xs f h) in
-    let k : r.ok ≡ true = o.ok-is ∙ le-leb (left_of t b at) t n in
-    let rl : r.left ≡ sum (window xs f (2 ^ h)) = o.left_is k ∙ l in
-    let rr : t - r.left ≡ sum (window xs (f + 2 ^ h) (2 ^ h)) = omega (arith, rl, q, half-sums xs f h) in
-    record {
-      sound = k;
-      left_le = o.left_le k;
-      left-sum = rl;
-      left-tree =
-          ap₂ (λ (y z : ℕ). part b y (reserve h z)) (o.first-is k ∙ ap (λ (z : ℕ). left_at z at) q) (rl ∙ ap sum (sym (half-left xs f h)))
-          ∙ left-region h ys b at x ∙ ap (tree h) (half-left xs f h);
-      right-sum = rr;
-      right-tree =
-          ap₂ (λ (y z : ℕ). part b y (reserve h z))
-          (o.second_is k ∙ ap₂ (λ (y z : ℕ). right_at h y z at) q (rl ∙ ap sum (sym (half-left xs f h)))) (rr ∙ ap sum (sym (half-right xs f h)))
-          ∙ right-region h ys b at x ∙ ap (tree h) (half-right xs f h);
-    }
+module _ (h : ℕ) (b xs : List ℕ) (f at t : ℕ) (q : t ≡ sum (window xs f (2 ^ suc h))) (e : part b at (reserve (suc h) t) ≡ tree (suc h) (window xs f (2 ^ suc h))) where
+  abbrev ys : List ℕ
+  ys = window xs f (2 ^ suc h)
+
+  stands : part b at (reserve (suc h) (sum ys)) ≡ tree (suc h) ys
+  stands = ap (λ (z : ℕ). part b at (reserve (suc h) z)) (sym q) ∙ e
+
+  root-left : left_of t b at ≡ sum (window xs f (2 ^ h))
+  root-left = ap (λ (z : ℕ). left_of z b at) q ∙ left-read h ys b at stands ∙ ap sum (half-left xs f h)
+
+  -- it has a left sum that is at most the tree's
+  root-some : (o : Option Split) → Rooted b at h t o → IsSome o
+  root-some (Some r) n = refl
+  root-some None n = absurd (omega (arith, n, root-left, q, half-sums xs f h))
+
+  -- the trees of its halves, as r says them
+  opened : {r : Split} → PartsOf (left_of t b at) at h t r → Opened b xs f h t r
+  opened {r} o =
+      let rl : r.left ≡ sum (window xs f (2 ^ h)) = o.left_is ∙ root-left in
+      let rr : t - r.left ≡ sum (window xs (f + 2 ^ h) (2 ^ h)) = omega (arith, rl, q, half-sums xs f h) in
+      record {
+        left_le = o.left_le;
+        left-sum = rl;
+        left-tree =
+            ap₂ (λ (y z : ℕ). part b y (reserve h z)) (o.first-is ∙ ap (λ (z : ℕ). left_at z at) q) (rl ∙ ap sum (sym (half-left xs f h)))
+            ∙ left-region h ys b at stands ∙ ap (tree h) (half-left xs f h);
+        right-sum = rr;
+        right-tree =
+            ap₂ (λ (y z : ℕ). part b y (reserve h z))
+            (o.second_is ∙ ap₂ (λ (y z : ℕ). right_at h y z at) q (rl ∙ ap sum (sym (half-left xs f h)))) (rr ∙ ap sum (sym (half-right xs f h)))
+            ∙ right-region h ys b at stands ∙ ap (tree h) (half-right xs f h);
+      }
 
 -- ---- numbers of trees, and of their parts
 -- the two halves of tree i, which has 2^k parts
@@ -76,8 +82,8 @@ halved k i p =
       high = ap (λ (z : ℕ). z * (i + 1)) d ∙ omega arith;
     }
 
--- ---- the branches below one whose root was read as r
-module _ {code out : List ℕ} {at h e t i : ℕ} {r : Split} (a : Branch code at h e t i out) (p : h ≡ e → ⊥) (o : Rooted (bits code) at (h - 1) t r) where
+-- ---- the branches below one
+module _ {code out : List ℕ} {at h e t i : ℕ} (a : Branch code at h e t i out) (p : h ≡ e → ⊥) where
   abbrev f : ℕ
   f = a.from + 2 ^ h * i
 
@@ -87,17 +93,17 @@ module _ {code out : List ℕ} {at h e t i : ℕ} {r : Split} (a : Branch code a
   pub more : a.k ≡ 0 → ⊥
   more q = p (omega (arith, a.height))
 
-  root : Opened (bits code) a.xs f (h - 1) t r
-  root =
-      let up : suc (h - 1) ≡ h = omega (arith, high) in
-      opened (h - 1) (bits code) a.xs f at t (a.sum_is ∙ ap (λ (z : ℕ). sum (window a.xs f (2 ^ z))) (sym up))
-      (subst (λ (z : ℕ). part (bits code) at (reserve z t) ≡ tree z (window a.xs f (2 ^ z))) (sym up) a.tree_is) o
+  up : suc (h - 1) ≡ h
+  up = omega (arith, high)
 
-  inner : Inner (bits code) at h t r
-  inner = record { high = high; root = o; sound = root.sound }
+  own-sum : t ≡ sum (window a.xs f (2 ^ suc (h - 1)))
+  own-sum = a.sum_is ∙ ap (λ (z : ℕ). sum (window a.xs f (2 ^ z))) (sym up)
 
-  pub left_le : r.left ≤ t
-  left_le = root.left_le
+  own-tree : part (bits code) at (reserve (suc (h - 1)) t) ≡ tree (suc (h - 1)) (window a.xs f (2 ^ suc (h - 1)))
+  own-tree = subst (λ (z : ℕ). part (bits code) at (reserve z t) ≡ tree z (window a.xs f (2 ^ z))) (sym up) a.tree_is
+
+  pub branch-some : (o : Option Split) → Rooted (bits code) at (h - 1) t o → IsSome o
+  branch-some = root-some (h - 1) (bits code) a.xs f at t own-sum own-tree
 
   -- two trees below it for each before it
   pub low : 2 * i + 2 ≤ length out
@@ -105,14 +111,32 @@ module _ {code out : List ℕ} {at h e t i : ℕ} {r : Split} (a : Branch code a
       let x : 1 ≤ 2 ^ (a.k - 1) = pow_pos (a.k - 1) in
       omega (arith, a.room, (halved a.k i more).high, mul-le-mul_right (2 * i + 1 + 1) x)
 
+-- ---- the branches below one whose root was read as r
+module _ {code out : List ℕ} {at h e t i : ℕ} {r : Split} (a : Branch code at h e t i out) (p : h ≡ e → ⊥) (q : Option Split)
+    (g : Rooted (bits code) at (h - 1) t q) (is : q ≡ Some r) where
+  abbrev from₀ : ℕ
+  from₀ = f a p
+
+  o : PartsOf (left_of t (bits code) at) at (h - 1) t r
+  o = subst (Rooted (bits code) at (h - 1) t) is g
+
+  root : Opened (bits code) a.xs from₀ (h - 1) t r
+  root = opened (h - 1) (bits code) a.xs from₀ at t (own-sum a p) (own-tree a p) o
+
+  inner : Inner (bits code) at h t r
+  inner = record { high = high a p; root = o }
+
+  pub left_le : r.left ≤ t
+  left_le = root.left_le
+
   pub down : h - 1 ≡ e + (a.k - 1)
-  down = omega (arith, a.height, more)
+  down = omega (arith, a.height, more a p)
 
-  left-from : f ≡ a.from + 2 ^ (h - 1) * (2 * i)
-  left-from = omega (arith, (halved h i high).low)
+  left-from : from₀ ≡ a.from + 2 ^ (h - 1) * (2 * i)
+  left-from = omega (arith, (halved h i (high a p)).low)
 
-  right-from : f + 2 ^ (h - 1) ≡ a.from + 2 ^ (h - 1) * (2 * i + 1)
-  right-from = omega (arith, (halved h i high).low, (halved h i high).mid)
+  right-from : from₀ + 2 ^ (h - 1) ≡ a.from + 2 ^ (h - 1) * (2 * i + 1)
+  right-from = omega (arith, (halved h i (high a p)).low, (halved h i (high a p)).mid)
 
   pub left-sum : r.left ≡ sum (window a.xs (a.from + 2 ^ (h - 1) * (2 * i)) (2 ^ (h - 1)))
   left-sum = root.left-sum ∙ ap (λ (z : ℕ). sum (window a.xs z (2 ^ (h - 1)))) left-from
@@ -135,11 +159,11 @@ module _ {code out : List ℕ} {at h e t i : ℕ} {r : Split} (a : Branch code a
 
   pub left-zeros : (j : ℕ) → 2 ^ (a.k - 1) * (2 * i) ≤ j → j < 2 ^ (a.k - 1) * (2 * i + 1) → get_or out j 0 ≡ 0
   left-zeros j x y =
-      let n = halved a.k i more in
+      let n = halved a.k i (more a p) in
       a.zeros j (omega (arith, n.low)) (omega (arith, n.low, n.mid, n.high))
 
   pub left-room : 2 ^ (a.k - 1) * (2 * i + 1) ≤ length out
-  left-room = omega (arith, a.room, (halved a.k i more).mid, (halved a.k i more).high)
+  left-room = omega (arith, a.room, (halved a.k i (more a p)).mid, (halved a.k i (more a p)).high)
 
   abbrev pub left-branch : Branch code r.first (h - 1) e r.left (2 * i) out
   left-branch = record {
@@ -158,11 +182,11 @@ module _ {code out : List ℕ} {at h e t i : ℕ} {r : Split} (a : Branch code a
   module _ {m : List ℕ} (n : length m ≡ length out) (l : Summed a.xs a.from e (a.k - 1) (2 * i) out m) where
     pub right-zeros : (j : ℕ) → 2 ^ (a.k - 1) * (2 * i + 1) ≤ j → j < 2 ^ (a.k - 1) * (2 * i + 1 + 1) → get_or m j 0 ≡ 0
     right-zeros j x y =
-        let q = halved a.k i more in
+        let q = halved a.k i (more a p) in
         l.behind j x ∙ a.zeros j (omega (arith, q.low, q.mid)) (omega (arith, q.high))
 
     pub right-room : 2 ^ (a.k - 1) * (2 * i + 1 + 1) ≤ length m
-    right-room = omega (arith, a.room, (halved a.k i more).high)
+    right-room = omega (arith, a.room, (halved a.k i (more a p)).high)
 
     abbrev pub right-branch : Branch code r.second (h - 1) e (t - r.left) (2 * i + 1) m
     right-branch = record {

@@ -9,10 +9,11 @@ ghost use Rattle.std.specs.Prelude.{true, ◌≡◌, ◌+◌, ◌*◌, ◌^◌, 
 ghost use Rattle.lists.specs.Lists.{reading};
 ghost use Rattle.store.specs.Reading.{list_in, page_count_of};
 ghost use Rattle.store.specs.Sound.{sound};
-ghost use Rattle.image_plan.specs.Code.Planning.{Drafted, Planned as PlannedOf};
+ghost use Rattle.image_plan.specs.Code.Planning.{Drafted, Planned};
 ghost use Rattle.freeze_plan.specs.Code.Steps.{Ending, Within};
 
-use image_plan::{Plan, Planned, Started, add_page, finish, start};
+use answers::refusal::Refusal;
+use image_plan::{Layout, Plan, add_page, finish, start};
 use pages::entry::{Entry, entry_of};
 use pages::gather::gather_at;
 use parts::part_sums;
@@ -34,9 +35,8 @@ fn add_parts(s: &[u8], e: u32, p: usize, own: Entry, end: usize, plan: Plan) -> 
     let mut sums = [0u64; MAX_PARTS];
     part_sums(&code, 0, HEIGHT, e, own.sum, 0, &mut sums);
     let mut next = plan;
-    while next.done < end {
-        let i = next.done - many * p;
-        next = add_page(next, sums[i]);
+    for page in plan.done..end {
+        next = add_page(next, sums[page - many * p]);
     }
     next
 }
@@ -73,25 +73,21 @@ fn add_pages(s: &[u8], e: u32, pages: usize, plan: Plan) -> Plan
     let m = reserve::power(e) as usize;
     let mut next = plan;
     let mut all = 0;
-    let mut p = 0;
-    while p < pages {
+    for p in 0..pages {
         let own = entry_of(s, p);
-        all = all + own.sum;
-        let end = lists::smaller(Header::HOURS * (p + 1) / m, next.pages);
+        all += own.sum;
+        let end = (Header::HOURS * (p + 1) / m).min(plan.pages);
         next = add_within(s, e, p, own, all, end, next);
-        p = p + 1;
     }
-    add_ending(all, next.pages, next)
+    add_ending(all, plan.pages, next)
 }
 
 // The layout of the image of a sound store's list, or why it has none.
-pub fn layout_of(s: &[u8], e: u32) -> Planned
+pub fn layout_of(s: &[u8], e: u32) -> Result<Layout, Refusal>
     requires { sound s.now ≡ true }
-    ensures { PlannedOf e (list_in s.now) result }
+    ensures { Planned e (list_in s.now) result }
 {
     let h = Header::of(s);
-    match start(e, h.hours as u64) {
-        Started::Refused(k) => Planned::Refused(k),
-        Started::Open(plan) => finish(add_pages(s, e, h.pages, plan)),
-    }
+    let plan = start(e, h.hours as u64)?;
+    finish(add_pages(s, e, h.pages, plan))
 }

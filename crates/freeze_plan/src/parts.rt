@@ -18,7 +18,7 @@ pub(crate) fn part_sums(code: &[u8], at: usize, h: u32, e: u32, sum: u64, i: usi
         return;
     }
     let down = h - 1;
-    let r = root_by_shifts(code, at, down, sum);
+    let r = root_by_shifts(code, at, down, sum).unwrap();
     part_sums(code, r.first, down, e, r.left, 2 * i, out);
     part_sums(code, r.second, down, e, sum - r.left, 2 * i + 1, out);
 }

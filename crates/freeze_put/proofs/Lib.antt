@@ -1,3 +1,2 @@
 -- Laws of the crate.
 pub mod Listing
-pub mod Blocks

@@ -7,21 +7,18 @@ ghost use Rattle.store.specs.Sound.{sound};
 use pages::entry::entry_of;
 use pages::gather::gather_at;
 use store::header::Header;
+use sum_table::SumTable;
 
-// Puts the counts of the 256 hours from page first of the store on into a list of zeros. Behind the last page of the store they stay zeros.
-pub(crate) fn unpack(s: &[u8], pages: usize, first: usize, list: &mut [u32; 256])
+// Puts the counts of the 256 hours from page first of the store on into a list of zeros. Behind the last page of the store they stay zeros. The
+// table of small sums is lent.
+pub(crate) fn unpack(s: &[u8], table: &SumTable, pages: usize, first: usize, list: &mut [u32; 256])
     requires { (sound s.now ≡ true) × (pages ≡ page_count_of s.now) × (first < pages) × (list.old ≡ replicate 256 0) }
     ensures { list.new ≡ window (list_in s.now) (64 * first) 256 }
 {
-    let some = lists::smaller(pages - first, 4);
-    let mut table = [0u8; 864];
-    sum_table::put_sums(&mut table);
-    let mut j = 0;
-    while j < some {
+    for j in 0..(pages - first).min(4) {
         let p = first + j;
         let own = entry_of(s, p);
         let code = gather_at(s, own.base, p, own.cells);
-        tree_decode::decode(&code, &table, 0, 6, own.sum, list, Header::HOURS * j);
-        j = j + 1;
+        tree_decode::decode(&code, table, 0, 6, own.sum, list, Header::HOURS * j);
     }
 }

@@ -1,12 +1,12 @@
 -- Blocks of the sums, and plans of them. Assumes nothing.
 use mathlib.Core.Bool.{Bool, true, false}
 use mathlib.Core.List.{List}
-use mathlib.Core.Path.{◌≡◌, refl, sym, ap, subst, ◌∙◌}
+use mathlib.Core.Path.{◌≡◌, refl, sym, ap, ◌∙◌}
 use Prim.Native.Nat.{ℕ, ◌+◌, ◌-◌, ◌*◌, ◌^◌, ◌≤◌, ◌<◌}
 use native.Mathlib.Decide.{dec_le}
 use native.Mathlib.Omega.{arith}
-use lib.ListN.{length, get_or, set, length-set, get_or-eq_default}
-use lib.Seq.{ext_get_or, get_or-set_same, get_or-set_other}
+use lib.ListN.{length, get_or, get_or-eq_default}
+use lib.Seq.{ext_get_or}
 use lib.Pow.{pow_mono}
 use Rattle.lists.specs.Counts.{max_count, within}
 use Rattle.lists.proofs.CountLaws.{not_within, within-each}
@@ -25,46 +25,6 @@ pub record Adding (cs ds rs : List ℕ) (i : ℕ) : Type 0 where
   pub long : length rs ≡ 256
   pub those : (j : ℕ) → j < i → (get_or rs j 0 ≡ get_or cs j 0 + get_or ds j 0) × (get_or rs j 0 ≤ max_count)
   pub rest : (j : ℕ) → i ≤ j → get_or rs j 0 ≡ get_or cs j 0
-
-pub adding-none : (cs ds : List ℕ) → length cs ≡ 256 → Adding cs ds cs 0
-adding-none cs ds l = record { few = omega arith; long = l; those = λ j (h : j < 0). absurd (omega arith); rest = λ j h. refl }
-
-pub adding-next : (cs ds rs : List ℕ) (i t : ℕ) → Adding cs ds rs i → i < 256 → t ≡ get_or rs i 0 + get_or ds i 0 → t ≤ max_count → Adding cs ds (set rs i t) (i + 1)
-adding-next cs ds rs i t a l e m = record {
-  few = omega arith;
-  long = length-set rs i t ∙ a.long;
-  those = each;
-  rest = λ j (h : i + 1 ≤ j). get_or-set_other rs i j t 0 (λ (q : j ≡ i). omega arith) ∙ a.rest j (omega arith);
-}
-  where
-    each : (j : ℕ) → j < i + 1 → (get_or (set rs i t) j 0 ≡ get_or cs j 0 + get_or ds j 0) × (get_or (set rs i t) j 0 ≤ max_count)
-    each j h = go (dec_le i j)
-      where
-        go : Dec (i ≤ j) → (get_or (set rs i t) j 0 ≡ get_or cs j 0 + get_or ds j 0) × (get_or (set rs i t) j 0 ≤ max_count)
-        go (yes q) =
-            let w : i ≡ j = omega arith in
-            let s : get_or (set rs i t) i 0 ≡ t = get_or-set_same rs i t 0 (omega (arith, a.long)) in
-            let v : get_or (set rs i t) i 0 ≡ get_or cs i 0 + get_or ds i 0 = omega (arith, a.rest i (omega arith)) in
-            let p : (get_or (set rs i t) i 0 ≡ get_or cs i 0 + get_or ds i 0) × (get_or (set rs i t) i 0 ≤ max_count) = (v, omega (arith, s)) in
-            subst (λ (y : ℕ). (get_or (set rs i t) y 0 ≡ get_or cs y 0 + get_or ds y 0) × (get_or (set rs i t) y 0 ≤ max_count)) w p
-        go (no q) =
-            let s : get_or (set rs i t) j 0 ≡ get_or rs j 0 = get_or-set_other rs i j t 0 (λ (w : j ≡ i). omega arith) in
-            let p = a.those j (omega arith) in
-            (s ∙ p.0, omega (arith, s, p.1))
-
-pub added-all : (cs ds rs : List ℕ) (i : ℕ) → Adding cs ds rs i → 256 ≤ i → Added cs ds rs true
-added-all cs ds rs i a l = record {
-  long = a.long;
-  yes = λ q j (h : j < 256). a.those j (omega arith);
-  no = λ (q : true ≡ false). absurd (let z : ◌≡◌ {A = ℕ} 0 1 = cc in omega arith);
-}
-
-pub added-not : (cs ds rs : List ℕ) (i : ℕ) → Adding cs ds rs i → i < 256 → max_count < get_or rs i 0 + get_or ds i 0 → Added cs ds rs false
-added-not cs ds rs i a l h = record {
-  long = a.long;
-  yes = λ (q : false ≡ true). absurd (let z : ◌≡◌ {A = ℕ} 0 1 = cc in omega arith);
-  no = λ q. (i, l, omega (arith, a.rest i (omega arith)));
-}
 
 -- ---- a block of the sums
 module _ (xs ys cs ds rs : List ℕ) (k : ℕ) (r : Bool) (ec : cs ≡ window xs (256 * k) 256) (ed : ds ≡ window ys (256 * k) 256) (a : Added cs ds rs r) where

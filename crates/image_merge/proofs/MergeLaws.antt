@@ -8,7 +8,10 @@ use lib.Dec.{leb}
 use borrow.Author.Tests.{le-leb, leb-true, lt-leb}
 use Rattle.lists.specs.Counts.{max_count, within}
 use Rattle.answers.specs.Image.{Verdict, fails, given, holds, refused, told}
-use Rattle.answers.specs.declared.image.Answer.TheVariants.{Refused}
+use Rattle.answers.specs.Number.{number}
+use Rattle.answers.specs.declared.refusal.Refusal.{Refusal}
+use Rattle.answers.specs.declared.refusal.Refusal.TheVariants.{PageSize}
+use Rattle.std.specs.Prelude.{Err}
 use Rattle.lists.specs.Lists.{pick}
 use Rattle.lists.proofs.CountLaws.{within-each}
 use Rattle.lists.proofs.Tests.{left, right}
@@ -22,19 +25,19 @@ use Rattle.image_merge.specs.Merge.{merge_call, merge_lists, sums}
 use Rattle.image_merge.proofs.SumLaws.{sums_none, sums-swap}
 
 -- ---- the tests, one after another
-pub e-low : (e : ℕ) (a b out : List ℕ) → e < 2 → result_of (Refused 1) out ≡ merge_call e a b out
+pub e-low : (e : ℕ) (a b out : List ℕ) → e < 2 → result_of (Err PageSize) out ≡ merge_call e a b out
 unfolding merge_call pick unwritten told
 e-low e a b out l = rw (lt-leb 2 e l)
 
-pub e-high : (e : ℕ) (a b out : List ℕ) → 2 ≤ e → 8 < e → result_of (Refused 1) out ≡ merge_call e a b out
+pub e-high : (e : ℕ) (a b out : List ℕ) → 2 ≤ e → 8 < e → result_of (Err PageSize) out ≡ merge_call e a b out
 unfolding merge_call pick unwritten told
 e-high e a b out k l = rw (le-leb 2 e k, lt-leb e 8 l)
 
-pub first-no : (e : ℕ) (a b out : List ℕ) (j : ℕ) → 2 ≤ e → e ≤ 8 → check a ≡ fails j → result_of (Refused j) out ≡ merge_call e a b out
+pub first-no : (e : ℕ) (a b out : List ℕ) (j : Refusal) → 2 ≤ e → e ≤ 8 → check a ≡ fails (number j) → result_of (Err j) out ≡ merge_call e a b out
 unfolding merge_call pick past unwritten told
 first-no e a b out j k l h = rw (le-leb 2 e k, le-leb e 8 l, h)
 
-pub second-no : (e : ℕ) (a b out : List ℕ) (j : ℕ) → 2 ≤ e → e ≤ 8 → accepted a ≡ true → check b ≡ fails j → result_of (Refused j) out ≡ merge_call e a b out
+pub second-no : (e : ℕ) (a b out : List ℕ) (j : Refusal) → 2 ≤ e → e ≤ 8 → accepted a ≡ true → check b ≡ fails (number j) → result_of (Err j) out ≡ merge_call e a b out
 unfolding merge_call pick past unwritten told
 second-no e a b out j k l x h = rw (le-leb 2 e k, le-leb e 8 l, check-holds a x, h)
 

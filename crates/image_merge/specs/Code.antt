@@ -1,32 +1,21 @@
 -- What the functions of src/ hand each other. Assumes nothing.
-use Rattle.std.specs.Prelude.{Bool, true, false, List, ◌≡◌, ℕ, ◌+◌, ◌-◌, ◌*◌, ◌^◌, ◌≤◌, ◌<◌, min, length, get_or}
+use Rattle.std.specs.Prelude.{Bool, true, false, List, ◌≡◌, ℕ, ◌+◌, ◌-◌, ◌*◌, ◌^◌, ◌≤◌, ◌<◌, min, length, get_or, Result, Ok, Err}
+use Rattle.answers.specs.Number.{number}
+use Rattle.answers.specs.declared.refusal.Refusal.{Refusal}
 use Rattle.lists.specs.Counts.{max_count, within}
 use Rattle.lists.specs.Lists.{window}
 use Rattle.image.specs.Calls.{unwritten}
-use Rattle.image.specs.Check.{accepted}
-use Rattle.image.specs.Code.Head.{HeadOf}
 use Rattle.image.specs.Image.{Limits}
 use Rattle.image.specs.Read.{list_of}
-use Rattle.image.specs.declared.head.Head.{Head}
+use Rattle.image.specs.declared.opened.Accepted.{Accepted}
 use Rattle.image_plan.specs.Code.Planning.{Drafted, LayoutOf}
 use Rattle.image_plan.specs.declared.Layout.{Layout}
 use Rattle.image_plan.specs.declared.Plan.{Plan}
-use Rattle.image_plan.specs.declared.Planned.{Planned as Outcome}
-use Rattle.image_plan.specs.declared.Planned.TheVariants.{Image, Refused}
-use Rattle.image_put.specs.Code.Writing.{Laid}
-use Rattle.image_put.specs.declared.Place.{Place}
 use Rattle.image_merge.specs.Merge.{merge_lists, sums}
 
--- two accepted images and their headers
-pub record Doors (a b : List ℕ) (g h : Head) : Type 0 where
-  pub first : accepted a ≡ true
-  pub first_head : HeadOf a g
-  pub second : accepted b ≡ true
-  pub second_head : HeadOf b h
-
 -- the sums of two images' lists
-abbrev pub sums_of : List ℕ → List ℕ → List ℕ
-sums_of a b = sums (list_of a) (list_of b)
+abbrev pub sums_of : Accepted → Accepted → List ℕ
+sums_of a b = sums (list_of a.bytes.now) (list_of b.bytes.now)
 
 -- rs are the sums of cs and ds, all of them counts; or one is none
 pub record Added (cs ds rs : List ℕ) (r : Bool) : Type 0 where
@@ -50,13 +39,6 @@ pub record Block (counts : List ℕ) (e k : ℕ) (r : Plan) : Type 0 where
   pub done-is : r.done ≡ min (2 ^ (8 - e) * k) r.pages
 
 -- a layout where the sums have an image; else the call's refusal
-abbrev pub Merging : ℕ → List ℕ → List ℕ → Outcome → Type 0
-Merging e xs ys (Image r) = (within max_count (sums xs ys) ≡ true) × Limits e (sums xs ys) × LayoutOf e (sums xs ys) r
-Merging e xs ys (Refused k) = (out : List ℕ) → merge_lists e xs ys out ≡ unwritten out k
-
--- the pages before block k stand in the buffer out, and block k has pages; first is what the buffer was
-pub record Blocked (out zs : List ℕ) (r : Layout) (k : ℕ) (at : Place) : Type 0 where
-  pub first : List ℕ
-  pub so_far : Laid zs first out r at
-  pub more : at.page < r.pages
-  pub at-is : at.page ≡ 2 ^ (8 - r.e) * k
+abbrev pub Merging : ℕ → List ℕ → List ℕ → Result Layout Refusal → Type 0
+Merging e xs ys (Ok r) = (within max_count (sums xs ys) ≡ true) × Limits e (sums xs ys) × LayoutOf e (sums xs ys) r
+Merging e xs ys (Err k) = (out : List ℕ) → merge_lists e xs ys out ≡ unwritten out (number k)

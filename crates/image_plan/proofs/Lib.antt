@@ -1,3 +1,4 @@
 -- Laws of the definitions.
 pub mod PlanLaws
 pub mod PageByPage
+pub mod BlockByBlock

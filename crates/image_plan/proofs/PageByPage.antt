@@ -1,7 +1,7 @@
 -- The loops of the crates above, which plan an image page by page: what they hand to each step. Assumes nothing.
 use mathlib.Core.Path.{◌≡◌, ap, ◌∙◌}
 use mathlib.Core.List.{List}
-use Prim.Native.Nat.{ℕ, ◌+◌, ◌-◌, ◌*◌, ◌^◌, ◌≤◌, ◌<◌}
+use Prim.Native.Nat.{ℕ, ◌*◌, ◌^◌, ◌≤◌, ◌<◌}
 use native.Mathlib.Omega.{arith}
 use lib.ListN.{length}
 use lib.Pow.{pow_mono}
@@ -25,11 +25,7 @@ page-sum e xs p m s h em q b = record {
 }
 
 -- the next page
-abbrev pub awaited : {e : ℕ} {xs : List ℕ} {r : Plan} (m s : ℕ) → Drafted e xs r → r.done < r.pages → m ≡ 2 ^ e
-    → s ≡ sum (window xs (m * r.done) m) → s ≤ 4294967295 * m → Awaits r s
-awaited {e} {xs} {r} m s d l em q b = record { e = e; xs = xs; drafted = d; more = l; sum_is = page-sum e xs r.done m s d.e-high em q b }
-
--- one page fewer is left
-pub fewer : {e : ℕ} {xs : List ℕ} {r n : Plan} → Drafted e xs r → r.done < r.pages → n.done ≡ r.done + 1 → Drafted e xs n
-    → n.pages - n.done < r.pages - r.done
-fewer d l q t = omega (arith, d.pages-are, t.pages-are)
+abbrev pub awaited : {e : ℕ} {xs : List ℕ} {r : Plan} (m p s : ℕ) → Drafted e xs r → r.done ≡ p → p < r.pages → m ≡ 2 ^ e
+    → s ≡ sum (window xs (m * p) m) → s ≤ 4294967295 * m → Awaits r s
+awaited {e} {xs} {r} m p s d i l em q b =
+    record { e = e; xs = xs; drafted = d; more = omega arith; sum_is = rw i (page-sum e xs p m s d.e-high em q b) }

@@ -1,5 +1,5 @@
 -- A plan: the sums of an image's pages, added one after another, and the layout at the end. Assumes nothing.
-use mathlib.Core.Path.{◌≡◌, refl, sym, ap, ap₂, ◌∙◌, subst}
+use mathlib.Core.Path.{◌≡◌, refl, sym, ap, ap₂, ◌∙◌}
 use mathlib.Core.Bool.{Bool}
 use mathlib.Core.List.{List}
 use Prim.Native.Nat.{ℕ, ◌+◌, ◌*◌, ◌^◌, ◌≤◌, ◌<◌}
@@ -16,16 +16,13 @@ use Rattle.reserve.proofs.Exact.{digits_le}
 use Rattle.image.specs.Calls.{length_call}
 use Rattle.image.specs.Image.{code, header_length, image, max_hours, max_total, narrow_total, pages, root, size, start, wide}
 use Rattle.answers.specs.Image.{refused}
+use Rattle.std.specs.Prelude.{Ok}
 use Rattle.image.proofs.Editions.{header-most}
 use Rattle.image.proofs.ReadLaws.{length-image}
 use Rattle.image.proofs.PageLaws.{code-most, page-sum, pages-cover, pages-few, reserve-most, start-next}
 use Rattle.image_plan.specs.Code.Planning.{Begun, Drafted, Laying, PageSum, Passed, Planned}
 use Rattle.image_plan.specs.declared.Layout.{Layout}
 use Rattle.image_plan.specs.declared.Plan.{Plan}
-use Rattle.image_plan.specs.declared.Planned.TheVariants.{Image}
-use Rattle.image_plan.specs.declared.Started.{Started}
-use Rattle.image_plan.specs.declared.Started.TheVariants.{Open}
-use Rattle.image_plan.specs.declared.Started.TheVariants.{Refused as Unstarted}
 
 -- ---- the refusals of length
 pub e-below : (e : ℕ) (xs : List ℕ) → e < 2 → length_call e xs ≡ refused 1
@@ -56,7 +53,7 @@ none_passed e xs = record {
 }
 
 pub begun : (e n k : ℕ) → 2 ≤ e → e ≤ 8 → n ≤ max_hours → k ≡ pages e n
-    → Begun e n (Open (record { e = e; hours = n; pages = k; done = 0; total = 0; trees = 0 }))
+    → Begun e n (Ok (record { e = e; hours = n; pages = k; done = 0; total = 0; trees = 0 }))
 begun e n k low high l q = (
   refl,
   λ xs h. record {
@@ -70,13 +67,6 @@ begun e n k low high l q = (
     passed = none_passed e xs;
   },
 )
-
--- what start answers, by its cases
-pub opened : (e n : ℕ) (xs : List ℕ) (p : Started) (r : Plan) → Begun e n p → p ≡ Open r → length xs ≡ n → Drafted e xs r
-opened e n xs p r b q l = (subst (Begun e n) q b).1 xs l
-
-pub unopened : (e n : ℕ) (xs : List ℕ) (p : Started) (k : ℕ) → Begun e n p → p ≡ Unstarted k → length xs ≡ n → length_call e xs ≡ refused k
-unopened e n xs p k b q l = subst (Begun e n) q b xs l
 
 -- ---- one page more
 -- how large a plan's numbers are
@@ -145,7 +135,7 @@ module _ {e : ℕ} {xs : List ℕ} {r : Plan} (d : Drafted e xs r) (all : r.page
   too_much l = total-above e xs r.total d.e-low d.e-high d.short total-is l
 
   pub finished : (t h : ℕ) → t ≡ digits r.total → h ≡ header_length (ltb narrow_total r.total) → r.total ≤ max_total
-      → Planned e xs (Image (record { e = r.e; hours = r.hours; pages = r.pages; total = r.total; table = h; code = 8 * (h + 4 * r.pages); bits = r.pages * t + r.trees }))
+      → Planned e xs (Ok (record { e = r.e; hours = r.hours; pages = r.pages; total = r.total; table = h; code = 8 * (h + 4 * r.pages); bits = r.pages * t + r.trees }))
   unfolding code start wide
   finished t h q eh l = (
     record { e-low = d.e-low; e-high = d.e-high; hours = d.short; total = omega (arith, total-is) },

@@ -4,9 +4,9 @@
 
 ghost use Rattle.std.specs.Prelude.{◌≡◌, ◌+◌, length};
 ghost use Rattle.image.specs.Image.{image};
-ghost use Rattle.image_plan.specs.Code.Planning.{Awaits, Begun, Drafted, Laying, Planned as PlannedOf, Whole};
+ghost use Rattle.image_plan.specs.Code.Planning.{Awaits, Begun, Drafted, Fitting, Laying, Planned, Whole};
 
-use answers::refusal;
+use answers::refusal::Refusal;
 use image::head::{Head, header_size, pages_of, size_of};
 
 // A plan of an image of pages of 2^e counts: how many counts and pages it has; of the first done pages the total, and the bits of the trees.
@@ -20,30 +20,20 @@ pub struct Plan {
     pub trees: usize,
 }
 
-// A plan before its first page, or the number of a refusal.
-#[derive(Clone, Copy)]
-pub enum Started {
-    Open(Plan),
-    Refused(u32),
-}
-
 // The plan of an image of so many counts: refusals 1 and 2.
-pub fn start(e: u32, hours: u64) -> Started
+pub fn start(e: u32, hours: u64) -> Result<Plan, Refusal>
     ensures { Begun e hours result }
 {
-    let e_wrong = e < 2 || 8 < e;
-    let too_long = Head::MAX_HOURS < hours;
-    if e_wrong {
-        return Started::Refused(refusal::PAGE_SIZE);
+    if e < 2 || 8 < e {
+        return Err(Refusal::PageSize);
     }
-    if too_long {
-        return Started::Refused(refusal::LIST);
+    if Head::MAX_HOURS < hours {
+        return Err(Refusal::List);
     }
-    let pages = pages_of(e, hours) as usize;
-    Started::Open(Plan {
+    Ok(Plan {
         e,
         hours,
-        pages,
+        pages: pages_of(e, hours) as usize,
         done: 0,
         total: 0,
         trees: 0,
@@ -55,14 +45,11 @@ pub fn add_page(plan: Plan, sum: u64) -> Plan
     requires { Awaits plan sum }
     ensures { (result.done ≡ plan.done + 1) × ((a : Awaits plan sum) → Drafted a.e a.xs result) }
 {
-    let own = reserve::reserve_of(plan.e, sum);
     Plan {
-        e: plan.e,
-        hours: plan.hours,
-        pages: plan.pages,
         done: plan.done + 1,
         total: plan.total + sum,
-        trees: plan.trees + own,
+        trees: plan.trees + reserve::reserve_of(plan.e, sum),
+        ..plan
     }
 }
 
@@ -79,26 +66,19 @@ pub struct Layout {
     pub bits: usize,
 }
 
-// A layout, or the number of a refusal.
-#[derive(Clone, Copy)]
-pub enum Planned {
-    Image(Layout),
-    Refused(u32),
-}
-
 // The layout of a plan that has all its pages: refusal 3. A root's width and the edition are known only now.
-pub fn finish(plan: Plan) -> Planned
+pub fn finish(plan: Plan) -> Result<Layout, Refusal>
     requires { Whole plan }
-    ensures { (a : Whole plan) → PlannedOf a.e a.xs result }
+    ensures { (a : Whole plan) → Planned a.e a.xs result }
 {
     if Head::MAX_TOTAL < plan.total {
-        return Planned::Refused(refusal::TOTAL);
+        return Err(Refusal::Total);
     }
     let pages = plan.pages;
     let table = header_size(Head::NARROW_TOTAL < plan.total);
     let code = 8 * (table + 4 * pages);
     let bits = pages * (reserve::digits_of(plan.total) as usize) + plan.trees;
-    Planned::Image(Layout {
+    Ok(Layout {
         e: plan.e,
         hours: plan.hours,
         pages,
@@ -115,4 +95,16 @@ pub fn size(r: Layout) -> u64
     ensures { (a : Laying r) → result ≡ length (image r.e a.xs) }
 {
     size_of(r.table, r.e, r.hours, r.bits as u64)
+}
+
+// How many bytes the image has, if a buffer of so many has room for it: refusal 4.
+pub fn room(r: Layout, buffer: usize) -> Result<u64, Refusal>
+    requires { Laying r }
+    ensures { (a : Laying r) → Fitting (length (image r.e a.xs)) buffer result }
+{
+    let n = size(r);
+    if (buffer as u64) < n {
+        return Err(Refusal::Buffer);
+    }
+    Ok(n)
 }

@@ -5,70 +5,67 @@ use Prim.Native.Nat.{ℕ, ◌≤◌, ◌<◌}
 use native.Mathlib.Omega.{arith}
 use lib.ListN.{length}
 use borrow.Author.Tests.{lt-leb}
+use Rattle.std.specs.Prelude.{Ok, Err}
 use Rattle.lists.specs.Lists.{pick, splice}
 use Rattle.answers.specs.Image.{told, Reply, given}
-use Rattle.image.specs.Calls.{length_call, put, put_after, result_of, unwritten, write_call}
+use Rattle.answers.specs.declared.refusal.Refusal.{Refusal}
+use Rattle.answers.specs.declared.refusal.Refusal.TheVariants.{Buffer}
+use Rattle.image.specs.Calls.{Result, length_call, put, put_after, result_of, unwritten, write_call}
 use Rattle.image.specs.Image.{Limits, image}
-use Rattle.image_plan.specs.Code.Planning.{Laying, LayoutOf, Planned}
+use Rattle.image_plan.specs.Code.Planning.{Fitting, Laying, LayoutOf, Planned}
 use Rattle.image_put.specs.Code.Writing.{Room}
 use Rattle.image_plan.specs.declared.Layout.{Layout}
-use Rattle.image_plan.specs.declared.Planned.{Planned as Outcome}
-use Rattle.image_plan.specs.declared.Planned.TheVariants.{Image, Refused}
-use Rattle.answers.specs.declared.image.Answer.TheVariants.{Number}
-use Rattle.answers.specs.declared.image.Answer.TheVariants.{Refused as No}
 use Rattle.image.proofs.CallLaws.{length-within, write-put}
 use Rattle.image_put.proofs.Writing.{splice_front}
 
 -- no layout
-pub length-no : (e : ℕ) (xs : List ℕ) (p : Outcome) (k : ℕ) → Planned e xs p → p ≡ Refused k → told (No k) ≡ length_call e xs
+pub length-no : (e : ℕ) (xs : List ℕ) (k : Refusal) → Planned e xs (Err k) → told (Err k) ≡ length_call e xs
 unfolding told
-length-no e xs p k h q = sym (subst (Planned e xs) q h)
+length-no e xs k h = sym h
 
-pub write-no : (e : ℕ) (xs out : List ℕ) (p : Outcome) (k : ℕ) → Planned e xs p → p ≡ Refused k → result_of (No k) out ≡ write_call e xs out
+pub write-no : (e : ℕ) (xs out : List ℕ) (k : Refusal) → Planned e xs (Err k) → result_of (Err k) out ≡ write_call e xs out
 unfolding told write_call put_after unwritten
-write-no e xs out p k h q = sym (ap (λ (r : Reply). put_after r out (image e xs)) (subst (Planned e xs) q h))
+write-no e xs out k h = sym (ap (λ (r : Reply). put_after r out (image e xs)) h)
 
--- a layout, and the size that it gives
-pub record Sized (e : ℕ) (xs : List ℕ) (r : Layout) (n : ℕ) : Type 0 where
-  pub limits : Limits e xs
-  pub layout : LayoutOf e xs r
-  pub size_is : n ≡ length (image e xs)
+-- a layout
+module _ (e : ℕ) (xs : List ℕ) (r : Layout) (h : Planned e xs (Ok r)) where
+  laying : Laying r
+  laying =
+      let i : e ≡ r.e = sym h.1.e-is in
+      record { xs = xs; limits = subst (λ (y : ℕ). Limits y xs) i h.0; layout = subst (λ (y : ℕ). LayoutOf y xs r) i h.1 }
 
-pub laying : (e : ℕ) (xs : List ℕ) (p : Outcome) (r : Layout) → Planned e xs p → p ≡ Image r → Laying r
-laying e xs p r h q =
-    let a : Limits e xs × LayoutOf e xs r = subst (Planned e xs) q h in
-    let i : e ≡ r.e = sym a.1.e-is in
-    record { xs = xs; limits = subst (λ (y : ℕ). Limits y xs) i a.0; layout = subst (λ (y : ℕ). LayoutOf y xs r) i a.1 }
+  -- and the size that it gives
+  abbrev Sizes : ℕ → Type 0
+  Sizes n = (a : Laying r) → n ≡ length (image r.e a.xs)
 
-pub sized : (e : ℕ) (xs : List ℕ) (p : Outcome) (r : Layout) (n : ℕ) → Planned e xs p → p ≡ Image r
-    → ((a : Laying r) → n ≡ length (image r.e a.xs)) → Sized e xs r n
-unfolding laying
-sized e xs p r n h q s =
-    let a : Limits e xs × LayoutOf e xs r = subst (Planned e xs) q h in
-    record { limits = a.0; layout = a.1; size_is = s (laying e xs p r h q) ∙ ap (λ (y : ℕ). length (image y xs)) a.1.e-is }
+  sized : (n : ℕ) → Sizes n → n ≡ length (image e xs)
+  unfolding laying
+  sized n s = s laying ∙ ap (λ (y : ℕ). length (image y xs)) h.1.e-is
 
-pub length-yes : (e : ℕ) (xs : List ℕ) (r : Layout) (n : ℕ) → Sized e xs r n → told (Number n) ≡ length_call e xs
-unfolding told
-length-yes e xs r n z = ap given z.size_is ∙ sym (length-within e xs z.limits)
+  pub length-yes : (n : ℕ) → Sizes n → told (Ok n) ≡ length_call e xs
+  unfolding told
+  length-yes n s = ap given (sized n s) ∙ sym (length-within e xs h.0)
 
--- a buffer that is too short
-pub write-short : (e : ℕ) (xs out : List ℕ) (r : Layout) (n : ℕ) → Sized e xs r n → length out < n → result_of (No 4) out ≡ write_call e xs out
-unfolding told write_call put_after put pick unwritten
-write-short e xs out r n z l = sym (rw (length-within e xs z.limits, lt-leb (length (image e xs)) (length out) (omega (arith, z.size_is))))
+  -- a buffer that is too short
+  pub write-short : (out : List ℕ) (k : Refusal) → ((a : Laying r) → Fitting (length (image r.e a.xs)) (length out) (Err k))
+      → result_of (Err k) out ≡ write_call e xs out
+  unfolding told write_call put_after put pick unwritten laying
+  write-short out k f =
+      let short : length out < length (image e xs) = omega (arith, (f laying).1, ap (λ (y : ℕ). length (image y xs)) h.1.e-is) in
+      ap (λ (j : Refusal). result_of (Err j) out) (f laying).0
+      ∙ sym (rw (length-within e xs h.0, lt-leb (length (image e xs)) (length out) short))
 
-pub room : (e : ℕ) (xs out : List ℕ) (r : Layout) (n : ℕ) → Sized e xs r n → n ≤ length out → Room xs r out
-room e xs out r n z l =
-    let q : e ≡ r.e = sym z.layout.e-is in
-    record {
-      limits = subst (λ (y : ℕ). Limits y xs) q z.limits;
-      layout = subst (λ (y : ℕ). LayoutOf y xs r) q z.layout;
-      enough = omega (arith, z.size_is, ap (λ (y : ℕ). length (image y xs)) q);
-    }
+  -- one with room
+  pub room : (out : List ℕ) (n : ℕ) → ((a : Laying r) → Fitting (length (image r.e a.xs)) (length out) (Ok n)) → Room xs r out
+  unfolding laying
+  room out n f = record { limits = laying.limits; layout = laying.layout; enough = (f laying).1 }
 
-pub write-yes : (e : ℕ) (xs out now : List ℕ) (r : Layout) (n : ℕ) → Sized e xs r n → n ≤ length out
-    → now ≡ splice out 0 (image r.e xs) → result_of (Number n) now ≡ write_call e xs out
-unfolding told
-write-yes e xs out now r n z l q =
-    ap₂ (λ (k : ℕ) (b : List ℕ). record { reply = given k; bytes = b }) z.size_is
-    (q ∙ ap (λ (y : ℕ). splice out 0 (image y xs)) z.layout.e-is ∙ splice_front out (image e xs))
-    ∙ sym (write-put e xs out z.limits (omega (arith, z.size_is)))
+  pub write-yes : (out now : List ℕ) (n : ℕ) → ((a : Laying r) → Fitting (length (image r.e a.xs)) (length out) (Ok n))
+      → now ≡ splice out 0 (image r.e xs) → result_of (Ok n) now ≡ write_call e xs out
+  unfolding told laying
+  write-yes out now n f q =
+      let same : r.e ≡ e = h.1.e-is in
+      let long : length (image r.e xs) ≡ length (image e xs) = ap (λ (y : ℕ). length (image y xs)) same in
+      ap₂ (λ (k : ℕ) (b : List ℕ). record { reply = given k; bytes = b }) {x = n} {y = length (image e xs)} ((f laying).0 ∙ long)
+      (q ∙ ap (λ (y : ℕ). splice out 0 (image y xs)) same ∙ splice_front out (image e xs))
+      ∙ sym (write-put e xs out h.0 (omega (arith, (f laying).1, long)))

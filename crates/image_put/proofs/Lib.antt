@@ -3,5 +3,5 @@ pub mod Splices
 pub mod Writing
 pub mod PageSteps
 pub mod PagesLaid
-pub mod PageByPage
 pub mod Answering
+pub mod BlockByBlock

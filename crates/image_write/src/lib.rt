@@ -10,33 +10,23 @@ ghost use Rattle.image.specs.Calls.{length_call, result_of, write_call};
 
 use crate::plan::layout_of;
 use crate::put::put_image;
-use answers::image::Answer;
-use answers::refusal;
-use image_plan::{Planned, size};
+use answers::refusal::Refusal;
+use image_plan::{room, size};
 
 // The length in bytes of the image of counts.
-pub fn length(counts: &[u32], e: u32) -> Answer
+pub fn length(counts: &[u32], e: u32) -> Result<u64, Refusal>
     ensures { told result ≡ length_call e counts.now }
 {
-    match layout_of(counts, e) {
-        Planned::Refused(k) => Answer::Refused(k),
-        Planned::Image(r) => Answer::Number(size(r)),
-    }
+    let r = layout_of(counts, e)?;
+    Ok(size(r))
 }
 
 // Writes the image of counts to the start of out, and no byte beyond it.
-pub fn write(counts: &[u32], e: u32, out: &mut [u8]) -> Answer
+pub fn write(counts: &[u32], e: u32, out: &mut [u8]) -> Result<u64, Refusal>
     ensures { result_of result out.new ≡ write_call e counts.now out.old }
 {
-    match layout_of(counts, e) {
-        Planned::Refused(k) => Answer::Refused(k),
-        Planned::Image(r) => {
-            let n = size(r);
-            if (out.len() as u64) < n {
-                return Answer::Refused(refusal::BUFFER);
-            }
-            put_image(out, counts, r);
-            Answer::Number(n)
-        }
-    }
+    let r = layout_of(counts, e)?;
+    let n = room(r, out.len())?;
+    put_image(out, counts, r);
+    Ok(n)
 }

@@ -14,8 +14,8 @@ pub(crate) fn put_image(out: &mut [u8], counts: &[u32], r: Layout)
 {
     let m = reserve::power(r.e) as usize;
     let mut at = begin(out, r);
-    while at.page < r.pages {
-        at = put_page(out, r, at, counts, m * at.page);
+    for page in 0..r.pages {
+        at = put_page(out, r, at, counts, m * page);
     }
     end(out, r);
 }

@@ -1,49 +1,33 @@
 -- `book_out::to_bcd` meets its contract. Assumes nothing.
-use mathlib.Core.Path.{◌≡◌, sym, subst, ◌∙◌}
+use mathlib.Core.Path.{◌≡◌, sym, ◌∙◌}
 use native.Mathlib.Omega.{arith}
+use Rattle.std.specs.Prelude.{Err}
+use Rattle.answers.specs.declared.refusal.Refusal.TheVariants.{Body, Header}
 use Rattle.lists.proofs.Tests.{left}
-use mathlib.Core.List.{List}
-use Prim.Native.Nat.{ℕ}
-use Rattle.image.specs.declared.head.Head.{Head}
-use Rattle.image.specs.declared.head.Opening.{Opening}
-use Rattle.image.specs.declared.head.Opening.TheVariants.{Image}
-use Rattle.image.specs.Code.Head.{Opened, Opens}
 use Rattle.image.proofs.CheckLaws.{check-5}
 use Rattle.image_test.proofs.CheckSteps.{check-6}
 use Rattle.book_out.proofs.ToLaws.{four_is, to-fails, to-past, to-wide}
 use Rattle.book_out.proofs.to_bcd.Goals as goal
 
--- past refusal 5
-opened : (s : List ℕ) (o : Opening) (h : Head) → Opens s o → o ≡ Image h → Opened s h
-opened s o h e i = subst (Opens s) i e
-
-pub returns-in_default : goal.returns-in_default
-returns-in_default c =
-    let a = c.args in
-    to-fails a.s.now a.book.now 5 (check-5 a.s.now (subst (Opens c.args.s.now) c.in_default.is c.open_image.ensures))
-
-pub passes-requires : goal.passes-requires
-passes-requires c = (opened c.args.s.now c.open_image.result c.in-Image.h c.open_image.ensures c.in-Image.is, omega arith)
+pub returns-in_err-image : goal.returns-in_err-image
+returns-in_err-image c =
+    let e : c.from_residual.result ≡ Err Header = grind arith in
+    rw e (to-fails c.args.s.now c.args.book.now Header (check-5 _ c.in_err-image.ensures.0))
 
 pub write_book-requires : goal.write_book-requires
-write_book-requires c =
-    let e = sym c.passes.ensures ∙ c.if-passes.true in
-    (left _ _ e, (opened c.args.s.now c.open_image.result c.in-Image.h c.open_image.ensures c.in-Image.is).head, four_is _ e)
+write_book-requires c = four_is _ (sym c.passes.ensures ∙ c.if-passes.true)
 
 pub returns-then-passes : goal.returns-then-passes
 returns-then-passes c =
-    let a = c.args in
-    c.write_book.ensures ∙ to-past a.s.now a.book.now (left _ _ (sym c.passes.ensures ∙ c.if-passes.true))
-
-pub passes-requires-2 : goal.passes-requires-2
-passes-requires-2 c = (opened c.args.s.now c.open_image.result c.in-Image.h c.open_image.ensures c.in-Image.is, omega arith)
+    rw (← c.in_ok-image.ensures)
+    (c.write_book.ensures ∙ to-past c.in_ok-image.image.bytes.now c.args.book.now (left _ _ (sym c.passes.ensures ∙ c.if-passes.true)))
 
 pub returns-then-passes-2 : goal.returns-then-passes-2
 returns-then-passes-2 c =
-    let a = c.args in
-    to-wide a.s.now a.book.now (left _ _ (sym c.passes-2.ensures ∙ c.if-passes-2.true)) (sym c.passes.ensures ∙ c.if-passes.false)
+    rw (← c.in_ok-image.ensures)
+    (to-wide c.in_ok-image.image.bytes.now c.args.book.now (left _ _ (sym c.passes-2.ensures ∙ c.if-passes-2.true)) (sym c.passes.ensures ∙ c.if-passes.false))
 
 pub returns : goal.returns
 returns c =
-    let a = c.args in
-    to-fails a.s.now a.book.now 6 (check-6 (opened c.args.s.now c.open_image.result c.in-Image.h c.open_image.ensures c.in-Image.is) (sym c.passes-2.ensures ∙ c.if-passes-2.false))
+    rw (← c.in_ok-image.ensures)
+    (to-fails c.in_ok-image.image.bytes.now c.args.book.now Body (check-6 c.in_ok-image.image.opened (sym c.passes-2.ensures ∙ c.if-passes-2.false)))

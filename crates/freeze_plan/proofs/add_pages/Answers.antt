@@ -26,24 +26,19 @@ one-le : (d : ℕ) → 1 ≤ d + 1
 one-le d = omega arith
 
 pub loop-p-init : goal.loop-p-init
-loop-p-init c = (
-  omega arith,
-  reading-none (list_in c.args.s.now),
-  c.requires.2,
-  λ (l : c.args.plan.done < c.args.plan.pages).
-      omega (arith, mul-le-mul_left (2 ^ c.args.e) (one-le c.args.plan.done), pow_pos c.args.e),
-)
+loop-p-init c = record {
+  all-is = reading-none (list_in c.args.s.now);
+  drafted = c.requires.2;
+  ahead = λ (l : c.args.plan.done < c.args.plan.pages). omega (arith, mul-le-mul_left (2 ^ c.args.e) (one-le c.args.plan.done), pow_pos c.args.e);
+}
 
 -- the page is one of the store
 few : (s : List ℕ) (p pages : ℕ) → sound s ≡ true → pages ≡ page_count_of s → p < pages → p < 1024
 few s p pages h q l = omega (arith, q, l, (facts s h).pages-high)
 
-pub entry_of-own-requires : goal.entry_of-own-requires
-entry_of-own-requires c = (c.requires.0, omega (arith, c.loop-p-test.true, c.requires.1))
-
 pub overflow_add-all : goal.overflow_add-all
 overflow_add-all c =
-    omega (arith, c.loop-p.invariant.1, reading-fits c.args.s.now c.requires.0 (64 * c.loop-p.p), sum-small c.entry_of-own.ensures)
+    omega (arith, c.loop-p.invariant.all-is, reading-fits c.args.s.now c.requires.0 (64 * c.loop-p.p), sum-small c.entry_of-own.ensures)
 
 pub overflow_add-p : goal.overflow_add-p
 overflow_add-p c = omega (arith, few c.args.s.now c.loop-p.p c.args.pages c.requires.0 c.requires.1 c.loop-p-test.true)
@@ -54,60 +49,62 @@ overflow_mul-p c = omega (arith, few c.args.s.now c.loop-p.p c.args.pages c.requ
 pub nonzero_div-p : goal.nonzero_div-p
 nonzero_div-p c = (power-low c.args.e _ c.power-m.ensures c.requires.2.e-high).0
 
+-- as many pages as when the loop began
+same : {e : ℕ} {xs : List ℕ} {r n : Plan} → Drafted e xs r → Drafted e xs n → r.pages ≡ n.pages
+same d t = omega (arith, d.pages-are, t.pages-are)
+
 pub add_within-next-requires : goal.add_within-next-requires
 add_within-next-requires c =
-    let e = end-in c.args.e c.power-m.result c.loop-p.p c.smaller-end.result c.loop-p.next.pages c.power-m.ensures c.smaller-end.ensures in (
+    let i = c.loop-p.invariant in
+    let e = end-in c.args.e c.power-m.result c.loop-p.p c.min-end.result c.args.plan.pages c.power-m.ensures c.min-end.ensures in (
       record {
         is-sound = c.requires.0;
         entry-is = c.entry_of-own.ensures;
-        drafted = c.loop-p.invariant.2;
-        ahead = c.loop-p.invariant.3;
-        end-one = e.0;
+        drafted = i.drafted;
+        ahead = i.ahead;
+        end-one = omega (arith, e.0, same c.requires.2 i.drafted);
         end-in = e.1;
       },
-      all-next c.loop-p.all c.entry_of-own.ensures c.loop-p.invariant.1,
+      all-next c.loop-p.all c.entry_of-own.ensures i.all-is,
     )
-
-pub overflow_add-p-in-loop-p : goal.overflow_add-p-in-loop-p
-overflow_add-p-in-loop-p c = omega (arith, few c.args.s.now c.loop-p.p c.args.pages c.requires.0 c.requires.1 c.loop-p-test.true)
-
-pub loop-p-smaller : goal.loop-p-smaller
-loop-p-smaller c = omega (arith, c.loop-p-test.true)
 
 pub loop-p-preserved : goal.loop-p-preserved
 loop-p-preserved c =
-    let d = c.add_within-next in (
-      omega (arith, c.loop-p-test.true),
-      all-next c.loop-p.all c.entry_of-own.ensures c.loop-p.invariant.1,
-      d.ensures.0,
-      λ (l : d.result.done < d.result.pages).
-          ahead c.args.e c.power-m.result c.loop-p.p c.smaller-end.result c.loop-p.next.pages d.result.done c.power-m.ensures
-          c.smaller-end.ensures d.ensures.1 (omega (arith, l, d.ensures.0.pages-are, c.loop-p.invariant.2.pages-are)),
-    )
+    let d = c.add_within-next in
+    record {
+      all-is = all-next c.loop-p.all c.entry_of-own.ensures c.loop-p.invariant.all-is;
+      drafted = d.ensures.0;
+      ahead = λ (l : d.result.done < d.result.pages).
+          ahead c.args.e c.power-m.result c.loop-p.p c.min-end.result c.args.plan.pages d.result.done c.power-m.ensures
+          c.min-end.ensures d.ensures.1 (omega (arith, l, same c.requires.2 d.ensures.0));
+    }
 
 -- the last page, if it ends behind the store's
-abbrev at-end : (s : List ℕ) (e p all pages : ℕ) (r : Plan) → sound s ≡ true → pages ≡ page_count_of s → pages ≤ p
-    → all ≡ reading (list_in s) (64 * p) → Drafted e (list_in s) r → (r.done < r.pages → 64 * p < 2 ^ e * (r.done + 1)) → Ending all r.pages r
-at-end s e p all pages r so q k al d f = record {
+abbrev at-end : (s : List ℕ) (e p all pages : ℕ) (plan r : Plan) → sound s ≡ true → pages ≡ page_count_of s → pages ≤ p
+    → all ≡ reading (list_in s) (64 * p) → Drafted e (list_in s) plan → Drafted e (list_in s) r → (r.done < r.pages → 64 * p < 2 ^ e * (r.done + 1))
+    → Ending all plan.pages r
+at-end s e p all pages plan r so q k al d₀ d f = record {
   e = e;
   xs = list_in s;
   drafted = d;
   total-fits = total-fits s so;
-  end-one = omega arith;
-  next = λ (l : r.done < r.pages).
-      let h = f l in
-      (last-page s so e p pages r.done r.pages q k d.pages-are h, behind s so p pages (2 ^ e * (r.done + 1)) all q k al h);
+  end-one = omega (arith, d₀.pages-are, d.pages-are);
+  next = λ (l : r.done < plan.pages).
+      let h = f (omega (arith, l, d₀.pages-are, d.pages-are)) in
+      (last-page s so e p pages r.done plan.pages q k d₀.pages-are h, behind s so p pages (2 ^ e * (r.done + 1)) all q k al h);
 }
 
 pub add_ending-requires : goal.add_ending-requires
 add_ending-requires c =
     let a = c.args in
     let i = c.loop-p.invariant in
-    at-end a.s.now a.e c.loop-p.p c.loop-p.all a.pages c.loop-p.next c.requires.0 c.requires.1 c.loop-p-test.false i.1 i.2 i.3
+    at-end a.s.now a.e c.loop-p.p c.loop-p.all a.pages a.plan c.loop-p.next c.requires.0 c.requires.1 c.loop-p-test.false i.all-is c.requires.2 i.drafted i.ahead
 
 pub returns : goal.returns
 returns c =
     let a = c.args in
     let i = c.loop-p.invariant in
-    let d = c.add_ending.ensures (at-end a.s.now a.e c.loop-p.p c.loop-p.all a.pages c.loop-p.next c.requires.0 c.requires.1 c.loop-p-test.false i.1 i.2 i.3) in
-    (d.0, omega (arith, d.1, d.0.pages-are, i.2.pages-are))
+    let d =
+    c.add_ending.ensures
+    (at-end a.s.now a.e c.loop-p.p c.loop-p.all a.pages a.plan c.loop-p.next c.requires.0 c.requires.1 c.loop-p-test.false i.all-is c.requires.2 i.drafted i.ahead) in
+    (d.0, omega (arith, d.1, same c.requires.2 d.0))

@@ -12,8 +12,8 @@ overflow_add-result-2 c =
 pub overflow_add-result-3 : goal.overflow_add-result-3
 overflow_add-result-3 c =
     let a = c.requires in
-    omega (arith, sizes a.drafted, reserve-low a.drafted a.sum_is.small c.reserve_of-own.ensures)
+    omega (arith, sizes a.drafted, reserve-low a.drafted a.sum_is.small c.reserve_of.ensures)
 
 pub returns : goal.returns
 returns c =
-    (refl, λ a. added c.reserve_of-own.result a.drafted a.more a.sum_is c.reserve_of-own.ensures)
+    (refl, λ a. added c.reserve_of.result a.drafted a.more a.sum_is c.reserve_of.ensures)

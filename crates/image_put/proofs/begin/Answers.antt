@@ -1,6 +1,7 @@
 -- `image_put::begin` meets its contract. Assumes nothing.
 use mathlib.Core.Path.{refl}
 use native.Mathlib.Omega.{arith}
+use Rattle.std.proofs.Common.{rules}
 use Rattle.image_put.proofs.PagesLaid.{begun, ends}
 use Rattle.image_put.proofs.begin.Goals as goal
 
@@ -12,6 +13,6 @@ put_header-requires c =
 pub returns : goal.returns
 returns c = (
   refl,
-  λ a. begun c.args.out.now c.put_header.new.out a.room (λ i. omega (arith, c.slice_known-1.given i)) c.put_header.auto.out
+  λ a. begun c.args.out.now c.put_header.new.out a.room (λ i. search rules) c.put_header.auto.out
       c.put_header.ensures,
 )

@@ -12,12 +12,12 @@ bounds-out-2 c = simp length-set (omega arith)
 pub bounds-out-3 : goal.bounds-out-3
 bounds-out-3 c = simp length-set (omega arith)
 
-pub put4-requires : goal.put4-requires
-put4-requires c = simp length-set (omega arith)
+pub put-requires-clause-in_bounds : goal.put-requires-clause-in_bounds
+put-requires-clause-in_bounds c = simp length-set (omega arith)
 
 pub shape_of-out : goal.shape_of-out
-shape_of-out c = omega (arith, simp length-set at c.put4.auto.out)
+shape_of-out c = omega (arith, simp length-set at c.put.auto.out)
 
 pub returns : goal.returns
 returns c =
-    front-put c.args.out.now c.put4.new.out _ c.args.r.e c.args.r.hours c.requires.0 c.put4.ensures
+    front-put c.args.out.now c.put.new.out _ c.args.r.e c.args.r.hours c.requires.0 c.put.ensures

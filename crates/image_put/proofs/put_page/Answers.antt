@@ -46,8 +46,8 @@ overflow_mul-at c = omega (arith, numbers c.requires c.power-m.ensures c.digits_
 pub overflow_add-r : goal.overflow_add-r
 overflow_add-r c = omega (arith, numbers c.requires c.power-m.ensures c.digits_of-w.ensures c.sum_of-s.ensures, c.requires.so_far.room.layout.table_is)
 
-pub put4-requires : goal.put4-requires
-put4-requires c = omega (arith, numbers c.requires c.power-m.ensures c.digits_of-w.ensures c.sum_of-s.ensures, c.requires.so_far.room.layout.table_is)
+pub put-requires-clause-in_bounds : goal.put-requires-clause-in_bounds
+put-requires-clause-in_bounds c = omega (arith, numbers c.requires c.power-m.ensures c.digits_of-w.ensures c.sum_of-s.ensures, c.requires.so_far.room.layout.table_is)
 
 pub overflow_add-r-2 : goal.overflow_add-r-2
 overflow_add-r-2 c = omega (arith, numbers c.requires c.power-m.ensures c.digits_of-w.ensures c.sum_of-s.ensures, c.requires.so_far.room.layout.code_is)
@@ -55,7 +55,7 @@ overflow_add-r-2 c = omega (arith, numbers c.requires c.power-m.ensures c.digits
 pub put_field-requires : goal.put_field-requires
 put_field-requires c =
     let p = numbers c.requires c.power-m.ensures c.digits_of-w.ensures c.sum_of-s.ensures in
-    let e = c.put4.auto.out in
+    let e = c.put.auto.out in
     record { width_bound = (omega (arith, c.requires.so_far.room.layout.code_is), omega (arith, c.requires.so_far.room.layout.code_is), omega arith); v_bound = p.root-fits; in_bounds = omega arith }
 
 pub overflow_add-r-3 : goal.overflow_add-r-3
@@ -64,7 +64,7 @@ overflow_add-r-3 c = omega (arith, numbers c.requires c.power-m.ensures c.digits
 pub write-requires : goal.write-requires
 write-requires c =
     let p = numbers c.requires c.power-m.ensures c.digits_of-w.ensures c.sum_of-s.ensures in
-    let d = c.put4.auto.out in
+    let d = c.put.auto.out in
     let e = c.put_field.auto.out in
     let g = c.requires in
     let m = c.power-m.ensures in
@@ -78,7 +78,7 @@ overflow_add-result-2 c = omega (arith, numbers c.requires c.power-m.ensures c.d
 
 pub shape_of-out : goal.shape_of-out
 shape_of-out c =
-    omega (arith, c.write.auto.out, c.put_field.auto.out, c.put4.auto.out)
+    omega (arith, c.write.auto.out, c.put_field.auto.out, c.put.auto.out)
 
 pub returns : goal.returns
 returns c =
@@ -87,8 +87,8 @@ returns c =
       refl,
       λ a.
           let p = numbers a c.power-m.ensures c.digits_of-w.ensures c.sum_of-s.ensures in
-          one_more c.write.new.out _ a.so_far a.more (omega (arith, c.write.auto.out, c.put_field.auto.out, c.put4.auto.out)) refl
+          one_more c.write.new.out _ a.so_far a.more (omega (arith, c.write.auto.out, c.put_field.auto.out, c.put.auto.out)) refl
           (next_place p v.result v.ensures)
-          (page-put p s.r.code s.r.table s.out.now c.put4.new.out c.put_field.new.out c.write.new.out a.so_far.room.layout.table_is a.so_far.room.layout.code_is refl
-          c.put4.ensures c.put_field.ensures c.write.ensures),
+          (page-put p s.r.code s.r.table s.out.now c.put.new.out c.put_field.new.out c.write.new.out a.so_far.room.layout.table_is a.so_far.room.layout.code_is refl
+          c.put.ensures c.put_field.ensures c.write.ensures),
     )

@@ -1,6 +1,6 @@
 -- What the functions ask and answer. The list xs stands nowhere in the code: it is the one whose pages a caller hands over.
 -- Assumes nothing.
-use Rattle.std.specs.Prelude.{Bool, List, ◌∷◌, ◌++◌, ◌≡◌, ℕ, ◌*◌, ◌^◌, ◌≤◌, ◌<◌, length, get_or}
+use Rattle.std.specs.Prelude.{Bool, List, ◌∷◌, ◌++◌, ◌≡◌, ℕ, ◌-◌, ◌*◌, ◌^◌, ◌≤◌, ◌<◌, length, get_or}
 use Rattle.lists.specs.Lists.{concat, reading, splice, sum, tabulate, window}
 use Rattle.bits.specs.Bits.{bits}
 use Rattle.bits.specs.Numbers.{little}
@@ -69,6 +69,15 @@ pub record Handed (r : Layout) (at : Place) (counts : List ℕ) (from : ℕ) (ou
   pub more : at.page < r.pages
   pub counts-are : window counts from (2 ^ r.e) ≡ page r.e xs at.page
   pub near : from ≤ max_hours
+
+-- .. whose pages before block k of 256 hours stand there, and the counts are those of block k, which has pages
+pub record Blocked (r : Layout) (k : ℕ) (at : Place) (counts out : List ℕ) : Type 0 where
+  pub xs : List ℕ
+  pub first : List ℕ
+  pub so_far : Laid xs first out r at
+  pub more : at.page < r.pages
+  pub at-is : at.page ≡ 2 ^ (8 - r.e) * k
+  pub counts-are : counts ≡ window xs (256 * k) 256
 
 -- .. all of whose pages stand there
 pub record Filled (r : Layout) (out : List ℕ) : Type 0 where

@@ -1,30 +1,16 @@
 -- `image_write::write` meets its contract. Assumes nothing.
-use Rattle.image_put.proofs.Answering.{laying, room, sized, write-no, write-short, write-yes}
+use Rattle.std.proofs.Common.{rules}
+use Rattle.image_put.proofs.Answering.{room, write-no, write-short, write-yes}
 use Rattle.image_write.proofs.write.Goals as goal
 
-pub size-n-requires : goal.size-n-requires
-size-n-requires c =
-    let a = c.args in
-    laying a.e a.counts.now c.layout_of.result c.in-Image.r c.layout_of.ensures c.in-Image.is
+pub returns-in_err-r : goal.returns-in_err-r
+returns-in_err-r c = search (rules, write-no)
 
-pub returns-then-out-n : goal.returns-then-out-n
-returns-then-out-n c =
-    let a = c.args in
-    write-short a.e a.counts.now a.out.now c.in-Image.r c.size-n.result (sized a.e a.counts.now c.layout_of.result c.in-Image.r c.size-n.result c.layout_of.ensures c.in-Image.is c.size-n.ensures)
-    c.if-out-n.true
+pub returns-in_err-n : goal.returns-in_err-n
+returns-in_err-n c = search (rules, write-short _ _ _ c.in_ok-r.ensures _ _ c.in_err-n.ensures)
 
 pub put_image-requires : goal.put_image-requires
-put_image-requires c =
-    let a = c.args in
-    room a.e a.counts.now a.out.now c.in-Image.r c.size-n.result (sized a.e a.counts.now c.layout_of.result c.in-Image.r c.size-n.result c.layout_of.ensures c.in-Image.is c.size-n.ensures) c.if-out-n.false
+put_image-requires c = room _ _ _ c.in_ok-r.ensures _ _ c.in_ok-n.ensures
 
-pub returns-in-Refused : goal.returns-in-Refused
-returns-in-Refused c =
-    let a = c.args in
-    write-no a.e a.counts.now a.out.now c.layout_of.result c.in-Refused.k c.layout_of.ensures c.in-Refused.is
-
-pub returns-else-out-n : goal.returns-else-out-n
-returns-else-out-n c =
-    let a = c.args in
-    write-yes a.e a.counts.now a.out.now c.put_image.new.out c.in-Image.r c.size-n.result (sized a.e a.counts.now c.layout_of.result c.in-Image.r c.size-n.result c.layout_of.ensures c.in-Image.is c.size-n.ensures)
-    c.if-out-n.false c.put_image.ensures
+pub returns : goal.returns
+returns c = write-yes _ _ _ c.in_ok-r.ensures _ _ _ c.in_ok-n.ensures c.put_image.ensures

@@ -7,9 +7,9 @@ use Rattle.image_plan.specs.Code.Planning.{Drafted}
 use Rattle.image_merge.specs.Code.{sums_of}
 use Rattle.image_merge.proofs.plan.draft.Given as goal
 
-abbrev pub invariant-loop-next : goal.invariant-loop-next
-invariant-loop-next l =
-    Drafted l.e (sums_of l.a l.b) l.next × (l.next.done ≡ min (2 ^ (8 - l.e) * l.k) l.next.pages) × ((i : ℕ) → i < 256 * l.k → get_or (sums_of l.a l.b) i 0 ≤ max_count)
-
-abbrev pub decreases-loop-next : goal.decreases-loop-next
-decreases-loop-next l = l.next.pages - l.next.done
+abbrev pub invariant-loop-k : goal.invariant-loop-k
+invariant-loop-k l = record {
+  drafted : Drafted l.e (sums_of l.a l.b) l.next;
+  at : l.next.done ≡ min (2 ^ (8 - l.e) * l.k) l.next.pages;
+  small : (i : ℕ) → i < 256 * l.k → get_or (sums_of l.a l.b) i 0 ≤ max_count;
+}

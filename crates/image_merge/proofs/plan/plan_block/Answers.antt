@@ -1,16 +1,38 @@
 -- `image_merge::plan::plan_block` meets its contract. Assumes nothing.
-use mathlib.Core.Path.{◌≡◌, refl, sym, ap, ◌∙◌}
+use mathlib.Core.Path.{◌≡◌, sym, ap, ◌∙◌}
+use mathlib.Core.List.{List}
 use Prim.Native.Nat.{ℕ, ◌+◌, ◌-◌, ◌*◌, ◌^◌, ◌≤◌, ◌<◌, min}
 use native.Mathlib.Nat.{mul-le-mul_left, mul-le-mul_right}
 use native.Mathlib.Omega.{arith}
+use Rattle.lists.specs.Lists.{sum, window}
+use Rattle.image.proofs.Blocks.{In, Sizes, in_block, sizes}
 use Rattle.image_plan.specs.Code.Planning.{Awaits, Drafted}
 use Rattle.image_plan.specs.declared.Plan.{Plan}
-use Rattle.lists.specs.Lists.{sum, window}
-use mathlib.Core.List.{List}
-use Rattle.image.proofs.Blocks.{In, in_block, sizes}
 use Rattle.image_merge.specs.Code.{Block}
 use Rattle.image_merge.proofs.BlockLaws.{block-sum}
 use Rattle.image_merge.proofs.plan.plan_block.Goals as goal
+
+-- the block's sizes, and its pages
+module _ {e k : ℕ} {plan : Plan} {cs : List ℕ} (a : Block cs e k plan) where
+  own : {m w : ℕ} → m ≡ 2 ^ e → w ≡ 2 ^ (8 - e) → Sizes m w
+  own em ew = sizes e _ _ a.drafted.e-high em ew
+
+  first-page : {w : ℕ} → w ≡ 2 ^ (8 - e) → plan.done ≡ min (w * k) plan.pages
+  first-page ew = a.done-is ∙ ap (λ (z : ℕ). min (z * k) plan.pages) (sym ew)
+
+  within : {m w : ℕ} (p last : ℕ) → m ≡ 2 ^ e → w ≡ 2 ^ (8 - e) → last ≡ min (w * (k + 1)) plan.pages → plan.done ≤ p → p < last → In m k p
+  within p last em ew el lo hi = in_block k p (own em ew) (omega (arith, first-page ew, lo, el, hi)) (omega (arith, el, hi))
+
+  -- the next page of the list
+  abbrev awaits : {m s : ℕ} {next : Plan} (p : ℕ) → m ≡ 2 ^ e → In m k p → p < plan.pages → s ≡ sum (window cs (m * p - 256 * k) m)
+      → next.done ≡ p → Drafted e a.zs next → Awaits next s
+  awaits {m} {s} {next} p em i l es q d = record {
+    e = e;
+    xs = a.zs;
+    drafted = d;
+    more = omega (arith, a.drafted.pages-are, d.pages-are);
+    sum_is = rw q (block-sum e m k p a.zs cs s d.e-high em i a.counts-are a.small es);
+  }
 
 pub power-m-requires : goal.power-m-requires
 power-m-requires c = omega (arith, c.requires.drafted.e-high)
@@ -18,39 +40,16 @@ power-m-requires c = omega (arith, c.requires.drafted.e-high)
 pub overflow_sub-e : goal.overflow_sub-e
 overflow_sub-e c = omega (arith, c.requires.drafted.e-high)
 
-pub power-many-requires : goal.power-many-requires
-power-many-requires c = omega arith
-
--- the next page of the list
-abbrev awaits : {cs : List ℕ} {e k m s : ℕ} {plan next : Plan} → m ≡ 2 ^ e → In m k next.done → next.done < next.pages
-    → s ≡ sum (window cs (m * next.done - 256 * k) m) → (a : Block cs e k plan) → Drafted e a.zs next → Awaits next s
-awaits {cs} {e} {k} {m} {s} {next = next} em i l es a d = record {
-  e = e;
-  xs = a.zs;
-  drafted = d;
-  more = l;
-  sum_is = block-sum e m k next.done a.zs cs s d.e-high em i a.counts-are a.small es;
-}
-
 pub overflow_add-k : goal.overflow_add-k
 overflow_add-k c = omega (arith, c.requires.few)
 
 pub overflow_mul-many : goal.overflow_mul-many
 overflow_mul-many c =
-    omega (arith, mul-le-mul_right (c.args.k + 1) (sizes c.args.e c.power-m.result c.power-many.result c.requires.drafted.e-high c.power-m.ensures c.power-many.ensures).w-most, c.requires.few)
-
-more-le : (b : ℕ) → b ≤ b + 1
-more-le b = omega arith
-
-pub loop-next-init : goal.loop-next-init
-loop-next-init c =
-    let d = c.requires.done-is ∙ ap (λ (z : ℕ). min (z * c.args.k) c.args.plan.pages) (sym c.power-many.ensures) in
-    let q = mul-le-mul_left c.power-many.result (more-le c.args.k) in
-    (omega (arith, c.smaller-last.ensures, d, q), refl, λ (l : c.args.plan.done < c.smaller-last.result). omega (arith, c.smaller-last.ensures, d, q), λ a. a.drafted)
+    omega (arith, mul-le-mul_right (c.args.k + 1) (own c.requires c.power-m.ensures c.power-many.ensures).w-most, c.requires.few)
 
 pub overflow_mul-m : goal.overflow_mul-m
 overflow_mul-m c =
-    let i = in_block c.args.k c.loop-next.next.done (sizes c.args.e c.power-m.result c.power-many.result c.requires.drafted.e-high c.power-m.ensures c.power-many.ensures) (c.loop-next.invariant.2 c.loop-next-test.true) (omega (arith, c.loop-next-test.true, c.smaller-last.ensures)) in
+    let i = within c.requires c.loop-page.page _ c.power-m.ensures c.power-many.ensures c.min-last.ensures c.loop-page.auto.page c.loop-page-test.true in
     omega (arith, i.low, i.high, c.requires.few)
 
 pub overflow_mul-k : goal.overflow_mul-k
@@ -58,39 +57,44 @@ overflow_mul-k c = omega (arith, c.requires.few)
 
 pub overflow_sub-m : goal.overflow_sub-m
 overflow_sub-m c =
-    let i = in_block c.args.k c.loop-next.next.done (sizes c.args.e c.power-m.result c.power-many.result c.requires.drafted.e-high c.power-m.ensures c.power-many.ensures) (c.loop-next.invariant.2 c.loop-next-test.true) (omega (arith, c.loop-next-test.true, c.smaller-last.ensures)) in
-    i.low
+    (within c.requires c.loop-page.page _ c.power-m.ensures c.power-many.ensures c.min-last.ensures c.loop-page.auto.page c.loop-page-test.true).low
 
 pub sum_of-s-requires : goal.sum_of-s-requires
 sum_of-s-requires c =
-    let i = in_block c.args.k c.loop-next.next.done (sizes c.args.e c.power-m.result c.power-many.result c.requires.drafted.e-high c.power-m.ensures c.power-many.ensures) (c.loop-next.invariant.2 c.loop-next-test.true) (omega (arith, c.loop-next-test.true, c.smaller-last.ensures)) in
-    (omega (arith, i.high), omega (arith, (sizes c.args.e c.power-m.result c.power-many.result c.requires.drafted.e-high c.power-m.ensures c.power-many.ensures).m-most))
+    let i = within c.requires c.loop-page.page _ c.power-m.ensures c.power-many.ensures c.min-last.ensures c.loop-page.auto.page c.loop-page-test.true in
+    (omega (arith, i.high), omega (arith, (own c.requires c.power-m.ensures c.power-many.ensures).m-most))
 
 pub add_page-next-requires : goal.add_page-next-requires
 add_page-next-requires c =
-    let i = in_block c.args.k c.loop-next.next.done (sizes c.args.e c.power-m.result c.power-many.result c.requires.drafted.e-high c.power-m.ensures c.power-many.ensures) (c.loop-next.invariant.2 c.loop-next-test.true) (omega (arith, c.loop-next-test.true, c.smaller-last.ensures)) in
-    awaits c.power-m.ensures i (omega (arith, c.loop-next-test.true, c.smaller-last.ensures, c.loop-next.invariant.1)) c.sum_of-s.ensures c.requires (c.loop-next.invariant.3 c.requires)
+    let l = c.loop-page in
+    let i = within c.requires l.page _ c.power-m.ensures c.power-many.ensures c.min-last.ensures l.auto.page c.loop-page-test.true in
+    awaits c.requires l.page c.power-m.ensures i (omega (arith, c.loop-page-test.true, c.min-last.ensures)) c.sum_of-s.ensures l.invariant.at
+    (l.invariant.drafted c.requires)
 
-pub loop-next-smaller : goal.loop-next-smaller
-loop-next-smaller c =
-    omega (arith, c.add_page-next.ensures.0, c.loop-next-test.true)
-
-pub loop-next-preserved : goal.loop-next-preserved
-loop-next-preserved c =
-    let i = in_block c.args.k c.loop-next.next.done (sizes c.args.e c.power-m.result c.power-many.result c.requires.drafted.e-high c.power-m.ensures c.power-many.ensures) (c.loop-next.invariant.2 c.loop-next-test.true) (omega (arith, c.loop-next-test.true, c.smaller-last.ensures)) in
-    let d : Drafted c.args.e c.requires.zs c.add_page-next.result = c.add_page-next.ensures.1 (awaits c.power-m.ensures i (omega (arith, c.loop-next-test.true, c.smaller-last.ensures, c.loop-next.invariant.1)) c.sum_of-s.ensures c.requires (c.loop-next.invariant.3 c.requires)) in
-    let o = c.loop-next.invariant.3 c.requires in (
-      omega (arith, c.add_page-next.ensures.0, c.loop-next-test.true),
-      d.pages-are ∙ sym o.pages-are ∙ c.loop-next.invariant.1,
-      λ (q : c.add_page-next.result.done < c.smaller-last.result). omega (arith, c.add_page-next.ensures.0, c.loop-next.invariant.2 c.loop-next-test.true),
-      λ a. c.add_page-next.ensures.1 (awaits c.power-m.ensures i (omega (arith, c.loop-next-test.true, c.smaller-last.ensures, c.loop-next.invariant.1)) c.sum_of-s.ensures a (c.loop-next.invariant.3 a)),
-    )
+pub loop-page-preserved : goal.loop-page-preserved
+loop-page-preserved c =
+    let l = c.loop-page in
+    let i = within c.requires l.page _ c.power-m.ensures c.power-many.ensures c.min-last.ensures l.auto.page c.loop-page-test.true in
+    record {
+      drafted = λ a. c.add_page-next.ensures.1
+          (awaits a l.page c.power-m.ensures i (omega (arith, c.loop-page-test.true, c.min-last.ensures)) c.sum_of-s.ensures l.invariant.at
+          (l.invariant.drafted a));
+      at = omega (arith, c.add_page-next.ensures.0, l.invariant.at);
+    }
 
 pub returns : goal.returns
-returns c =
-    let q : c.loop-next.next.done ≡ c.smaller-last.result = omega (arith, c.loop-next.invariant.0, c.loop-next-test.false) in
-    λ a. (
-      c.loop-next.invariant.3 a,
-      q ∙ c.smaller-last.ensures ∙ ap (λ (z : ℕ). min (z * (c.args.k + 1)) c.args.plan.pages) c.power-many.ensures
-          ∙ ap (min (2 ^ (8 - c.args.e) * (c.args.k + 1))) (sym c.loop-next.invariant.1),
-    )
+returns c = λ a. (
+  c.loop-page.invariant.drafted a,
+  omega (
+    arith,
+    c.loop-page.invariant.at,
+    c.loop-page.auto,
+    c.loop-page-test.false,
+    (c.loop-page.invariant.drafted a).pages-are,
+    a.drafted.pages-are,
+    c.min-last.ensures,
+    first-page a c.power-many.ensures,
+    mul-le-mul_left c.power-many.result (let x : c.args.k ≤ c.args.k + 1 = omega arith in x),
+    ap (λ (z : ℕ). z * (c.args.k + 1)) c.power-many.ensures,
+  ),
+)

@@ -1,56 +1,34 @@
 -- `image_merge::put::put_image` meets its contract. Assumes nothing.
-use lib.Pow.{pow_pos}
-use Rattle.image_merge.specs.Code.{Blocked, sums_of}
-use Rattle.image.proofs.Blocks.{block-few, sizes}
-use mathlib.Core.List.{List}
-use mathlib.Core.Path.{◌≡◌, refl}
-use Prim.Native.Nat.{ℕ, ◌-◌, ◌*◌, ◌^◌, ◌<◌}
 use native.Mathlib.Omega.{arith}
-use lib.ListN.{length}
-use Rattle.image_put.specs.Code.Writing.{Laid}
-use Rattle.image_plan.specs.declared.Layout.{Layout}
-use Rattle.image_put.specs.declared.Place.{Place}
-use Rattle.image_put.proofs.PageByPage.{filled, laid-since}
+use Rattle.image_put.proofs.BlockByBlock.{blocked, placed}
+use Rattle.image_merge.specs.Code.{sums_of}
+use Rattle.image_merge.proofs.BlockLaws.{all-counts}
 use Rattle.image_merge.proofs.put.put_image.Goals as goal
 
-pub begin-at-requires : goal.begin-at-requires
-begin-at-requires c = record { xs = sums_of c.args.a.now c.args.b.now; room = c.requires.room }
-
-pub loop-at-init : goal.loop-at-init
-loop-at-init c = (λ l. omega (arith, c.begin-at.ensures.0), λ first a. a)
-
--- the next block of the pages
-abbrev blocked : {zs first out : List ℕ} {r : Layout} {k : ℕ} {at : Place} → at.page < r.pages → (at.page < r.pages → at.page ≡ 2 ^ (8 - r.e) * k)
-    → Laid zs first out r at → Blocked out zs r k at
-blocked {first = first} l q a = record { first = first; so_far = a; more = l; at-is = q l }
+pub loop-k-init : goal.loop-k-init
+loop-k-init c = record {
+  laid = c.begin-at.ensures.1 (record { xs = sums_of c.args.a.now c.args.b.now; room = c.requires.room });
+  at = omega (arith, c.begin-at.ensures.0);
+}
 
 pub put_block-at-requires : goal.put_block-at-requires
-put_block-at-requires c = record { doors = c.requires.doors; blocked = blocked c.loop-at-test.true c.loop-at.invariant.0 (laid-since c.requires.room c.begin-at.ensures.1 c.loop-at.invariant.1) }
+put_block-at-requires c =
+    let i = c.loop-k.invariant in
+    let f = all-counts _ _ _ _ c.sum_block.ensures c.requires.counts in
+    blocked c.loop-k.k i.laid i.at (omega (arith, c.loop-k-test.true, c.div_ceil-k-end.ensures)) (c.sum_block.ensures.yes f).0
 
-pub overflow_add-k : goal.overflow_add-k
-overflow_add-k c =
-    let m = c.requires.room in
-    omega (
-      arith,
-      block-few c.args.r.e _ _ c.loop-at.k c.loop-at.at.page (length (sums_of c.args.a.now c.args.b.now))
-          (sizes c.args.r.e _ _ m.limits.e-high refl refl) refl (c.loop-at.invariant.0 c.loop-at-test.true)
-          (omega (arith, c.loop-at-test.true, m.layout.pages-are)) m.limits.hours,
-    )
-
-pub loop-at-smaller : goal.loop-at-smaller
-loop-at-smaller c =
-    omega (arith, c.put_block-at.ensures.0, c.loop-at-test.true, c.loop-at.invariant.0 c.loop-at-test.true, pow_pos (8 - c.args.r.e))
-
-pub loop-at-preserved : goal.loop-at-preserved
-loop-at-preserved c =
-    let p = c.put_block-at in
-    (λ (l : p.result.page < c.args.r.pages). omega (arith, l, p.ensures.0), λ first a. p.ensures.1 (blocked c.loop-at-test.true c.loop-at.invariant.0 (c.loop-at.invariant.1 first a)))
+pub loop-k-preserved : goal.loop-k-preserved
+loop-k-preserved c =
+    let i = c.loop-k.invariant in
+    let f = all-counts _ _ _ _ c.sum_block.ensures c.requires.counts in
+    record {
+      laid = c.put_block-at.ensures.1 (blocked c.loop-k.k i.laid i.at (omega (arith, c.loop-k-test.true, c.div_ceil-k-end.ensures)) (c.sum_block.ensures.yes f).0);
+      at = c.put_block-at.ensures.0;
+    }
 
 pub end-requires : goal.end-requires
-end-requires c = filled c.requires.room c.begin-at.ensures.1 c.loop-at.invariant.1 c.loop-at-test.false
-
-pub shape_of-out : goal.shape_of-out
-shape_of-out c = omega (arith, c.end.auto.out, (filled c.requires.room c.begin-at.ensures.1 c.loop-at.invariant.1 c.loop-at-test.false).so_far.long)
+end-requires c = placed c.loop-k.k c.loop-k.invariant.laid c.loop-k.invariant.at (omega (arith, c.loop-k-test.false, c.div_ceil-k-end.ensures))
 
 pub returns : goal.returns
-returns c = c.end.ensures (filled c.requires.room c.begin-at.ensures.1 c.loop-at.invariant.1 c.loop-at-test.false)
+returns c =
+    c.end.ensures (placed c.loop-k.k c.loop-k.invariant.laid c.loop-k.invariant.at (omega (arith, c.loop-k-test.false, c.div_ceil-k-end.ensures)))

@@ -1,2 +1,0 @@
--- What the functions of src/ hand one another.
-pub mod Steps
