@@ -1,27 +1,26 @@
 -- The walk along links, step by step, and the writes to a page. Assumes nothing.
 use mathlib.Core.Path.{◌≡◌, refl}
 use mathlib.Core.List.{List}
-use Prim.Native.Nat.{ℕ, zero, suc, ◌+◌, ◌-◌, ◌≤◌, ◌<◌, max}
-use native.Mathlib.Nat.{not-suc-le-zero}
+use Prim.Native.Nat.{ℕ, zero, suc, ◌+◌, ◌-◌, ◌≤◌, max}
 use native.Mathlib.Omega.{arith}
 use lib.ListN.{length}
 use Rattle.bits.specs.Numbers.{number_at}
 use Rattle.store.specs.Layout.{cell_at, entry_at}
 use Rattle.store.specs.Code.Links.{Steps, cut, filled, joined, nth_link, put, rewritten}
 
-pub record Step (s : List ℕ) (base a k : ℕ) : Type 0 where
+-- the first of k cells from the link at a is passed: n are left
+pub record Step (s : List ℕ) (base a k n : ℕ) : Type 0 where
   pub fits : a + 2 ≤ length s
   pub cell : 1 ≤ number_at s a 2
   pub room : cell_at base (number_at s a 2) + 32 ≤ length s
-  pub more : Steps s base (cell_at base (number_at s a 2)) (k - 1)
-  pub same : nth_link s base a k ≡ nth_link s base (cell_at base (number_at s a 2)) (k - 1)
+  pub more : Steps s base (cell_at base (number_at s a 2)) n
+  pub same : nth_link s base a k ≡ nth_link s base (cell_at base (number_at s a 2)) n
 
-pub step_of : (s : List ℕ) (base a k : ℕ) → 0 < k → Steps s base a k → Step s base a k
+pub step_of : (s : List ℕ) (base a k n : ℕ) → k ≡ suc n → Steps s base a k → Step s base a k n
 unfolding nth_link
-step_of s base a zero l h = absurd (not-suc-le-zero l)
-step_of s base a (suc k) l h =
-    let e : suc k - 1 ≡ k = omega arith in
-    record { fits = h.0; cell = h.1; room = h.2; more = rw e h.3; same = rw e }
+step_of s base a k n e h =
+    let m : Steps s base a (suc n) = rw e at h in
+    record { fits = m.0; cell = m.1; room = m.2; more = m.3; same = rw e }
 
 pub steps-fit : (s : List ℕ) (base a k : ℕ) → k ≡ 0 → Steps s base a k → (a + 2 ≤ length s) × (nth_link s base a k ≡ a)
 unfolding nth_link

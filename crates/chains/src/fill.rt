@@ -12,10 +12,9 @@ pub(crate) fn fill(s: &mut [u8], base: usize, e: usize, n: usize, code: &[u8])
     ensures { s.new ≡ filled s.old base e n code.now }
 {
     let mut at = e;
-    let mut j = 0;
-    while j < n {
+    for j in 0..n {
         at = cell_at(base, link(s, at));
-        put_block(s, at + 2, code, Header::CODE * j);
-        j = j + 1;
+        let from = Header::CODE * j;
+        put_block(s, at + 2, &code[from..from + Header::CODE]);
     }
 }

@@ -2,7 +2,7 @@
 ghost use Rattle.std.specs.Prelude.{◌≡◌, ◌+◌, ◌≤◌, ◌<◌, length};
 ghost use Rattle.store.specs.Code.Links.{nth_link, Steps, joined, cut as cut_at};
 
-use crate::numbers::put_two;
+use crate::numbers::put;
 use store::header::cell_at;
 use store::link::link;
 
@@ -12,10 +12,8 @@ pub(crate) fn link_after(s: &[u8], base: usize, a: usize, k: usize) -> usize
     ensures { (result ≡ nth_link s.now base a k) × (result + 2 ≤ length s.now) }
 {
     let mut at = a;
-    let mut left = k;
-    while 0 < left {
+    for _ in 0..k {
         at = cell_at(base, link(s, at));
-        left = left - 1;
     }
     at
 }
@@ -27,7 +25,7 @@ pub(crate) fn join(s: &mut [u8], base: usize, e: usize, k: usize)
 {
     let end = link_after(s, base, e, k);
     let free = link(s, 6);
-    put_two(s, end, free);
+    put::<2>(s, end, free as u64);
 }
 
 // Cuts the chain from the link at address e on after k cells: the rest is the free chain.
@@ -37,6 +35,6 @@ pub(crate) fn cut(s: &mut [u8], base: usize, e: usize, k: usize)
 {
     let end = link_after(s, base, e, k);
     let rest = link(s, end);
-    put_two(s, 6, rest);
-    put_two(s, end, 0);
+    put::<2>(s, 6, rest as u64);
+    put::<2>(s, end, 0);
 }

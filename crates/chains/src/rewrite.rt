@@ -4,7 +4,7 @@ ghost use Rattle.store.specs.Code.Links.{Rewritable, rewritten};
 
 use crate::fill::fill;
 use crate::links::{cut, join};
-use crate::numbers::{put_four, put_two};
+use crate::numbers::put;
 use store::header::entry_at;
 use store::link::link;
 
@@ -29,11 +29,11 @@ pub fn rewrite(s: &mut [u8], base: usize, c: PageChange, code: &[u8], hours: usi
     let entry = entry_at(c.page);
     let own = entry + 4;
     let free = link(s, 8);
-    let most = lists::larger(old, new);
+    let most = old.max(new);
     join(s, base, own, old);
     fill(s, base, own, most, code);
     cut(s, base, own, new);
-    put_two(s, 8, free + old - new);
-    put_four(s, entry, c.sum);
-    put_four(s, 12, hours as u64);
+    put::<2>(s, 8, (free + old - new) as u64);
+    put::<4>(s, entry, c.sum);
+    put::<4>(s, 12, hours as u64);
 }

@@ -4,7 +4,8 @@ use mathlib.Core.Bool.{Bool, true, false, not, true≢false}
 use mathlib.Core.List.{List, ◌++◌}
 use Prim.Native.Nat.{ℕ, zero, suc, ◌+◌, ◌<◌}
 use native.Mathlib.Omega.{arith}
-use lib.ListN.{length, get_or, take, drop, length-append, get_or-append}
+use lib.ListN.{length, get_or, take, drop, length-take, get_or-append}
+use Rattle.std.proofs.lemmas.List.{get_or-take}
 use lib.Seq.{take_at}
 use lib.Dec.{leb}
 use Rattle.lists.specs.Lists.{every}
@@ -54,14 +55,13 @@ module _ (s b m d : List ℕ) (n P : ℕ) (e : P ≡ page_count_of s) (h : Shape
       let r : get_or d i 0 ≡ get_or (lost_pages s) i 0 = ap (λ (z : List ℕ). get_or z i 0) g.entries ∙ get_or-append (lost_pages s) (drop n b) 0 i q in
       omega (arith, r, e, sieve-entry (λ p. not (is_kept s p)) (page_count_of s) 0 i q)
 
-  pub droppable : Droppable s d P n
+  pub droppable : Droppable s (take n d) P
   droppable =
       let w = h.fitting in
       record {
         few = omega (arith, e, w.limits.pages-high);
         size = omega (arith, e, w.long);
-        long = omega (arith, g.count, ap length g.entries, length-append (lost_pages s) (drop n b));
-        pages = below;
+        pages = λ i l. rw (get_or-take n d i 0 (omega (arith, length-take n d))) (below i (omega (arith, length-take n d)));
       }
 
   first-entries : take n d ≡ lost_pages s

@@ -1,48 +1,41 @@
 -- One turn of the loops that write. Assumes nothing.
 use mathlib.Core.Path.{◌≡◌, refl, sym, ap, ap₂, ◌∙◌}
 use mathlib.Core.Bool.{true, false}
-use mathlib.Core.List.{List, [], ◌∷◌, ◌++◌}
+use mathlib.Core.List.{List, ◌∷◌}
 use Prim.Native.Nat.{ℕ, suc, ◌+◌, ◌-◌, ◌≤◌, ◌<◌}
 use native.Mathlib.Omega.{arith}
 use native.Mathlib.Numerals.{add-one}
-use lib.ListN.{length, get_or, take, drop, set, replicate, length-replicate, replicate-append-replicate}
+use lib.ListN.{length, get_or, take, drop, replicate, drop_of_length-le, length-replicate}
 use lib.Seq.{drop-cons, sets, length-sets}
 use lib.Dec.{eqb}
+use borrow.Rule.Slice.PartMut.{put_mid}
 use Rattle.lists.specs.Lists.{first, pick}
-use Rattle.lists.proofs.Parts.{sets-snoc}
+use Rattle.lists.proofs.Parts.{length_part}
 use Rattle.store.specs.Layout.{cell_at, entry_at, entry_size}
 use Rattle.store.specs.Code.Links.{put}
-use Rattle.store.proofs.Writes.{put-length}
+use Rattle.store.proofs.Writes.{mid-sets, put-length}
 use Rattle.repair.specs.Repair.{sieve}
 use Rattle.repair.proofs.Sieves.{sieve-no, sieve-yes}
 use Rattle.live_repair.specs.Code.Writing.{blank, chained, dropped, freed, unmarked}
 
--- ---- bytes made 0
-zeros-snoc : (n : ℕ) → replicate {A = ℕ} (n + 1) 0 ≡ replicate n 0 ++ 0 ∷ []
-zeros-snoc n = sym (replicate-append-replicate n 1 0)
+-- n bytes from a on made 0 as a slice
+pub filled-sets : (s : List ℕ) (a n : ℕ) {k : ℕ} {w : List ℕ} → w ≡ replicate (length (take k (drop a s))) 0 → k ≡ n → a + n ≤ length s
+    → put_mid a k s w ≡ sets s a (replicate n 0)
+filled-sets s a n {k} e i h =
+    let l : length (take k (drop a s)) ≡ n = rw i (length_part s a n h) in
+    mid-sets s (replicate n 0) a k (e ∙ ap (λ (z : ℕ). replicate z 0) l) (i ∙ sym (length-replicate {A = ℕ} n 0)) (omega arith)
 
-pub clear_next : (s t : List ℕ) (a i : ℕ) → t ≡ sets s a (replicate i 0) → set t (a + i) 0 ≡ sets s a (replicate (i + 1) 0)
-clear_next s t a i e =
-    ap (λ (z : List ℕ). set z (a + i) 0) e
-    ∙ ap (λ (k : ℕ). set (sets s a (replicate i 0)) (a + k) 0) (sym (length-replicate {A = ℕ} i 0))
-    ∙ sym (ap (sets s a) (zeros-snoc i) ∙ sets-snoc (replicate i 0) s a 0)
-
--- ---- entries made zero: i of n pages are done
-pub dropped-start : (s list : List ℕ) (n : ℕ) → dropped s (take n list) ≡ dropped s (take (n - 0) (drop 0 list))
-dropped-start s list n = let e : n ≡ n - 0 = omega arith in ap (λ (k : ℕ). dropped s (take k list)) e
-
-pub dropped-next : (s₀ s t list : List ℕ) (n i e : ℕ) → i < n → n ≤ length list → e ≡ entry_at (get_or list i 0)
-    → t ≡ sets s e (replicate entry_size 0) → dropped s₀ (take n list) ≡ dropped s (take (n - i) (drop i list))
-    → dropped s₀ (take n list) ≡ dropped t (take (n - (i + 1)) (drop (i + 1) list))
+-- ---- entries made zero: i of the list's pages are done
+pub dropped-next : (s₀ s t list : List ℕ) (i e : ℕ) → i < length list → e ≡ entry_at (get_or list i 0) → t ≡ sets s e (replicate entry_size 0)
+    → dropped s₀ list ≡ dropped s (drop i list) → dropped s₀ list ≡ dropped t (drop (i + 1) list)
 unfolding dropped
-dropped-next s₀ s t list n i e l u at w h =
-    let k : n - i ≡ suc (n - (i + 1)) = omega arith in
-    h ∙ ap₂ (λ (x : ℕ) (y : List ℕ). dropped s (take x y)) k (drop-cons list i 0 (omega arith))
-    ∙ ap₂ (λ (x : List ℕ) (y : ℕ). dropped x (take (n - (i + 1)) (drop y list))) (sym (w ∙ ap (λ (z : ℕ). sets s z (replicate entry_size 0)) at)) (sym (add-one i))
+dropped-next s₀ s t list i e l at w h =
+    h ∙ ap (dropped s) (drop-cons list i 0 l)
+    ∙ ap₂ (λ (x : List ℕ) (y : ℕ). dropped x (drop y list)) (sym (w ∙ ap (λ (z : ℕ). sets s z (replicate entry_size 0)) at)) (sym (add-one i))
 
-pub dropped-end : (s₀ s list : List ℕ) (n i : ℕ) → n ≤ i → dropped s₀ (take n list) ≡ dropped s (take (n - i) (drop i list)) → s ≡ dropped s₀ (take n list)
+pub dropped-end : (s₀ s list : List ℕ) (i : ℕ) → length list ≤ i → dropped s₀ list ≡ dropped s (drop i list) → s ≡ dropped s₀ list
 unfolding dropped
-dropped-end s₀ s list n i l h = let e : n - i ≡ 0 = omega arith in sym (h ∙ ap (λ (k : ℕ). dropped s (take k (drop i list))) e)
+dropped-end s₀ s list i l h = sym (h ∙ ap (dropped s) (drop_of_length-le list l))
 
 -- ---- cells freed: those above c are done
 pub record Above (s₀ s : List ℕ) (base : ℕ) (m : List ℕ) (C c next free : ℕ) : Type 0 where
@@ -108,9 +101,6 @@ module _ (s₀ s : List ℕ) (base : ℕ) (m : List ℕ) (C c next free : ℕ) (
         free-is = z ∙ g.free-is ∙ ap length (sym w);
         long = ap length x ∙ g.long;
       }
-
-pub put-twice : (s t u : List ℕ) (x y : ℕ) → t ≡ put s 6 2 x → u ≡ put t 8 2 y → length u ≡ length s
-put-twice s t u x y e f = ap length f ∙ put-length t 8 2 y ∙ ap length e ∙ put-length s 6 2 x
 
 pub above-end : (s₀ s t u : List ℕ) (base : ℕ) (m : List ℕ) (C c next free : ℕ) → c ≡ 0 → Above s₀ s base m C c next free → t ≡ put s 6 2 next
     → u ≡ put t 8 2 free → u ≡ chained s₀ base m C

@@ -1,32 +1,18 @@
 // What a repair writes.
-ghost use Rattle.std.specs.Prelude.{◌≡◌, ◌+◌, ◌≤◌, length, replicate, take};
-ghost use Rattle.std.proofs.lemmas.List.Edits.{sets};
+ghost use Rattle.std.specs.Prelude.{◌≡◌};
 ghost use Rattle.live_repair.specs.Code.Writing.{Chainable, Droppable, chained, dropped};
 
-use chains::numbers::put_two;
+use chains::numbers::put;
 use store::header::{Header, cell_at, entry_at};
 
-// Makes the n bytes from address at on 0.
-fn clear(s: &mut [u8], at: usize, n: usize)
-    requires { at + n ≤ length s.old }
-    ensures { s.new ≡ sets s.old at (replicate n 0) }
+// Makes the entries of the pages in the list zero, in a store of so many pages.
+pub(crate) fn drop_pages(s: &mut [u8], pages: usize, lost: &[u32])
+    requires { Droppable s.old lost.now pages }
+    ensures { s.new ≡ dropped s.old lost.now }
 {
-    let mut i = 0;
-    while i < n {
-        s[at + i] = 0;
-        i = i + 1;
-    }
-}
-
-// Makes the entries of the first n pages of the list zero, in a store of so many pages.
-pub(crate) fn drop_pages(s: &mut [u8], pages: usize, lost: &[u32], n: usize)
-    requires { Droppable s.old lost.now pages n }
-    ensures { s.new ≡ dropped s.old (take n lost.now) }
-{
-    let mut i = 0;
-    while i < n {
-        clear(s, entry_at(lost[i] as usize), Header::ENTRY);
-        i = i + 1;
+    for p in lost {
+        let at = entry_at(*p as usize);
+        s[at..at + Header::ENTRY].fill(0);
     }
 }
 
@@ -35,19 +21,17 @@ pub(crate) fn free_cells(s: &mut [u8], base: usize, marks: &[u8], cells: usize)
     requires { Chainable s.old base marks.now cells }
     ensures { s.new ≡ chained s.old base marks.now cells }
 {
-    let mut next = 0;
-    let mut free = 0;
-    let mut c = cells;
-    while 0 < c {
+    let mut next = 0usize;
+    let mut free = 0usize;
+    for c in (1..=cells).rev() {
         if marks[c] == 0 {
             let at = cell_at(base, c);
-            put_two(s, at, next);
-            clear(s, at + 2, Header::CODE);
+            put::<2>(s, at, next as u64);
+            s[at + 2..at + Header::CELL].fill(0);
             next = c;
-            free = free + 1;
+            free += 1;
         }
-        c = c - 1;
     }
-    put_two(s, 6, next);
-    put_two(s, 8, free);
+    put::<2>(s, 6, next as u64);
+    put::<2>(s, 8, free as u64);
 }

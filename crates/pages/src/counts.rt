@@ -1,26 +1,12 @@
 // A page's counts from its cells.
-ghost use Rattle.std.specs.Prelude.{◌≡◌, length, take};
+ghost use Rattle.std.specs.Prelude.{◌≡◌};
 ghost use Rattle.store.specs.Plain.{page};
 ghost use Rattle.store.specs.Reading.{list_in};
 ghost use Rattle.store.specs.Code.Hours.{OfPage};
-ghost use Rattle.sum_table.specs.Code.Sums.{Sums};
 
 use crate::gather::gather_at;
 use store::header::Header;
-
-// The first counts of an array, as many as a page has.
-fn first_counts(room: &[u32]) -> [u32; Header::HOURS]
-    requires { length room.now ≡ 256 }
-    ensures { result ≡ take 64 room.now }
-{
-    let mut counts = [0u32; Header::HOURS];
-    let mut i = 0;
-    while i < Header::HOURS {
-        counts[i] = room[i];
-        i = i + 1;
-    }
-    counts
-}
+use sum_table::SumTable;
 
 // The counts of page p, of the sum and cells given, of a store that is sound or between two pages of a change. They are decoded into an array
 // of 256, as the pages of an image are. The table of small sums is lent.
@@ -30,15 +16,17 @@ pub fn counts_in(
     p: usize,
     sum: u64,
     k: usize,
-    table: &[u8; 864],
+    table: &SumTable,
 ) -> [u32; Header::HOURS]
-    requires { OfPage s.now base p sum k × Sums table.now }
+    requires { OfPage s.now base p sum k }
     ensures { result ≡ page (list_in s.now) p }
 {
     let code = gather_at(s, base, p, k);
     let mut room = [0u32; 256];
     tree_decode::decode(&code, table, 0, 6, sum, &mut room, 0);
-    first_counts(&room)
+    let mut counts = [0u32; Header::HOURS];
+    counts.copy_from_slice(&room[..Header::HOURS]);
+    counts
 }
 
 // The same with a table of its own, for whoever asks for one page.
@@ -46,7 +34,5 @@ pub fn counts_at(s: &[u8], base: usize, p: usize, sum: u64, k: usize) -> [u32; H
     requires { OfPage s.now base p sum k }
     ensures { result ≡ page (list_in s.now) p }
 {
-    let mut table = [0u8; 864];
-    sum_table::put_sums(&mut table);
-    counts_in(s, base, p, sum, k, &table)
+    counts_in(s, base, p, sum, k, &SumTable::new())
 }

@@ -20,7 +20,7 @@ pub fn entry_of(s: &[u8], p: usize) -> Entry
     requires { (sound s.now ≡ true) × (p < page_count_of s.now) }
     ensures { OfPage s.now result.base p result.sum result.cells }
 {
-    let sum = bits::numbers::get4(s, entry_at(p));
+    let sum = bits::numbers::get::<4>(s, entry_at(p));
     Entry {
         base: cells_from(link(s, 2)),
         sum,

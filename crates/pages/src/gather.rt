@@ -16,11 +16,9 @@ fn copy_chain(s: &[u8], base: usize, e: usize, k: usize, out: &mut [u8])
     ensures { out.new ≡ splice out.old 0 (code_from s.now base e k) }
 {
     let mut at = e;
-    let mut j = 0;
-    while j < k {
+    for j in 0..k {
         at = cell_at(base, link(s, at));
-        put_block(out, Header::CODE * j, s, at + 2);
-        j = j + 1;
+        put_block(out, Header::CODE * j, &s[at + 2..at + Header::CELL]);
     }
 }
 

@@ -1,12 +1,12 @@
 -- A page judged: what each way out says. Assumes nothing.
 use mathlib.Core.Path.{◌≡◌, refl, sym, ap, ap₂, ◌∙◌}
-use mathlib.Core.Bool.{Bool, true, false, not, ◌&&◌, and-false}
+use mathlib.Core.Bool.{Bool, true, false, ◌&&◌, and-false}
 use mathlib.Core.List.{List}
 use Prim.Native.Nat.{ℕ, ◌+◌, ◌-◌, ◌*◌, ◌≤◌, ◌<◌}
 use native.Mathlib.Omega.{arith}
 use lib.ListN.{take}
 use lib.Dec.{leb}
-use borrow.Author.Tests.{le-leb, lt-leb, not-false, not-true}
+use borrow.Author.Tests.{le-leb, lt-leb}
 use Rattle.lists.specs.Lists.{pick}
 use Rattle.bits.specs.Numbers.{Number, number_at}
 use Rattle.store.specs.Limits.{max_total}
@@ -75,28 +75,28 @@ module _ (s : List ℕ) (h : Header) (f : HeadOf s h) (m : List ℕ) (p total : 
   total-no l u = record { is = first-no fitting chaining coding (lt-leb (total + sum_in s p) max_total (omega (arith, sum_is))); marked = refl }
 
   module _ {r : Bool} {code : List ℕ} (g : Gathered s base h.cells (e + 4) k m r code) where
-    pub chain-no : not r ≡ true → Judged s m p total false m
+    pub chain-no : r ≡ false → Judged s m p total false m
     unfolding kept_by pick
-    chain-no x = record { is = second-no fitting chaining coding (sym chaining-is ∙ sym g.is ∙ not-true r x); marked = refl }
+    chain-no x = record { is = second-no fitting chaining coding (sym chaining-is ∙ sym g.is ∙ x); marked = refl }
 
     -- the chain is whole, and t says of its code whether it is a page's
-    module _ (x : not r ≡ false) {t : Bool} (c : t ≡ page_code_fits (take (30 * k) code) sum p h.hours) where
+    module _ (x : r ≡ true) {t : Bool} (c : t ≡ page_code_fits (take (30 * k) code) sum p h.hours) where
       coding-is : coding ≡ t
       coding-is =
-          sym (c ∙ ap₂ (λ (z : List ℕ) (y : ℕ). page_code_fits z y p h.hours) (g.gathered (not-false r x) ∙ ap₂ (code_in s) base-is chain-is) sum_is
+          sym (c ∙ ap₂ (λ (z : List ℕ) (y : ℕ). page_code_fits z y p h.hours) (g.gathered x ∙ ap₂ (code_in s) base-is chain-is) sum_is
           ∙ ap (page_code_fits (code_in s (cells_start (page_count_of s)) (chain_in s (page_count_of s) p)) (sum_in s p) p) f.hours-is)
 
-      pub code-no : not t ≡ true → Judged s m p total false m
+      pub code-no : t ≡ false → Judged s m p total false m
       unfolding kept_by pick
-      code-no y = record { is = third-no fitting chaining coding (coding-is ∙ not-true t y); marked = refl }
+      code-no y = record { is = third-no fitting chaining coding (coding-is ∙ y); marked = refl }
 
-      pub page-yes : not t ≡ false → total ≤ max_total → sum ≤ max_total - total → (m' : List ℕ)
+      pub page-yes : t ≡ true → total ≤ max_total → sum ≤ max_total - total → (m' : List ℕ)
           → m' ≡ mark_all m (chain_from s base k (number_at s (e + 4) 2)) → Judged s m p total true m'
       unfolding kept_by pick
       page-yes y l u m' z = record {
-        is = all_yes fitting chaining coding (fits-is l u) (sym chaining-is ∙ sym g.is ∙ not-false r x) (coding-is ∙ not-false t y);
+        is = all_yes fitting chaining coding (fits-is l u) (sym chaining-is ∙ sym g.is ∙ x) (coding-is ∙ y);
         marked = z ∙ ap (mark_all m) chain-is;
       }
 
-    pub chain-yes : not r ≡ false → chain_kept s base h.cells m k (number_at s (e + 4) 2) ≡ true
-    chain-yes x = sym g.is ∙ not-false r x
+    pub chain-yes : r ≡ true → chain_kept s base h.cells m k (number_at s (e + 4) 2) ≡ true
+    chain-yes x = sym g.is ∙ x

@@ -1,75 +1,53 @@
--- One turn of the loops over the bytes of a free cell and over the marks. Assumes nothing.
-use mathlib.Core.Path.{◌≡◌, refl, sym, ap, ap₂, ◌∙◌}
-use mathlib.Core.Bool.{Bool, true, false, ◌&&◌}
+-- Bytes that are all the same number: the clear bytes of a free cell, and the cells' marks. Assumes nothing.
+use mathlib.Core.Path.{◌≡◌, refl, sym, ap, ◌∙◌}
+use mathlib.Core.Bool.{Bool, true}
 use mathlib.Core.List.{List, [], ◌∷◌}
-use Prim.Native.Nat.{ℕ, zero, suc, ◌+◌, ◌*◌, ◌≤◌, ◌<◌}
+use Prim.Native.Nat.{ℕ, zero, suc, ◌+◌, ◌≤◌, ◌<◌}
 use native.Mathlib.Omega.{arith}
-use native.Mathlib.Decide.{ℕ_discrete}
-use lib.ListN.{length, get_or, replicate, length-replicate, replicate-append-replicate}
+use lib.ListN.{length, get_or, take, drop, replicate}
 use lib.Dec.{eqb}
 use borrow.Author.Tests.{eq-eqb, eqb-true}
+use Rattle.std.proofs.lemmas.List.{get_or-take}
+use Rattle.std.proofs.lemmas.Grind.{get_or_after_one}
+use Rattle.std.specs.Prelude.{◌↔◌, EachIndex, IsTrue}
 use Rattle.lists.specs.Lists.{part, same, tabulate}
-use Rattle.lists.proofs.Parts.{length_part, part-more}
-use Rattle.lists.proofs.Tests.{agree, both, left, right, same-join}
-use Rattle.bits.specs.Numbers.{number, number_at}
-use Rattle.store.proofs.SoundLaws.{ones-same, same-ones}
+use Rattle.lists.proofs.Parts.{length_part}
+use Rattle.lists.proofs.Tables.{tabulate-ext, tabulate-get_d}
+use Rattle.lists.proofs.Tests.{agree, both, left, right}
+use Rattle.sound_free.specs.Code.Free.{every_cell_marked}
 
--- ---- numbers that add up to 0
-plus-zero : (a b : ℕ) → eqb (a + b) 0 ≡ (eqb a 0 && eqb b 0)
-plus-zero a b =
-    agree (eqb (a + b) 0) (eqb a 0 && eqb b 0)
-    (λ e. both (eq-eqb a 0 (omega (arith, eqb-true (a + b) 0 e))) (eq-eqb b 0 (omega (arith, eqb-true (a + b) 0 e))))
-    (λ e. eq-eqb (a + b) 0 (omega (arith, eqb-true a 0 (left (eqb a 0) (eqb b 0) e), eqb-true b 0 (right (eqb a 0) (eqb b 0) e))))
+each-same : (xs : List ℕ) (v : ℕ) → ((k : ℕ) → k < length xs → get_or xs k 0 ≡ v) → same xs (replicate (length xs) v) ≡ true
+unfolding same
+each-same [] v h = refl
+each-same (x ∷ xs) v h = both (eq-eqb x v (h 0 (omega arith))) (each-same xs v (λ k l. h (suc k) (omega arith)))
 
-times_zero : (b : ℕ) → eqb (256 * b) 0 ≡ eqb b 0
-times_zero b =
-    agree (eqb (256 * b) 0) (eqb b 0) (λ e. eq-eqb b 0 (omega (arith, eqb-true (256 * b) 0 e)))
-    (λ e. eq-eqb (256 * b) 0 (omega (arith, eqb-true b 0 e)))
+same-each : (xs : List ℕ) (v : ℕ) → same xs (replicate (length xs) v) ≡ true → (k : ℕ) → k < length xs → get_or xs k 0 ≡ v
+unfolding same
+same-each [] v e k l = absurd (omega arith)
+same-each (x ∷ xs) v e zero l = eqb-true x v (left (eqb x v) (same xs (replicate (length xs) v)) e)
+same-each (x ∷ xs) v e (suc k) l = same-each xs v (right (eqb x v) (same xs (replicate (length xs) v)) e) k (omega arith)
 
--- the number in bytes is 0 just where they are
-zero_number : (xs : List ℕ) → eqb (number xs) 0 ≡ same xs (replicate (length xs) 0)
-unfolding number same
-zero_number [] = refl
-zero_number (x ∷ xs) = plus-zero x (256 * number xs) ∙ ap (λ (b : Bool). eqb x 0 && b) (times_zero (number xs) ∙ zero_number xs)
+pub all-same : (xs : List ℕ) (v n : ℕ) {r : Bool} → length xs ≡ n → (IsTrue r ↔ EachIndex xs (λ k. get_or xs k 0 ≡ v)) → r ≡ same xs (replicate n v)
+all-same xs v n {r} e h =
+    agree r (same xs (replicate n v)) (λ t. rw (← e) (each-same xs v (h.0 t))) (λ t. h.1 (same-each xs v (rw (← e) at t)))
 
-pub block-zero : (s : List ℕ) (a w t : ℕ) → a + w ≤ length s → t ≡ number_at s a w → eqb t 0 ≡ same (part s a w) (replicate w 0)
-block-zero s a w t l e =
-    ap (λ (z : ℕ). eqb z 0) e ∙ zero_number (part s a w) ∙ ap (λ (z : ℕ). same (part s a w) (replicate z 0)) (length_part s a w l)
+-- a cell's 30 bytes of code
+pub block-same : (s : List ℕ) (a : ℕ) {xs : List ℕ} {r : Bool} → (IsTrue r ↔ EachIndex xs (λ i. get_or xs i 0 ≡ 0)) → xs ≡ part s a 30
+    → a + 30 ≤ length s → r ≡ same (part s a 30) (replicate 30 0)
+block-same s a {xs} {r} h e l =
+    all-same xs 0 30 (ap length e ∙ length_part s a 30 l) h ∙ ap (λ (z : List ℕ). same z (replicate 30 0)) e
 
--- t is 0 just where i bytes from a on are; so it is with the next w, and the number in them
-pub block-next : (s : List ℕ) (a i w t n : ℕ) → a + (i + w) ≤ length s → n ≡ number_at s (a + i) w → eqb t 0 ≡ same (part s a i) (replicate i 0)
-    → eqb (t + n) 0 ≡ same (part s a (i + w)) (replicate (i + w) 0)
-block-next s a i w t n l e h =
-    plus-zero t n ∙ ap₂ ◌&&◌ h (block-zero s (a + i) w n (omega arith) e)
-    ∙ sym (ap₂ same (part-more s a i w) (sym (replicate-append-replicate i w 0))
-    ∙ same-join (part s a i) (part s (a + i) w) (replicate i 0) (replicate w 0)
-    (length_part s a i (omega arith) ∙ sym (length-replicate {A = ℕ} i 0)))
-
--- ---- the marks, one by one
-abbrev pub MarkedTo : List ℕ → ℕ → Type 0
-MarkedTo m c = (j : ℕ) → suc j < c → get_or m (suc j) 0 ≡ 1
-
-pub mark-next : (m : List ℕ) (c : ℕ) → MarkedTo m c → get_or m c 0 ≡ 1 → MarkedTo m (c + 1)
-mark-next m c h e j l = go (ℕ_discrete (suc j) c)
-  where
-    go : Dec (suc j ≡ c) → get_or m (suc j) 0 ≡ 1
-    go (yes q) = ap (λ (z : ℕ). get_or m z 0) q ∙ e
-    go (no q) = h j (omega arith)
-
-module _ (m : List ℕ) (C c : ℕ) where
-  abbrev f : ℕ → ℕ
-  f j = get_or m (suc j) 0
-
-  pub marks-whole : C < c → MarkedTo m c → true ≡ same (tabulate C f) (replicate C 1)
-  marks-whole l h = sym (ones-same C f (λ j q. h j (omega arith)))
-
-  pub mark-missing : 1 ≤ c → c ≤ C → (get_or m c 0 ≡ 1 → ⊥) → false ≡ same (tabulate C f) (replicate C 1)
-  mark-missing l u h = not_so (same (tabulate C f) (replicate C 1)) (λ e. h (at c l u e))
-    where
-      not_so : (b : Bool) → (b ≡ true → ⊥) → false ≡ b
-      not_so true q = absurd (q refl)
-      not_so false q = refl
-
-      at : (c : ℕ) → 1 ≤ c → c ≤ C → same (tabulate C f) (replicate C 1) ≡ true → get_or m c 0 ≡ 1
-      at zero l u e = absurd (omega arith)
-      at (suc d) l u e = same-ones C f e d u
+-- the marks of the cells 1 to C
+pub marks-same : (m : List ℕ) (C : ℕ) {k : ℕ} {r : Bool} → (IsTrue r ↔ EachIndex (take k (drop 1 m)) (λ i. get_or (take k (drop 1 m)) i 0 ≡ 1))
+    → k ≡ C → C < length m → r ≡ every_cell_marked C m
+unfolding every_cell_marked
+marks-same m C {k} {r} h e l =
+    let n : length (part m 1 C) ≡ C = length_part m 1 C (omega arith) in
+    let t : tabulate C (λ j. get_or (part m 1 C) j 0) ≡ part m 1 C =
+    ap (λ (z : ℕ). tabulate z (λ j. get_or (part m 1 C) j 0)) (sym n) ∙ tabulate-get_d (part m 1 C) 0 in
+    let f : tabulate C (λ j. get_or (part m 1 C) j 0) ≡ tabulate C (λ j. get_or m (suc j) 0) =
+    tabulate-ext C (λ j. get_or (part m 1 C) j 0) (λ j. get_or m (suc j) 0)
+    (λ j q. get_or-take C (drop 1 m) j 0 q ∙ get_or_after_one m j 0 ∙ ap (λ (z : ℕ). get_or m z 0) {x = 1 + j} {y = suc j} (omega arith)) in
+    all-same (take k (drop 1 m)) 1 C (rw e n) h
+    ∙ ap (λ (z : ℕ). same (part m 1 z) (replicate C 1)) e
+    ∙ ap (λ (z : List ℕ). same z (replicate C 1)) (sym t ∙ f)

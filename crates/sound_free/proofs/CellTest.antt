@@ -1,24 +1,21 @@
 -- The test of a cell that a link names: it is a cell, and has no mark. Assumes nothing.
 use mathlib.Core.Path.{◌≡◌, refl, sym, ap, ◌∙◌}
-use mathlib.Core.Bool.{Bool, true, false, not, ◌&&◌}
+use mathlib.Core.Bool.{Bool, true, false, ◌&&◌}
 use mathlib.Core.List.{List}
 use Prim.Native.Nat.{ℕ, ◌≤◌}
 use native.Mathlib.Omega.{arith}
 use lib.ListN.{get_or}
 use lib.Dec.{leb, eqb}
-use borrow.Author.Tests.{eq-eqb, leb-true, ne_eqb, not-false, not-true}
-use Rattle.lists.proofs.Tests.{left, right}
+use borrow.Author.Tests.{eq-eqb, le-leb, ne_eqb}
+use Rattle.lists.proofs.Tests.{both}
 
 abbrev pub cell_test : ℕ → List ℕ → ℕ → Bool
 cell_test C m c = leb 1 c && (leb c C && eqb (get_or m c 0) 0)
 
-module _ (C c : ℕ) {t : Bool} (e : t ≡ (leb 1 c && leb c C)) where
-  pub cell-range : not t ≡ false → (1 ≤ c) × (c ≤ C)
-  cell-range f = let q = sym e ∙ not-false t f in (leb-true 1 c (left (leb 1 c) (leb c C) q), leb-true c C (right (leb 1 c) (leb c C) q))
-
+module _ (C c : ℕ) (m : List ℕ) where
   -- a number that is no cell's
-  pub no_cell : (m : List ℕ) → not t ≡ true → cell_test C m c ≡ false
-  no_cell m f = go (leb 1 c) (leb c C) (sym e ∙ not-true t f)
+  pub no_cell : false ≡ (leb 1 c && leb c C) → cell_test C m c ≡ false
+  no_cell e = go (leb 1 c) (leb c C) (sym e)
     where
       go : (x y : Bool) → (x && y) ≡ false → (x && (y && eqb (get_or m c 0) 0)) ≡ false
       go true true q = absurd (let n : ◌≡◌ {A = ℕ} 0 1 = cc in omega arith)
@@ -26,19 +23,14 @@ module _ (C c : ℕ) {t : Bool} (e : t ≡ (leb 1 c && leb c C)) where
       go false y q = refl
 
   -- a cell that has no mark
-  pub good-cell : (m : List ℕ) → not t ≡ false → get_or m c 0 ≡ 0 → cell_test C m c ≡ true
-  good-cell m f h = ap (λ (z : Bool). leb 1 c && (leb c C && z)) (eq-eqb (get_or m c 0) 0 h) ∙ go (leb 1 c) (leb c C) (sym e ∙ not-false t f)
-    where
-      go : (x y : Bool) → (x && y) ≡ true → (x && (y && true)) ≡ true
-      go true true q = refl
-      go true false q = q
-      go false y q = q
+  pub good-cell : 1 ≤ c → c ≤ C → get_or m c 0 ≡ 0 → cell_test C m c ≡ true
+  good-cell l h e = both (le-leb 1 c l) (both (le-leb c C h) (eq-eqb (get_or m c 0) 0 e))
 
--- a cell that has one
-pub met-cell : (C : ℕ) (m : List ℕ) (c : ℕ) → (get_or m c 0 ≡ 0 → ⊥) → cell_test C m c ≡ false
-met-cell C m c h = ap (λ (z : Bool). leb 1 c && (leb c C && z)) (ne_eqb (get_or m c 0) 0 h) ∙ go (leb 1 c) (leb c C)
-  where
-    go : (x y : Bool) → (x && (y && false)) ≡ false
-    go true true = refl
-    go true false = refl
-    go false y = refl
+  -- a cell that has one
+  pub met-cell : (get_or m c 0 ≡ 0 → ⊥) → cell_test C m c ≡ false
+  met-cell h = ap (λ (z : Bool). leb 1 c && (leb c C && z)) (ne_eqb (get_or m c 0) 0 h) ∙ go (leb 1 c) (leb c C)
+    where
+      go : (x y : Bool) → (x && (y && false)) ≡ false
+      go true true = refl
+      go true false = refl
+      go false y = refl

@@ -1,11 +1,11 @@
 -- The free chain's walk, cell by cell: what is left to test where it stands. Assumes nothing.
 use mathlib.Core.Path.{◌≡◌, sym, ap, ap₂, ◌∙◌}
-use mathlib.Core.Bool.{Bool, true, false, not, ◌&&◌, and-false, and-true}
+use mathlib.Core.Bool.{Bool, true, false, ◌&&◌, and-false, and-true}
 use mathlib.Core.List.{List}
 use Prim.Native.Nat.{ℕ, suc, ◌+◌, ◌-◌, ◌*◌, ◌≤◌, ◌<◌}
 use native.Mathlib.Omega.{arith}
 use lib.ListN.{length, set, replicate, replicate-append-replicate}
-use borrow.Author.Tests.{eq-eqb, ne_eqb, not-false, not-true}
+use borrow.Author.Tests.{eq-eqb, ne_eqb}
 use Rattle.lists.specs.Lists.{part, same}
 use Rattle.lists.proofs.Parts.{length_part}
 use Rattle.lists.proofs.Tests.{same-join}
@@ -59,21 +59,21 @@ module _ {s : List ℕ} (base C f j : ℕ) (m : List ℕ) {a c : ℕ} (k : Numbe
         ∙ ap (λ (i : ℕ). same (part s (i + 2) 30) (replicate 30 0) && clears s base n (number_at s i 2)) (sym at)
         ∙ ap (λ (y : Bool). y && clears s base n (number_at s r 2)) (sym block)
 
-    pub free-set : not z ≡ true → false ≡ free_from s base C (f - j) m a
+    pub free-set : z ≡ false → false ≡ free_from s base C (f - j) m a
     unfolding free_from
     free-set e =
         let w : Bool = ends-well (walk_marks s base C (suc n) m a) (every_cell_marked C) in
         sym (ap (λ (i : ℕ). free_from s base C i m a) (one l)
-        ∙ ap (λ (y : Bool). w && y) (clear-is ∙ ap (λ (y : Bool). y && clears s base n (number_at s r 2)) (not-true z e)) ∙ and-false w)
+        ∙ ap (λ (y : Bool). w && y) (clear-is ∙ ap (λ (y : Bool). y && clears s base n (number_at s r 2)) e) ∙ and-false w)
 
     -- the cell is good: the rest decides
-    pub free-next : not z ≡ false → cell_test C m c ≡ true → free_from s base C (f - j) m a ≡ free_from s base C n (set m c 1) r
+    pub free-next : z ≡ true → cell_test C m c ≡ true → free_from s base C (f - j) m a ≡ free_from s base C n (set m c 1) r
     unfolding free_from walk_marks go_on
     free-next e t =
         let go : ends-well (walk_marks s base C (suc n) m a) (every_cell_marked C) ≡ ends-well (walk_marks s base C n (set m c 1) r) (every_cell_marked C) =
         rw (sym k.is, at) (rw t) in
         ap (λ (i : ℕ). free_from s base C i m a) (one l)
-        ∙ ap₂ ◌&&◌ go (clear-is ∙ ap (λ (y : Bool). y && clears s base n (number_at s r 2)) (not-false z e))
+        ∙ ap₂ ◌&&◌ go (clear-is ∙ ap (λ (y : Bool). y && clears s base n (number_at s r 2)) e)
 
   -- the chain does not end
   pub free_open : f ≤ j → (c ≡ 0 → ⊥) → false ≡ free_from s base C (f - j) m a

@@ -6,7 +6,7 @@ ghost use Rattle.lists.specs.Lists.{every};
 ghost use Rattle.store.specs.Shape.{shape_tests};
 ghost use Rattle.store.specs.Code.Checked.{head_tests};
 
-use bits::numbers::get2;
+use bits::numbers::get;
 use store::header::Header;
 use store::limits::fits;
 use store::total::page_sums;
@@ -19,10 +19,10 @@ pub fn shape_fits(s: &[u8]) -> bool
     if s.len() < Header::SIZE {
         return false;
     }
-    if get2(s, 0) != 1 {
+    if get::<2>(s, 0) != 1 {
         return false;
     }
-    if get2(s, 10) != 0 {
+    if get::<2>(s, 10) != 0 {
         return false;
     }
     let h = Header::of(s);

@@ -1,13 +1,13 @@
 -- The test of a page's gathered code says that its cells hold the page's bytes. Assumes nothing.
 use mathlib.Core.Path.{◌≡◌, sym, ap, ap₂, ◌∙◌}
-use mathlib.Core.Bool.{Bool, true, false, not, ◌&&◌}
+use mathlib.Core.Bool.{Bool, true, false, ◌&&◌}
 use mathlib.Core.List.{List, [], ◌∷◌, ◌++◌}
 use Prim.Native.Nat.{ℕ, ◌+◌, ◌-◌, ◌*◌, ◌≤◌, ◌<◌}
 use native.Mathlib.Omega.{arith}
 use lib.ListN.{length, get_or, take, replicate}
 use lib.Seq.{take_at, drop_at, length-take-le, take-add, take-take}
 use lib.Dec.{eqb}
-use borrow.Author.Tests.{eq-eqb, eqb-true, not-false, not-true}
+use borrow.Author.Tests.{eq-eqb, eqb-true}
 use Rattle.lists.specs.Lists.{fill, part, same, sum}
 use Rattle.lists.proofs.Parts.{part-sub}
 use Rattle.lists.proofs.Sums.{sum-take-le}
@@ -191,8 +191,8 @@ module _ {code : List ℕ} {s p N : ℕ} (g : HandedPage code s p N) where
           let t : sum (take (N - 64 * p) xs) ≡ sum xs = omega (arith, sum-take-le (N - 64 * p) xs, (found i).total) in
           sym (fits-test ∙ ap₂ ◌&&◌ i (ap₂ ◌&&◌ (sym (clear_none B R (240 * k - R) none)) (quiet_sum xs N p xs-long ∙ eq-eqb _ _ t)))
 
-      pub fits-no-tree : {b : Bool} → b ≡ exact 6 s (bits code) 0 → not b ≡ true → false ≡ page_code_fits own s p N
-      fits-no-tree {b} e f = sym (fits-test ∙ ap (λ (z : Bool). z && (clear B R (240 * k - R) && same xs (quiet N p xs))) (sym e ∙ not-true b f))
+      pub fits-no-tree : false ≡ exact 6 s (bits code) 0 → false ≡ page_code_fits own s p N
+      fits-no-tree e = sym (fits-test ∙ ap (λ (z : Bool). z && (clear B R (240 * k - R) && same xs (quiet N p xs))) (sym e))
 
       module _ {b : Bool} {used : ℕ} (i : exact 6 s (bits code) 0 ≡ true) (u : used ≡ reserve 6 s)
           (e : b ≡ clear (bits code) used (240 * k - used)) where
@@ -201,8 +201,8 @@ module _ {code : List ℕ} {s p N : ℕ} (g : HandedPage code s p N) where
             fits-test
             ∙ ap₂ (λ (y z : Bool). y && (z && same xs (quiet N p xs))) i (sym (e ∙ ap (λ (n : ℕ). clear B n (240 * k - n)) u))
 
-        pub fits-no-rest : not b ≡ true → false ≡ page_code_fits own s p N
-        fits-no-rest f = sym (last ∙ ap (λ (z : Bool). z && same xs (quiet N p xs)) (not-true b f))
+        pub fits-no-rest : b ≡ false → false ≡ page_code_fits own s p N
+        fits-no-rest f = sym (last ∙ ap (λ (z : Bool). z && same xs (quiet N p xs)) f)
 
-        pub fits-hours : not b ≡ false → {r : Bool} → r ≡ same xs (quiet N p xs) → r ≡ page_code_fits own s p N
-        fits-hours f q = q ∙ sym (last ∙ ap (λ (z : Bool). z && same xs (quiet N p xs)) (not-false b f))
+        pub fits-hours : b ≡ true → {r : Bool} → r ≡ same xs (quiet N p xs) → r ≡ page_code_fits own s p N
+        fits-hours f q = q ∙ sym (last ∙ ap (λ (z : Bool). z && same xs (quiet N p xs)) f)

@@ -4,13 +4,13 @@
 ghost use Rattle.std.specs.Prelude.{true, ◌≡◌, ◌*◌, take};
 ghost use Rattle.lists.specs.Lists.{same};
 ghost use Rattle.bits.specs.Bits.{bits};
-ghost use Rattle.reserve_table.specs.Code.Tabled.{Tabled};
 ghost use Rattle.tree.specs.Read.{counts};
 ghost use Rattle.tree.specs.Code.Exact.{exact};
 ghost use Rattle.store.specs.PageCode.{cells};
 ghost use Rattle.store.specs.Code.Checked.{quiet};
 ghost use Rattle.sound_page.specs.Code.Page.{HandedPage, page_code_fits};
 
+use reserve_table::ReserveTable;
 use store::header::Header;
 
 // Whether the hours from the number of hours logged on are zero in page p of sum s: those before them have the whole sum.
@@ -29,8 +29,15 @@ fn hours_fit(code: &[u8], s: u64, p: usize, hours: usize) -> bool
 }
 
 // Whether the bytes of k cells at the front of code are those of page p of sum s, by the table of small reserves that is lent.
-pub fn page_fits(code: &[u8], table: &[u8; 512], k: usize, s: u64, p: usize, hours: usize) -> bool
-    requires { HandedPage code.now s p hours × (k ≡ cells s) × Tabled table.now }
+pub fn page_fits(
+    code: &[u8],
+    table: &ReserveTable,
+    k: usize,
+    s: u64,
+    p: usize,
+    hours: usize,
+) -> bool
+    requires { HandedPage code.now s p hours × (k ≡ cells s) }
     ensures { result ≡ page_code_fits (take (30 * k) code.now) s p hours }
 {
     if s == 0 {

@@ -1,4 +1,5 @@
 -- The check says `sound`. Assumes nothing.
+use Rattle.std.specs.Prelude.{None, Some}
 use mathlib.Core.Path.{◌≡◌, refl, sym, ap, ◌∙◌}
 use mathlib.Core.Bool.{Bool, true, false, ◌&&◌}
 use mathlib.Core.List.{List, [], ◌∷◌}
@@ -10,7 +11,7 @@ use Rattle.bits.specs.Numbers.{number_at}
 use Rattle.store.specs.Reading.{cells_of, chain_from, code_in, hours_in, page_count_of}
 use Rattle.store.specs.Sound.{sound}
 use Rattle.store.specs.Limits.{max_cells}
-use Rattle.store.specs.Code.Checked.{Walk, and_then, broken, check_pages, ends-well, head_tests, marks_length, walk_marks, whole}
+use Rattle.store.specs.Code.Checked.{Walk, and_then, check_pages, ends-well, head_tests, marks_length, walk_marks}
 use Rattle.store.proofs.Verdict.{chains_walk, checked, end_tests, verdict}
 use Rattle.sound_free.specs.Code.Free.{every_cell_marked, free_chain_fits, free_from}
 use Rattle.soundness.specs.Code.Chains.{all_chains_fit}
@@ -40,18 +41,18 @@ module _ (s : List ℕ) (lC : cells_of s ≤ max_cells) where
   pages = check_pages s (page_count_of s) (cells_of s) (hours_in s) (page_count_of s) 0 (replicate marks_length 0)
 
   -- the tests at the end: that the chains have all cells needs none of its own
-  free-is : (m : List ℕ) (w : Walk) → pages ≡ whole m → walk_marks s (cells_start P) C F m 6 ≡ w
+  free-is : (m : List ℕ) (w : Walk) → pages ≡ Some m → walk_marks s (cells_start P) C F m 6 ≡ w
       → ends-well w (λ m'. every (end_tests s m'))
       ≡ (ends-well w (every_cell_marked C) && same (code_in s (cells_start P) (chain_from s (cells_start P) F (number_at s 6 2))) (replicate (30 * F) 0))
   unfolding ends-well end_tests every_cell_marked
-  free-is m broken h q = refl
-  free-is m (whole m') h q = three (every_cell_marked C m') _ _ (λ e. eq-eqb _ _ (number-all s P C (hours_in s) F m m' lC h q e))
+  free-is m None h q = refl
+  free-is m (Some m') h q = three (every_cell_marked C m') _ _ (λ e. eq-eqb _ _ (number-all s P C (hours_in s) F m m' lC h q e))
 
   chains-is : (w : Walk) → pages ≡ w
       → ends-well (and_then w (λ m. walk_marks s (cells_start P) C F m 6)) (λ m. every (end_tests s m)) ≡ ends-well w (free_chain_fits s (cells_start P) C)
   unfolding ends-well and_then free_chain_fits free_from
-  chains-is broken h = refl
-  chains-is (whole m) h = free-is m (walk_marks s (cells_start P) C F m 6) h refl
+  chains-is None h = refl
+  chains-is (Some m) h = free-is m (walk_marks s (cells_start P) C F m 6) h refl
 
 -- the check's two parts
 pub check-is : (s : List ℕ) → ((i : ℕ) → get_or s i 0 < 256) → (every (head_tests s) && all_chains_fit s) ≡ sound s

@@ -1,5 +1,6 @@
 -- How many cells are marked: a walk marks as many as it passes, so that where every cell has its mark, the chains have all cells.
 -- Assumes nothing.
+use Rattle.std.specs.Prelude.{Some}
 use mathlib.Core.Path.{◌≡◌, refl, sym, ap, ◌∙◌}
 use mathlib.Core.Bool.{true, ◌&&◌}
 use mathlib.Core.List.{List}
@@ -19,7 +20,7 @@ use Rattle.store.specs.Layout.{cell_at, cells_start, entry_at}
 use Rattle.store.specs.PageCode.{cells}
 use Rattle.store.specs.Reading.{sum_in}
 use Rattle.store.specs.Limits.{max_cells}
-use Rattle.store.specs.Code.Checked.{Walk, check_pages, go_on, marks_length, page_tests, walk_marks, whole}
+use Rattle.store.specs.Code.Checked.{Walk, check_pages, go_on, marks_length, page_tests, walk_marks}
 use Rattle.store.proofs.CheckChain.{goes_on, goes_then, whole_is}
 use Rattle.sound_free.specs.Code.Free.{every_cell_marked}
 use Rattle.sound_free.proofs.CellTest.{cell_test}
@@ -43,10 +44,10 @@ abbrev More : ℕ → List ℕ → List ℕ → ℕ → Type 0
 More C m m' k = (marked C m' ≡ marked C m + k) × (length m' ≡ length m)
 
 module _ (s : List ℕ) (P C N : ℕ) where
-  walk-marks : (k : ℕ) (m m' : List ℕ) (a : ℕ) → C < length m → walk_marks s (cells_start P) C k m a ≡ whole m' → More C m m' k
+  walk-marks : (k : ℕ) (m m' : List ℕ) (a : ℕ) → C < length m → walk_marks s (cells_start P) C k m a ≡ Some m' → More C m m' k
   unfolding walk_marks
   walk-marks zero m m' a l h =
-      let e : m ≡ m' = whole_is m m' (goes_on (eqb (number_at s a 2) 0) (whole m) m' h).1 in
+      let e : m ≡ m' = whole_is m m' (goes_on (eqb (number_at s a 2) 0) (Some m) m' h).1 in
       (ap (marked C) (sym e) ∙ omega arith, ap length (sym e))
   walk-marks (suc k) m m' a l h =
       let c : ℕ = number_at s a 2 in
@@ -58,7 +59,7 @@ module _ (s : List ℕ) (P C N : ℕ) where
       let v = walk-marks k (set m c 1) m' (cell_at (cells_start P) c) (omega (arith, length-set m c 1)) w.1 in
       (omega (arith, v.0, mark-one C m c low high l none), v.1 ∙ length-set m c 1)
 
-  pages-marks : (n p : ℕ) (m m' : List ℕ) → C < length m → check_pages s P C N n p m ≡ whole m'
+  pages-marks : (n p : ℕ) (m m' : List ℕ) → C < length m → check_pages s P C N n p m ≡ Some m'
       → More C m m' (sum (tabulate n (λ j. cells (sum_in s (p + j)))))
   unfolding check_pages tabulate sum
   pages-marks zero p m m' l h = let e : m ≡ m' = whole_is m m' h in (ap (marked C) (sym e) ∙ omega arith, ap length (sym e))
@@ -81,8 +82,8 @@ sum_ones zero = refl
 sum_ones (suc n) = omega (arith, sum_ones n)
 
 -- where every cell is marked, the pages and the free chain, of f cells, have as many cells as there are
-pub number-all : (s : List ℕ) (P C N f : ℕ) (m m' : List ℕ) → C ≤ max_cells → check_pages s P C N P 0 (replicate marks_length 0) ≡ whole m
-    → walk_marks s (cells_start P) C f m 6 ≡ whole m' → every_cell_marked C m' ≡ true → sum (tabulate P (λ p. cells (sum_in s p))) + f ≡ C
+pub number-all : (s : List ℕ) (P C N f : ℕ) (m m' : List ℕ) → C ≤ max_cells → check_pages s P C N P 0 (replicate marks_length 0) ≡ Some m
+    → walk_marks s (cells_start P) C f m 6 ≡ Some m' → every_cell_marked C m' ≡ true → sum (tabulate P (λ p. cells (sum_in s p))) + f ≡ C
 unfolding every_cell_marked
 number-all s P C N f m m' l h w e =
     let z : C < length (replicate {A = ℕ} marks_length 0) = omega (arith, length-replicate {A = ℕ} marks_length 0) in

@@ -6,6 +6,8 @@ mod walk;
 ghost use Rattle.std.specs.Prelude.{◌≡◌};
 ghost use Rattle.store.specs.Sound.{sound};
 
+use reserve_table::ReserveTable;
+
 // Whether the bytes are a sound store. It ends on every content, and looks at no cell twice.
 pub fn check(s: &[u8]) -> bool
     ensures { result ≡ sound s.now }
@@ -13,6 +15,5 @@ pub fn check(s: &[u8]) -> bool
     if !sound_head::head_fits(s) {
         return false;
     }
-    let table = reserve_table::table();
-    walk::chains_fit(s, &table)
+    walk::chains_fit(s, &ReserveTable::new())
 }

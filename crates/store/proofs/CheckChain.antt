@@ -1,4 +1,5 @@
 -- The check's walk along a chain, with marks: it goes through exactly for a chain whose cells are cells, unmarked and met once. Assumes nothing.
+use Rattle.std.specs.Prelude.{None, Some}
 use mathlib.Core.Path.{◌≡◌, refl, sym, ap, ap₂, ◌∙◌}
 use mathlib.Core.Bool.{Bool, true, false, ◌&&◌}
 use mathlib.Core.List.{List, [], ◌∷◌, ◌++◌}
@@ -17,15 +18,15 @@ use Rattle.store.specs.Layout.{cell_at}
 use Rattle.store.specs.Reading.{chain_from}
 use Rattle.lists.proofs.Occurrences.{occurrences-append, one-equal, one-other, one_same}
 use Rattle.lists.proofs.Tests.{left, right, both}
-use Rattle.store.specs.Code.Checked.{Walk, and_then, broken, go_on, walk_marks, whole}
+use Rattle.store.specs.Code.Checked.{Walk, and_then, go_on, walk_marks}
 use Rattle.store.proofs.Joining.{chain_head, chain-new, chain-tail}
 use Rattle.store.proofs.Numbers.{number-two}
 use Rattle.store.proofs.Writes.{Chain, Linked}
 
-pub goes_then : (w : Walk) (f : List ℕ → Walk) (m : List ℕ) → and_then w f ≡ whole m → (m₁ : List ℕ) × (w ≡ whole m₁) × (f m₁ ≡ whole m)
+pub goes_then : (w : Walk) (f : List ℕ → Walk) (m : List ℕ) → and_then w f ≡ Some m → (m₁ : List ℕ) × (w ≡ Some m₁) × (f m₁ ≡ Some m)
 unfolding and_then
-goes_then (whole m₁) f m e = (m₁, refl, e)
-goes_then broken f m e = absurd (let z : ◌≡◌ {A = ℕ} 0 1 = cc in omega arith)
+goes_then (Some m₁) f m e = (m₁, refl, e)
+goes_then None f m e = absurd (let z : ◌≡◌ {A = ℕ} 0 1 = cc in omega arith)
 
 unfoldable pub mark_all : List ℕ → List ℕ → List ℕ
 mark_all m [] = m
@@ -34,12 +35,12 @@ mark_all m (c ∷ cs) = mark_all (set m c 1) cs
 abbrev pub Unmarked : List ℕ → List ℕ → Type 0
 Unmarked m cs = (d : ℕ) → 1 ≤ occurrences d cs → get_or m d 0 ≡ 0
 
-pub goes_on : (b : Bool) (w : Walk) (m : List ℕ) → go_on b w ≡ whole m → (b ≡ true) × (w ≡ whole m)
+pub goes_on : (b : Bool) (w : Walk) (m : List ℕ) → go_on b w ≡ Some m → (b ≡ true) × (w ≡ Some m)
 unfolding go_on
 goes_on true w m e = (refl, e)
 goes_on false w m e = absurd (let z : ◌≡◌ {A = ℕ} 0 1 = cc in omega arith)
 
-pub whole_is : (m m' : List ℕ) → whole m ≡ whole m' → m ≡ m'
+pub whole_is : (m m' : List ℕ) → Some m ≡ Some m' → m ≡ m'
 whole_is m m' e = cc
 
 pub record Walked (s : List ℕ) (base C : ℕ) (cs m m' : List ℕ) (k a : ℕ) : Type 0 where
@@ -51,7 +52,7 @@ pub record Walked (s : List ℕ) (base C : ℕ) (cs m m' : List ℕ) (k a : ℕ)
 
 -- ---- a good chain is walked to its end
 module _ (s : List ℕ) (base C : ℕ) (lC : C ≤ max_cells) where
-  pub walk_through : (cs m : List ℕ) (a : ℕ) → Chain C cs → Linked s base a cs 0 → Unmarked m cs → walk_marks s base C (length cs) m a ≡ whole (mark_all m cs)
+  pub walk_through : (cs m : List ℕ) (a : ℕ) → Chain C cs → Linked s base a cs 0 → Unmarked m cs → walk_marks s base C (length cs) m a ≡ Some (mark_all m cs)
   unfolding walk_marks mark_all go_on occurrences
   walk_through [] m a j h u = rw (eq-eqb (number_at s a 2) 0 (ap number h ∙ number-two 0 (omega arith)))
   walk_through (c ∷ cs) m a j h u =
@@ -94,11 +95,11 @@ module _ (s : List ℕ) (base C : ℕ) (lC : C ≤ max_cells) where
     still c m cs z u d q (yes e) = ap (λ (y : ℕ). get_or m y 0) e ∙ z
     still c m cs z u d q (no e) = sym (get_or-set_other m c d 1 0 e) ∙ u d (omega (arith, one-other d c e))
 
-    pub walked : (k : ℕ) (m m' : List ℕ) (a : ℕ) → C < length m → a + 2 ≤ length s → walk_marks s base C k m a ≡ whole m'
+    pub walked : (k : ℕ) (m m' : List ℕ) (a : ℕ) → C < length m → a + 2 ≤ length s → walk_marks s base C k m a ≡ Some m'
         → Walked s base C (chain_from s base k (number_at s a 2)) m m' k a
     unfolding walk_marks chain_from mark_all occurrences
     walked zero m m' a lm l h =
-        let w = goes_on (eqb (number_at s a 2) 0) (whole m) m' h in
+        let w = goes_on (eqb (number_at s a 2) 0) (Some m) m' h in
         record {
           long = refl;
           chain = record { once = λ d. omega arith; from = λ d q. absurd (omega arith); upto = λ d q. absurd (omega arith) };

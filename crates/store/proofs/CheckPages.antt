@@ -1,4 +1,5 @@
 -- What the check computes, and that it says `sound`. Assumes nothing.
+use Rattle.std.specs.Prelude.{Some}
 use mathlib.Core.Path.{◌≡◌, refl, sym, ap, ap₂, ◌∙◌}
 use mathlib.Core.Bool.{Bool, true}
 use mathlib.Core.List.{List, ◌++◌, append_assoc, append-nil}
@@ -14,7 +15,7 @@ use Rattle.store.specs.Reading.{chain_in, sum_in}
 use Rattle.lists.proofs.Occurrences.{occurrences-append}
 use Rattle.lists.proofs.Tables.{tabulate-ext}
 use Rattle.lists.proofs.Tests.{Each, each, every_of}
-use Rattle.store.specs.Code.Checked.{Walk, and_then, check_pages, go_on, page_tests, walk_marks, whole}
+use Rattle.store.specs.Code.Checked.{Walk, and_then, check_pages, go_on, page_tests, walk_marks}
 use Rattle.store.proofs.CheckChain.{Marked, Unmarked, goes_on, goes_then}
 use Rattle.store.proofs.CheckChain.{mark-length, mark_all, marks, walk_through, walked, whole_is}
 use Rattle.store.proofs.Writes.{Chain, Linked}
@@ -22,7 +23,7 @@ use Rattle.store.proofs.Writes.{Chain, Linked}
 pub none_of : (d : ℕ) (L cs r : List ℕ) → occurrences d (L ++ cs ++ r) ≤ 1 → 1 ≤ occurrences d cs → occurrences d L ≡ 0
 none_of d L cs r h q = omega (arith, occurrences-append d (L ++ cs) r, occurrences-append d L cs)
 
-pub then-whole : (m : List ℕ) (f : List ℕ → Walk) → and_then (whole m) f ≡ f m
+pub then-whole : (m : List ℕ) (f : List ℕ → Walk) → and_then (Some m) f ≡ f m
 unfolding and_then
 then-whole m f = refl
 
@@ -47,7 +48,7 @@ pub record PagesGood (s : List ℕ) (P C N n p : ℕ) (m m' L : List ℕ) : Type
 
 module _ (s : List ℕ) (P C N : ℕ) (lC : C ≤ max_cells) (lP : P ≤ max_pages) (bytes : (i : ℕ) → get_or s i 0 < 256) (size : size P C ≤ length s) where
   page-step : (p : ℕ) (m m₁ : List ℕ) (L : List ℕ) → p < P → C < length m → Marked C m L
-      → walk_marks s (cells_start P) C (cells (sum_in s p)) m (entry_at p + 4) ≡ whole m₁ → every (page_tests s P N p) ≡ true
+      → walk_marks s (cells_start P) C (cells (sum_in s p)) m (entry_at p + 4) ≡ Some m₁ → every (page_tests s P N p) ≡ true
       → PageGood s P C N p × Marked C m₁ (L ++ chain_in s P p) × (length m₁ ≡ length m)
   unfolding chain_in
   page-step p m m₁ L lp lm k w t =
@@ -61,7 +62,7 @@ module _ (s : List ℕ) (P C N : ℕ) (lC : C ≤ max_cells) (lP : P ≤ max_pag
   each_of n p g h zero q = let e : p + 0 ≡ p = omega arith in rw e g
   each_of n p g h (suc j) q = let e : p + suc j ≡ suc p + j = omega arith in rw e (h j (le_of_suc-le-suc q))
 
-  pub pages-good : (n p : ℕ) (m m' L : List ℕ) → p + n ≤ P → C < length m → Marked C m L → check_pages s P C N n p m ≡ whole m'
+  pub pages-good : (n p : ℕ) (m m' L : List ℕ) → p + n ≤ P → C < length m → Marked C m L → check_pages s P C N n p m ≡ Some m'
       → PagesGood s P C N n p m m' L
   unfolding check_pages tabulate concat
   pages-good zero p m m' L l lm k h = record {
@@ -90,7 +91,7 @@ module _ (s : List ℕ) (P C N : ℕ) (lC : C ≤ max_cells) (lP : P ≤ max_pag
   -- and the other way: good pages that no cell is on twice are walked to their end
   pub pages-through : (n p : ℕ) (m L : List ℕ) → C < length m → Marked C m L → ((j : ℕ) → j < n → PageGood s P C N (p + j))
       → ((d : ℕ) → occurrences d (L ++ concat (chains_from s P p n)) ≤ 1)
-      → (m' : List ℕ) × (check_pages s P C N n p m ≡ whole m') × (length m' ≡ length m) × Marked C m' (L ++ concat (chains_from s P p n))
+      → (m' : List ℕ) × (check_pages s P C N n p m ≡ Some m') × (length m' ≡ length m) × Marked C m' (L ++ concat (chains_from s P p n))
   unfolding check_pages tabulate concat
   pages-through zero p m L lm k h o = (m, refl, refl, rw append-nil k)
   pages-through (suc n) p m L lm k h o =
@@ -105,7 +106,7 @@ module _ (s : List ℕ) (P C N : ℕ) (lC : C ≤ max_cells) (lP : P ≤ max_pag
       ∙ sym (append_assoc L cs (concat (chains_from s P (suc p) n))) in
       let u : Unmarked m cs = λ d q. k d (g.chain.upto d q) ∙ none_of d L cs (concat (chains_from s P (suc p) n)) (rw (← eL) (o d)) q in
       let m₁ : List ℕ = mark_all m cs in
-      let w : walk_marks s (cells_start P) C (cells (sum_in s p)) m (entry_at p + 4) ≡ whole m₁ =
+      let w : walk_marks s (cells_start P) C (cells (sum_in s p)) m (entry_at p + 4) ≡ Some m₁ =
       ap (λ (z : ℕ). walk_marks s (cells_start P) C z m (entry_at p + 4)) (sym g.long) ∙ walk_through s (cells_start P) C lC cs m (entry_at p + 4) g.chain g.linked u in
       let lm₁ : length m₁ ≡ length m = mark-length cs m in
       let r = pages-through n (suc p) m₁ (L ++ cs) (omega arith) (marks C cs m L lm g.chain u k)

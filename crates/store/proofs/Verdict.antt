@@ -1,4 +1,5 @@
 -- The check says `sound`. Assumes nothing.
+use Rattle.std.specs.Prelude.{None, Some}
 use mathlib.Core.Path.{◌≡◌, refl, sym, ap, ap₂, subst, ◌∙◌}
 use mathlib.Core.Bool.{Bool, true, ◌&&◌}
 use mathlib.Core.List.{List, [], ◌∷◌, ◌++◌}
@@ -24,7 +25,7 @@ use Rattle.lists.proofs.Sums.{sum-concat, sum-take-le}
 use Rattle.lists.proofs.Tables.{get_d_tabulate, length-tabulate, tabulate-ext}
 use Rattle.lists.proofs.Tests.{left, right, Each, agree, both, each, every_of, same-eq, same-is}
 use Rattle.lists.proofs.Zeros.{zeros-at}
-use Rattle.store.specs.Code.Checked.{Walk, and_then, broken, check_pages, ends-well, head_tests, marks_length, page_tests, quiet, walk_marks, whole}
+use Rattle.store.specs.Code.Checked.{Walk, and_then, check_pages, ends-well, head_tests, marks_length, page_tests, quiet, walk_marks}
 use Rattle.store.proofs.CheckChain.{Marked, Unmarked, goes_then}
 use Rattle.store.proofs.CheckChain.{mark_all, marks, walk_through, walked}
 use Rattle.store.proofs.CheckPages.{PageGood, chains_from, pages-good, pages-through, then-whole}
@@ -39,12 +40,12 @@ use Rattle.store.proofs.SoundLaws.{once-of, ones-same, same-ones, sound-bytes, s
 use Rattle.store.proofs.Spread.{Spread, part-two, spread-holds, spread-of}
 use Rattle.store.proofs.Writes.{Chain, Linked}
 
-ends-whole : (w : Walk) (f : List ℕ → Bool) → ends-well w f ≡ true → (m : List ℕ) × (w ≡ whole m) × (f m ≡ true)
+ends-whole : (w : Walk) (f : List ℕ → Bool) → ends-well w f ≡ true → (m : List ℕ) × (w ≡ Some m) × (f m ≡ true)
 unfolding ends-well
-ends-whole (whole m) f e = (m, refl, e)
-ends-whole broken f e = absurd (let z : ◌≡◌ {A = ℕ} 0 1 = cc in omega arith)
+ends-whole (Some m) f e = (m, refl, e)
+ends-whole None f e = absurd (let z : ◌≡◌ {A = ℕ} 0 1 = cc in omega arith)
 
-well : (m : List ℕ) (f : List ℕ → Bool) → ends-well (whole m) f ≡ f m
+well : (m : List ℕ) (f : List ℕ → Bool) → ends-well (Some m) f ≡ f m
 unfolding ends-well
 well m f = refl
 
@@ -349,7 +350,7 @@ module _ (s : List ℕ) (bytes : (i : ℕ) → get_or s i 0 < 256) where
     unfolding read_for spare_in
     pages-small = g.limits.pages-high
 
-    through : (m' : List ℕ) × (check_pages s P C N P 0 Z ≡ whole m') × (length m' ≡ length Z) × Marked C m' (concat (chains_from s P 0 P))
+    through : (m' : List ℕ) × (check_pages s P C N P 0 Z ≡ Some m') × (length m' ≡ length Z) × Marked C m' (concat (chains_from s P 0 P))
     through =
         pages-through s P C N cells-small pages-small bytes size_fits P 0 Z []
         (omega (arith, cells-small, length-replicate {A = ℕ} marks_length 0)) (zeros-marked C)
@@ -369,7 +370,7 @@ module _ (s : List ℕ) (bytes : (i : ℕ) → get_or s i 0 < 256) where
     last-marks : List ℕ
     last-marks = mark_all through.0 F
 
-    walk_is : chains_walk s ≡ whole last-marks
+    walk_is : chains_walk s ≡ Some last-marks
     unfolding chains_walk last-marks
     walk_is =
         ap (λ (z : Walk). and_then z (λ m. walk_marks s (cells_start P) C (number_at s 8 2) m 6)) through.1

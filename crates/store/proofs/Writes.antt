@@ -5,7 +5,8 @@ use Prim.Native.Nat.{ℕ, suc, ◌+◌, ◌-◌, ◌≤◌, ◌<◌}
 use native.Mathlib.Omega.{arith}
 use native.Mathlib.Decide.{dec_le, ℕ_discrete}
 use lib.ListN.{length, take, drop, set, length-take}
-use lib.Seq.{take-set-le, drop-set-lt, drop-set-add, sets, sets-eq, length-sets, take_at, drop_at}
+use lib.Seq.{take-set-le, drop-set-lt, drop-set-add, drop-drop, sets, sets-eq, length-sets, take_at, drop_at}
+use borrow.Rule.Slice.PartMut.{put_mid}
 use Rattle.lists.specs.Lists.{occurrences, part, splice}
 use Rattle.bits.specs.Numbers.{little}
 use Rattle.store.specs.Layout.{cell_at}
@@ -16,6 +17,11 @@ use Rattle.bits.proofs.Little.{length-little}
 pub put-length : (s : List ℕ) (a w v : ℕ) → length (put s a w v) ≡ length s
 unfolding put
 put-length s a w v = length-sets s a (little w v)
+
+-- k bytes from a on, written over as a slice
+pub mid-sets : (s v : List ℕ) (a k : ℕ) {w : List ℕ} → w ≡ v → k ≡ length v → a + k ≤ length s → put_mid a k s w ≡ sets s a v
+mid-sets s v a k e n h =
+    rw (e, n, drop-drop (length v) a s) (sym (sets-eq v s a (omega arith) ∙ append_assoc (take a s) v (drop (a + length v) s)))
 
 -- the n bytes from b on lie apart from the m bytes from a on
 abbrev pub Apart : ℕ → ℕ → ℕ → ℕ → Type 0

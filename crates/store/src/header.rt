@@ -58,11 +58,11 @@ impl Header {
         ensures { HeadOf s.now result }
     {
         Self {
-            pages: bits::numbers::get2(s, 2) as usize,
-            cells: bits::numbers::get2(s, 4) as usize,
-            first_free: bits::numbers::get2(s, 6) as usize,
-            free: bits::numbers::get2(s, 8) as usize,
-            hours: bits::numbers::get4(s, 12) as usize,
+            pages: bits::numbers::get::<2>(s, 2) as usize,
+            cells: bits::numbers::get::<2>(s, 4) as usize,
+            first_free: bits::numbers::get::<2>(s, 6) as usize,
+            free: bits::numbers::get::<2>(s, 8) as usize,
+            hours: bits::numbers::get::<4>(s, 12) as usize,
         }
     }
 }

@@ -1,17 +1,15 @@
 // The limits of a store.
-ghost use Rattle.std.specs.Prelude.{◌&&◌, ◌≡◌, leb};
+ghost use Rattle.std.specs.Prelude.{◌&&◌, ◌≡◌, ◌≤◌, ◌↔◌, IsTrue, leb};
 ghost use Rattle.store.specs.Fitting.{fits as fitting};
 
 use crate::header::{Header, cells_from};
 
 // Whether n is one of the numbers 1 to most.
 pub fn one_to(n: usize, most: usize) -> bool
-    ensures { result ≡ (leb 1 n && leb n most) }
+    ensures value { result ≡ (leb 1 n && leb n most) }
+    ensures within { IsTrue result ↔ (1 ≤ n) × (n ≤ most) }
 {
-    if n == 0 {
-        return false;
-    }
-    n <= most
+    (1..=most).contains(&n)
 }
 
 // Whether so many pages and cells are within the limits, and the bytes have their length.

@@ -7,5 +7,5 @@ pub fn link(s: &[u8], at: usize) -> usize
     requires { at + 2 ≤ length s.now }
     ensures { Number s.now at 2 result }
 {
-    bits::numbers::get2(s, at) as usize
+    bits::numbers::get::<2>(s, at) as usize
 }

@@ -14,10 +14,8 @@ pub fn page_sums(s: &[u8], pages: usize) -> u64
     ensures { result ≡ sum (tabulate pages (sum_in s.now)) }
 {
     let mut all = 0;
-    let mut p = 0;
-    while p < pages {
-        all = all + bits::numbers::get4(s, entry_at(p));
-        p = p + 1;
+    for p in 0..pages {
+        all += bits::numbers::get::<4>(s, entry_at(p));
     }
     all
 }

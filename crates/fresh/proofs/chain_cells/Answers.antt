@@ -9,18 +9,18 @@ use Rattle.fresh.proofs.FreshBytes.{chained-none, chained-next, chained-length}
 use Rattle.fresh.proofs.chain_cells.Goals as goal
 
 pub loop-c-init : goal.loop-c-init
-loop-c-init c = (omega arith, omega arith, refl, chained-none c.args.s.now c.args.base)
+loop-c-init c = (refl, chained-none c.args.s.now c.args.base)
 
 pub loop-c-preserved : goal.loop-c-preserved
 loop-c-preserved c =
     let a = c.args in
     let l = c.loop-c in
-    let e = chained-next a.s.now l.s _ a.base l.c _ l.invariant.0 l.invariant.3 c.cell_at.ensures
-    c.put_two.ensures in
-    (omega arith, omega arith, ap (λ (z : List ℕ). length z) e ∙ chained-length a.s.now a.base (l.c + 1 - 1), e)
+    let e = chained-next a.s.now l.s _ a.base l.c _ (omega arith) l.invariant.1 c.cell_at.ensures
+    c.put.ensures in
+    (ap (λ (z : List ℕ). length z) e ∙ chained-length a.s.now a.base (l.c + 1 - 1), e)
 
 pub returns : goal.returns
 returns c =
     let a = c.args in
     let l = c.loop-c in
-    l.invariant.3 ∙ ap (λ (z : ℕ). chained a.s.now a.base (z - 1)) {x = l.c} {y = a.cells} (omega arith)
+    l.invariant.1 ∙ ap (λ (z : ℕ). chained a.s.now a.base (z - 1)) {x = l.c} {y = a.cells} (omega arith)

@@ -1,12 +1,9 @@
 -- `fresh::chain_cells` meets its contract. Assumes nothing.
 use mathlib.Core.Path.{◌≡◌}
-use Prim.Native.Nat.{◌-◌, ◌≤◌}
+use Prim.Native.Nat.{◌-◌}
 use lib.ListN.{length}
 use Rattle.fresh.specs.Code.Cells.{chained}
 use Rattle.fresh.proofs.chain_cells.Given as goal
 
 abbrev pub invariant-loop-c : goal.invariant-loop-c
-invariant-loop-c l = (1 ≤ l.c) × (l.c ≤ l.cells) × (length l.s ≡ length l.initial.s) × (l.s ≡ chained l.initial.s l.base (l.c - 1))
-
-abbrev pub decreases-loop-c : goal.decreases-loop-c
-decreases-loop-c l = l.cells - l.c
+invariant-loop-c l = (length l.s ≡ length l.initial.s) × (l.s ≡ chained l.initial.s l.base (l.c - 1))

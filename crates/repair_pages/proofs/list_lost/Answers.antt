@@ -13,7 +13,7 @@ of-h-requires c = omega (arith, c.requires.fitting.long)
 
 pub loop-p-init : goal.loop-p-init
 loop-p-init c =
-    (omega arith, record { along = along-start _ _ c.requires.unmarked; noted = noted-start _ c.args.lost.now })
+    record { along = along-start _ _ c.requires.unmarked; noted = noted-start _ c.args.lost.now }
 
 pub keep_page-requires : goal.keep_page-requires
 keep_page-requires c =
@@ -24,9 +24,8 @@ keep_page-requires c =
       head = h;
       fitting = q.fitting;
       inside = omega (arith, h.pages-is, c.loop-p-test.true);
-      tabled = q.tabled;
-      marks = l.invariant.1.along.long;
-      fits = along-fits _ _ l.p l.total l.invariant.1.along;
+      marks = l.invariant.along.long;
+      fits = along-fits _ _ l.p l.total l.invariant.along;
     }
 
 pub entry_at-requires : goal.entry_at-requires
@@ -35,8 +34,8 @@ entry_at-requires c =
     let h = c.of-h.ensures in
     omega (arith, h.pages-is, f.limits.pages-high)
 
-pub get4-total-requires : goal.get4-total-requires
-get4-total-requires c =
+pub get-total-requires-clause-in_bounds : goal.get-total-requires-clause-in_bounds
+get-total-requires-clause-in_bounds c =
     let f = c.requires.fitting in
     let h = c.of-h.ensures in
     omega (arith, h.pages-is, f.long, c.entry_at.ensures)
@@ -47,28 +46,28 @@ overflow_add-total c =
     let f = c.requires.fitting in
     omega (
       arith,
-      turn-fits _ _ _ _ _ l.p l.total l.n f.limits.cells-high l.invariant.1 c.keep_page.ensures c.if-keep_page.true
-          c.entry_at.ensures c.get4-total.ensures,
+      turn-fits _ _ _ _ _ l.p l.total l.n f.limits.cells-high l.invariant c.keep_page.ensures c.if-keep_page.true
+          c.entry_at.ensures c.get-total.ensures,
     )
 
 pub offset_bounds-lost-n : goal.offset_bounds-lost-n
 offset_bounds-lost-n c =
     let l = c.loop-p in
     let h = c.of-h.ensures in
-    omega (arith, noted-few _ _ _ l.n l.p l.invariant.1.noted, h.pages-small, c.loop-p-test.true)
+    omega (arith, noted-few _ _ _ l.n l.p l.invariant.noted, h.pages-small, c.loop-p-test.true)
 
 pub bounds-lost-n : goal.bounds-lost-n
 bounds-lost-n c =
     let l = c.loop-p in
     let h = c.of-h.ensures in
     let q = c.requires in
-    omega (arith, noted-few _ _ _ l.n l.p l.invariant.1.noted, l.invariant.1.noted.long, q.room, h.pages-is, c.loop-p-test.true)
+    omega (arith, noted-few _ _ _ l.n l.p l.invariant.noted, l.invariant.noted.long, q.room, h.pages-is, c.loop-p-test.true)
 
 pub overflow_add-n : goal.overflow_add-n
 overflow_add-n c =
     let l = c.loop-p in
     let h = c.of-h.ensures in
-    omega (arith, noted-few _ _ _ l.n l.p l.invariant.1.noted, h.pages-small, c.loop-p-test.true)
+    omega (arith, noted-few _ _ _ l.n l.p l.invariant.noted, h.pages-small, c.loop-p-test.true)
 
 pub loop-p-preserved : goal.loop-p-preserved
 loop-p-preserved c =
@@ -77,29 +76,27 @@ loop-p-preserved c =
     let q = c.requires in
     let k = c.keep_page in
     let few = q.fitting.limits.cells-high in
-    let lt = c.loop-p-test.true in (
-      omega arith,
-      elim c.if-keep_page.branch [
-        | then-keep_page w ↦
-            turn-yes _ _ _ _ _ _ l.p l.total l.n few l.invariant.1 k.ensures w.if-keep_page.true w.entry_at.ensures w.get4-total.ensures
-            w.lost-is w.total-is w.n-is
-        | else-keep_page w ↦
-            turn-no _ _ _ _ _ _ l.p l.total l.n few l.invariant.1 k.ensures w.if-keep_page.false
-            (omega (arith, noted-few _ _ _ l.n l.p l.invariant.1.noted, q.room, h.pages-is)) w.lost-is w.total-is w.n-is
-      ],
-    )
+    let lt = c.loop-p-test.true in
+    elim c.if-keep_page.branch [
+      | then-keep_page w ↦
+          turn-yes _ _ _ _ _ _ l.p l.total l.n few l.invariant k.ensures w.if-keep_page.true w.entry_at.ensures w.get-total.ensures
+          w.lost-is w.total-is w.n-is
+      | else-keep_page w ↦
+          turn-no _ _ _ _ _ _ l.p l.total l.n few l.invariant k.ensures w.if-keep_page.false
+          (omega (arith, noted-few _ _ _ l.n l.p l.invariant.noted, q.room, h.pages-is)) w.lost-is w.total-is w.n-is
+    ]
 
 pub shape_of-marks : goal.shape_of-marks
 shape_of-marks c =
     let l = c.loop-p in
     let q = c.requires in
-    omega (arith, l.invariant.1.along.long, ap length q.unmarked, length-replicate {A = ℕ} marks_length 0)
+    omega (arith, l.invariant.along.long, ap length q.unmarked, length-replicate {A = ℕ} marks_length 0)
 
 pub shape_of-lost : goal.shape_of-lost
-shape_of-lost c = omega (arith, c.loop-p.invariant.1.noted.long)
+shape_of-lost c = omega (arith, c.loop-p.invariant.noted.long)
 
 pub returns : goal.returns
 returns c =
     let l = c.loop-p in
     let h = c.of-h.ensures in
-    turns-done _ _ _ _ l.total l.n l.p (omega (arith, h.pages-is, c.loop-p-test.false)) l.invariant.1
+    turns-done _ _ _ _ l.total l.n l.p (omega (arith, h.pages-is, c.loop-p-test.false)) l.invariant

@@ -10,7 +10,6 @@ use Rattle.store.specs.Code.Checked.{marks_length}
 use Rattle.store.specs.Code.Head.{HeadOf}
 use Rattle.store.specs.declared.header.Header.{Header}
 use Rattle.store.proofs.CheckChain.{mark_all}
-use Rattle.reserve_table.specs.Code.Tabled.{Tabled}
 use Rattle.sound_page.specs.Code.Page.{page_code_fits}
 use Rattle.repair_pages.specs.Code.Chain.{chain_kept}
 
@@ -22,11 +21,10 @@ kept_by s m total p =
     && page_code_fits (code_in s (cells_start (page_count_of s)) (chain_in s (page_count_of s) p)) (sum_in s p) p (hours_in s))
 
 -- what is asked of the store s with the header h, of the page p, the marks m and the total
-pub record Judging (s : List ℕ) (h : Header) (table m : List ℕ) (p total : ℕ) : Type 0 where
+pub record Judging (s : List ℕ) (h : Header) (m : List ℕ) (p total : ℕ) : Type 0 where
   pub head : HeadOf s h
   pub fitting : Fitting s (page_count_of s) (cells_of s)
   pub inside : p < page_count_of s
-  pub tabled : Tabled table
   pub marks : length m ≡ marks_length
   pub fits : total ≤ max_total
 

@@ -6,9 +6,10 @@ use Rattle.sound_free.specs.Code.Free.{free_chain_fits, free_from}
 use Rattle.store.specs.Code.Checked.{marks_length}
 use Rattle.sound_free.proofs.free_fits.Given as goal
 
-abbrev pub invariant-loop-j : goal.invariant-loop-j
-invariant-loop-j l =
-    (l.j ≤ l.free) × (length l.marks ≡ marks_length) × (l.at + 2 ≤ length l.s) × (free_chain_fits l.s l.base l.cells l.initial.marks ≡ free_from l.s l.base l.cells (l.free - l.j) l.marks l.at)
-
-abbrev pub decreases-loop-j : goal.decreases-loop-j
-decreases-loop-j l = l.free - l.j
+abbrev pub invariant-loop : goal.invariant-loop
+invariant-loop l = record {
+  marked : length l.marks ≡ marks_length;
+  inside : l.at + 2 ≤ length l.cells.bytes.now;
+  left : free_chain_fits l.cells.bytes.now l.cells.base l.cells.count l.initial.marks
+      ≡ free_from l.cells.bytes.now l.cells.base l.cells.count (l.free - l.counter) l.marks l.at;
+}

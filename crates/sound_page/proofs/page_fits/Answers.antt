@@ -1,7 +1,6 @@
 -- `sound_page::page_fits` meets its contract: each return is one of the three tests of a page's code. Assumes nothing.
-use mathlib.Core.Path.{sym, ◌∙◌}
+use mathlib.Core.Path.{refl, sym}
 use native.Mathlib.Omega.{arith}
-use borrow.Author.Tests.{not-false}
 use Rattle.sound_page.proofs.PageTest.{few, fits-hours, fits-no-rest, fits-no-tree, fits-none, holds, page-lies}
 use Rattle.sound_page.proofs.page_fits.Goals as goal
 
@@ -11,12 +10,12 @@ returns-then-s-eq0 c =
     fits-none pre.0 pre.1 (λ i. omega (arith, c.type_inv.code i)) c.if-s-eq0.true
 
 pub check-requires : goal.check-requires
-check-requires c = (page-lies c.requires.0, c.requires.2)
+check-requires c = page-lies c.requires.0
 
 pub returns-then-not-check : goal.returns-then-not-check
 returns-then-not-check c =
     let pre = c.requires in
-    fits-no-tree pre.0 pre.1 (λ i. omega (arith, c.type_inv.code i)) c.check.ensures c.if-not-check.true-raw
+    fits-no-tree pre.0 pre.1 (λ i. omega (arith, c.type_inv.code i)) c.if-not-check.ensures
 
 pub overflow_mul-k : goal.overflow_mul-k
 overflow_mul-k c =
@@ -40,15 +39,15 @@ zero_bits-requires c =
 pub returns-then-not-zero_bits : goal.returns-then-not-zero_bits
 returns-then-not-zero_bits c =
     let pre = c.requires in
-    fits-no-rest pre.0 pre.1 (λ i. omega (arith, c.type_inv.code i)) (sym c.check.ensures ∙ not-false c.check.result c.if-not-check.false-raw)
-    c.reserve_of-used.ensures c.zero_bits.ensures c.if-not-zero_bits.true-raw
+    fits-no-rest pre.0 pre.1 (λ i. omega (arith, c.type_inv.code i)) (sym c.if-not-check.ensures)
+    c.reserve_of-used.ensures c.if-not-zero_bits.ensures refl
 
 pub hours_fit-requires : goal.hours_fit-requires
 hours_fit-requires c =
-    (c.requires.0, sym c.check.ensures ∙ not-false c.check.result c.if-not-check.false-raw)
+    (c.requires.0, sym c.if-not-check.ensures)
 
 pub returns : goal.returns
 returns c =
     let pre = c.requires in
-    fits-hours pre.0 pre.1 (λ i. omega (arith, c.type_inv.code i)) (sym c.check.ensures ∙ not-false c.check.result c.if-not-check.false-raw)
-    c.reserve_of-used.ensures c.zero_bits.ensures c.if-not-zero_bits.false-raw c.hours_fit.ensures
+    fits-hours pre.0 pre.1 (λ i. omega (arith, c.type_inv.code i)) (sym c.if-not-check.ensures)
+    c.reserve_of-used.ensures c.if-not-zero_bits.ensures refl c.hours_fit.ensures

@@ -1,6 +1,6 @@
 -- What the soundness check computes on its way along the bytes: the chains walked with marks, the tests of a page, the tests of the header.
 -- That together they say `sound` is the law `verdict`. Assumes nothing.
-use Rattle.std.specs.Prelude.{Bool, true, false, ◌&&◌, List, [], ◌∷◌, ◌++◌, ℕ, zero, suc, ◌+◌, ◌*◌, length, get_or, set, leb, ltb, eqb}
+use Rattle.std.specs.Prelude.{Option, Some, None, Bool, true, false, ◌&&◌, List, [], ◌∷◌, ◌++◌, ℕ, zero, suc, ◌+◌, ◌*◌, length, get_or, set, leb, ltb, eqb}
 use Rattle.lists.specs.Lists.{every, pick, same, sum, tabulate}
 use Rattle.bits.specs.Numbers.{number_at}
 use Rattle.store.specs.Layout.{cell_at, cells_start, entry_at, header_length}
@@ -13,24 +13,23 @@ use Rattle.store.specs.Reading.{chain_in, code_in, page_in, page_count_of, sum_i
 abbrev pub marks_length : ℕ
 marks_length = suc max_cells
 
--- a walk along chains: the marks that it leaves, or that it broke off at a fault
-pub data Walk : Type 0 where
-  whole : List ℕ → Walk
-  broken : Walk
+-- a walk along chains: the marks that it leaves, or none, where it broke off at a fault
+abbrev pub Walk : Type 0
+Walk = Option (List ℕ)
 
 -- it goes on where a test holds, and where the walk before it did not break off
 unfoldable pub go_on : Bool → Walk → Walk
 go_on true w = w
-go_on false w = broken
+go_on false w = None
 
 unfoldable pub and_then : Walk → (List ℕ → Walk) → Walk
-and_then (whole m) f = f m
-and_then broken f = broken
+and_then (Some m) f = f m
+and_then None f = None
 
 -- 'marks each cell once and ends at the first broken chain': k cells from the link at a on, each of them a cell without a mark; then the
 -- chain ends
 unfoldable pub walk_marks : List ℕ → ℕ → ℕ → ℕ → List ℕ → ℕ → Walk
-walk_marks s base C zero m a = go_on (eqb (number_at s a 2) 0) (whole m)
+walk_marks s base C zero m a = go_on (eqb (number_at s a 2) 0) (Some m)
 walk_marks s base C (suc k) m a =
     go_on (leb 1 (number_at s a 2) && (leb (number_at s a 2) C && eqb (get_or m (number_at s a 2) 0) 0))
     (walk_marks s base C k (set m (number_at s a 2) 1) (cell_at base (number_at s a 2)))
@@ -50,14 +49,14 @@ page_tests s P N p =
 
 -- n pages from p on
 unfoldable pub check_pages : List ℕ → ℕ → ℕ → ℕ → ℕ → ℕ → List ℕ → Walk
-check_pages s P C N zero p m = whole m
+check_pages s P C N zero p m = Some m
 check_pages s P C N (suc n) p m =
     and_then (walk_marks s (cells_start P) C (cells (sum_in s p)) m (entry_at p + 4)) (λ m'. go_on (every (page_tests s P N p)) (check_pages s P C N n (suc p) m'))
 
 -- what a walk's marks say; a walk that broke off says no
 unfoldable pub ends-well : Walk → (List ℕ → Bool) → Bool
-ends-well (whole m) f = f m
-ends-well broken f = false
+ends-well (Some m) f = f m
+ends-well None f = false
 
 -- the header's fields, the length and the total
 unfoldable pub head_tests : List ℕ → List Bool

@@ -11,13 +11,13 @@ join-requires c =
 pub fill-requires : goal.fill-requires
 fill-requires c =
     let q = c.requires in
-    let l = c.larger-most.ensures in
+    let l = c.max-most.ensures in
     (q.low, rw l q.long, rw (c.join.ensures, c.entry_at-entry.ensures, l) q.both)
 
 pub cut-requires : goal.cut-requires
 cut-requires c =
     let q = c.requires in
-    let l = c.larger-most.ensures in (
+    let l = c.max-most.ensures in (
       q.low,
       omega arith,
       rw (c.fill.ensures, c.join.ensures, c.entry_at-entry.ensures, l) q.kept,
@@ -27,8 +27,8 @@ pub returns : goal.returns
 returns c =
     let a = c.args in
     rewritten-is a.s.now _ _ _ _ _ _ a.code.now a.base a.c.page _ a.c.old a.c.new _ _ a.c.sum a.hours
-    c.entry_at-entry.ensures c.link-free.ensures.is c.larger-most.ensures
+    c.entry_at-entry.ensures c.link-free.ensures.is c.max-most.ensures
     c.join.ensures
     c.fill.ensures c.cut.ensures
-    c.put_two.ensures
-    c.put_four.ensures c.put_four-2.ensures
+    c.put.ensures
+    c.put-2.ensures c.put-3.ensures

@@ -6,6 +6,6 @@ pub returns : goal.returns
 returns c =
     let a = c.args in
     headed-is a.s.now _ _ _ _ _ _ _ a.h c.requires
-    c.put_two.ensures c.put_two-2.ensures
-    c.put_two-3.ensures c.put_two-4.ensures
-    c.put_two-5.ensures c.put_two-6.ensures c.put_four.ensures
+    c.put.ensures c.put-2.ensures
+    c.put-3.ensures c.put-4.ensures
+    c.put-5.ensures c.put-6.ensures c.put-7.ensures

@@ -4,8 +4,4 @@ use Rattle.live_repair.proofs.WriteSteps.{Above}
 use Rattle.live_repair.proofs.write.free_cells.Given as goal
 
 abbrev pub invariant-loop-c : goal.invariant-loop-c
-invariant-loop-c l =
-    (l.c ≤ l.cells) × (l.free ≤ l.cells - l.c) × Above l.initial.s l.s l.base l.marks l.cells l.c l.next l.free
-
-abbrev pub decreases-loop-c : goal.decreases-loop-c
-decreases-loop-c l = l.c
+invariant-loop-c l = (l.free ≤ l.cells - l.c) × Above l.initial.s l.s l.base l.marks l.cells l.c l.next l.free

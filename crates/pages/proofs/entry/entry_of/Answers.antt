@@ -8,8 +8,8 @@ use Rattle.pages.proofs.entry.entry_of.Goals as goal
 pub entry_at-requires : goal.entry_at-requires
 entry_at-requires c = omega (arith, (facts c.args.s.now c.requires.0).pages-high)
 
-pub get4-sum-requires : goal.get4-sum-requires
-get4-sum-requires c = omega (arith, (facts c.args.s.now c.requires.0).long, c.entry_at.ensures)
+pub get-sum-requires-clause-in_bounds : goal.get-sum-requires-clause-in_bounds
+get-sum-requires-clause-in_bounds c = omega (arith, (facts c.args.s.now c.requires.0).long, c.entry_at.ensures)
 
 pub link-requires : goal.link-requires
 link-requires c = omega (arith, (facts c.args.s.now c.requires.0).long)
@@ -25,6 +25,6 @@ returns c =
       holds = sound-holds a.s.now q.0;
       base-is = c.cells_from.ensures ∙ ap cells_start c.link.ensures.is;
       inside = q.1;
-      sum_is = sum-read a.s.now a.p _ _ c.entry_at.ensures c.get4-sum.ensures.is;
+      sum_is = sum-read a.s.now a.p _ _ c.entry_at.ensures c.get-sum.ensures.is;
       cells_is = c.cells_of.ensures.0;
     }

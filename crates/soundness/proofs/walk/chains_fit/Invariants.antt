@@ -4,28 +4,30 @@ use mathlib.Core.Path.{◌≡◌}
 use mathlib.Core.Bool.{true}
 use Prim.Native.Nat.{◌+◌, ◌-◌, ◌≤◌}
 use lib.ListN.{length}
+use Rattle.bits.specs.Numbers.{number_at}
 use Rattle.store.specs.PageCode.{page_room}
-use Rattle.store.specs.Layout.{cells_start}
-use Rattle.store.specs.Reading.{chain_in, code_in}
-use Rattle.store.specs.Code.Checked.{marks_length}
+use Rattle.store.specs.Reading.{chain_from, code_in}
+use Rattle.store.specs.Code.Checked.{marks_length, walk_marks}
 use Rattle.soundness.specs.Code.Chains.{all_chains_fit}
 use Rattle.chains.proofs.Gathering.{SoFar}
-use Rattle.soundness.proofs.ChainTest.{cells_on}
 use Rattle.soundness.proofs.ChainTest.{pages_on}
 use Rattle.soundness.proofs.walk.chains_fit.Given as goal
 
 abbrev pub invariant-loop-j : goal.invariant-loop-j
-invariant-loop-j l =
-    (l.j ≤ l.k) × (length l.marks ≡ marks_length) × (length l.code ≡ page_room) × (l.ok ≡ true) × (l.at + 2 ≤ length l.s)
-    × (all_chains_fit l.s ≡ cells_on l.s l.pages l.cells l.hours l.p (l.k - l.j) l.marks l.at)
-    × SoFar l.s (cells_start l.pages) (code_in l.s (cells_start l.pages) (chain_in l.s l.pages l.p)) l.k l.j l.code l.at
-
-abbrev pub decreases-loop-j : goal.decreases-loop-j
-decreases-loop-j l = l.k - l.j
+invariant-loop-j l = record {
+  marks : length l.marks ≡ marks_length;
+  room : length l.code ≡ page_room;
+  sound : l.ok ≡ true;
+  inside : l.at + 2 ≤ length l.s;
+  walk : walk_marks l.s l.base l.h.cells l.k l.initial.marks l.initial.at
+      ≡ walk_marks l.s l.base l.h.cells (l.k - l.j) l.marks l.at;
+  gathered : SoFar l.s l.base (code_in l.s l.base (chain_from l.s l.base l.k (number_at l.s l.initial.at 2))) l.k l.j l.code l.at;
+}
 
 abbrev pub invariant-pages : goal.invariant-pages
-invariant-pages l =
-    (l.p ≤ l.pages) × (length l.marks ≡ marks_length) × (length l.code ≡ page_room) × (l.ok ≡ true) × (all_chains_fit l.s ≡ pages_on l.s l.pages l.cells l.hours l.p l.marks)
-
-abbrev pub decreases-pages : goal.decreases-pages
-decreases-pages l = l.pages - l.p
+invariant-pages l = record {
+  marks : length l.marks ≡ marks_length;
+  room : length l.code ≡ page_room;
+  sound : l.ok ≡ true;
+  left : all_chains_fit l.s ≡ pages_on l.s l.h.pages l.h.cells l.h.hours l.p l.marks;
+}

@@ -18,11 +18,10 @@ unfolding sum_in
 loop-p-preserved c =
     let s = c.args.s.now in
     let l = c.loop-p in (
-      omega arith,
-      ap (λ (z : ℕ). l.all + z) (c.get4-all.ensures.is ∙ ap (λ (a : ℕ). number_at s a 4) c.entry_at.ensures)
-          ∙ ap (λ (z : ℕ). z + sum_in s l.p) l.invariant.1
+      ap (λ (z : ℕ). l.all + z) (c.get-all.ensures.is ∙ ap (λ (a : ℕ). number_at s a 4) c.entry_at.ensures)
+          ∙ ap (λ (z : ℕ). z + sum_in s l.p) l.invariant.0
           ∙ sym (sum-next (sum_in s) l.p),
-      omega (arith, c.get4-all.ensures.small),
+      omega (arith, c.get-all.ensures.small),
     )
 
 pub returns : goal.returns
@@ -30,4 +29,4 @@ returns c =
     let a = c.args in
     let l = c.loop-p in
     let e : l.p ≡ a.pages = omega arith in
-    l.invariant.1 ∙ ap (λ (n : ℕ). sum (tabulate n (sum_in a.s.now))) e
+    l.invariant.0 ∙ ap (λ (n : ℕ). sum (tabulate n (sum_in a.s.now))) e
