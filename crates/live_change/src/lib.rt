@@ -5,38 +5,38 @@ ghost use Rattle.std.specs.Prelude.{true, ◌≡◌};
 ghost use Rattle.store.specs.Plain.{Append, Set};
 ghost use Rattle.store.specs.Sound.{sound};
 ghost use Rattle.store.specs.Call.{Called};
-ghost use Rattle.answers.specs.Store.{told};
+ghost use Rattle.answers.specs.Store.{told_change};
 
-use answers::refusal;
-use answers::store::Answer;
+use answers::refusal::Refusal;
+use answers::store::Change;
 use live_hour::change_hour;
 use store::header::Header;
 use store::total::total;
 
 // Appends v to the list of a sound store.
-pub fn append(s: &mut [u8], v: u32) -> Answer
+pub fn append(s: &mut [u8], v: u32) -> Result<Change, Refusal>
     requires { sound s.old ≡ true }
-    ensures { Called (Append v) s.old (told result) s.new }
+    ensures { Called (Append v) s.old (told_change result) s.new }
 {
     let head = Header::of(s);
     if Header::HOURS * head.pages <= head.hours {
-        return Answer::Refused(refusal::FULL);
+        return Err(Refusal::Full);
     }
     // The count that is there is 0: the total is known before the page is read.
     if Header::MAX_TOTAL < total(s, head.pages) + v as u64 {
-        return Answer::Refused(refusal::TOTAL);
+        return Err(Refusal::Total);
     }
     change_hour(s, head.hours, v, head.hours + 1)
 }
 
 // Makes count i of a sound store's list v.
-pub fn set(s: &mut [u8], i: u32, v: u32) -> Answer
+pub fn set(s: &mut [u8], i: u32, v: u32) -> Result<Change, Refusal>
     requires { sound s.old ≡ true }
-    ensures { Called (Set i v) s.old (told result) s.new }
+    ensures { Called (Set i v) s.old (told_change result) s.new }
 {
     let head = Header::of(s);
     if head.hours <= i as usize {
-        return Answer::Refused(refusal::HOUR);
+        return Err(Refusal::Hour);
     }
     change_hour(s, i as usize, v, head.hours)
 }

@@ -14,6 +14,7 @@ use Rattle.store.specs.declared.header.Header.{Header}
 use Rattle.store.proofs.ChangeLaws.{change-done, change-short}
 use Rattle.store.proofs.SoundFacts.{Facts, facts}
 use Rattle.move_plan.specs.declared.shift.Shift.{Shift}
+use Rattle.move_pages.specs.declared.Plan.{Plan}
 use Rattle.move_plan.specs.Code.Plan.{Counted, Leaves, Needs, Shiftable, shifted}
 use Rattle.move_pages.specs.Code.Pass.{Enough, Settles}
 use Rattle.live_move.specs.Code.Carry.{Carried, shift_of}
@@ -58,10 +59,10 @@ module _ {s : List ℕ} {m : Shift} (h : Shiftable s m) where
       cells_fit : need ys (page_count_of s) ≤ cells_of s
       cells_fit = omega (arith, n.moved, n.had-low, left)
 
-      pub enough-now : {base all : ℕ} {leaving old new : List ℕ} → base ≡ cells_start H.pages → all ≡ 64 * H.pages → Leaves m (list_in s) leaving m.end
-          → Counted m (list_in s) old m.end → Counted m ys new m.end → m.end ≤ length leaving → m.end ≤ length old → m.end ≤ length new
-          → Enough s base m leaving old new all
-      enough-now eb ea hl ho hn ll lo ln = record {
+      pub enough-now : (w : Plan) → w.shift ≡ m → w.base ≡ cells_start H.pages → w.all ≡ 64 * H.pages → Leaves m (list_in s) w.leaving.now m.end
+          → Counted m (list_in s) w.old.now m.end → Counted m ys w.new.now m.end → m.end ≤ length w.leaving.now → m.end ≤ length w.old.now
+          → m.end ≤ length w.new.now → Enough s w
+      enough-now w em eb ea hl ho hn ll lo ln = rw em record {
         shiftable = h;
         enough = cells_fit;
         base-is = eb ∙ ap cells_start hd.pages-is;

@@ -20,6 +20,8 @@ use Rattle.store.proofs.CallLaws.{refused_as, sound-call}
 use Rattle.store.proofs.ChangeLaws.{change-over}
 use Rattle.store.proofs.Inserting.{length_inserted, length-struck, sum-inserted, sum-struck}
 use Rattle.store.proofs.SoundFacts.{Facts, facts}
+use Rattle.move_counts.specs.declared.Edit.{Edit}
+use Rattle.move_counts.specs.declared.Edit.TheVariants.{Insert as Inserts, Strike as Strikes}
 use Rattle.move_counts.specs.Code.Turned.{turned}
 use Rattle.move_plan.specs.declared.shift.Shift.{Shift}
 use Rattle.move_plan.specs.Code.Plan.{Shiftable, shifted}
@@ -105,7 +107,7 @@ module _ {s : List ℕ} (i v : ℕ) (e : sound s ≡ true) {H : Header} (hd : He
       insert-3 l = refused_as (Insert i v) s 3 e (the_step ∙ change-over (read s).plain grown (omega (arith, ea, sum-inserted xs i v)))
 
       abbrev up : Shift
-      up = record { strike = false; first = i / 64; at = i % 64; count = v; end = H.hours / 64 + 1 }
+      up = record { edit = Inserts v; first = i / 64; at = i % 64; end = H.hours / 64 + 1 }
 
       inside : 64 * (i / 64) + i % 64 ≤ length xs
       inside = omega (arith, hours-same)
@@ -114,24 +116,24 @@ module _ {s : List ℕ} (i v : ℕ) (e : sound s ≡ true) {H : Header} (hd : He
       end_is = ap (λ (z : ℕ). z / 64 + 1) (sym hours-same)
 
       up_is : shifted up xs ≡ grown
-      up_is = insert-is xs up refl (omega arith) inside end_is ∙ ap (λ (z : ℕ). inserted xs z v) (hour-is i)
+      up_is = insert-is xs up v refl (omega arith) inside end_is ∙ ap (λ (z : ℕ). inserted xs z v) (hour-is i)
 
       up-long : length (shifted up xs) ≡ H.hours + 1
       up-long = ap length up_is ∙ omega (arith, length_inserted xs i v (omega (arith, hours-same)), hours-same)
 
       pub insert-shiftable : all + v ≤ max_total → Shiftable s up × (H.hours + 1 ≡ length (shifted up xs))
-      unfolding turned pick
+      unfolding turned
       insert-shiftable l = (
         record {
           is-sound = e;
           within = omega arith;
           some = omega arith;
           inside = omega (arith, hd.pages-is);
-          below = λ q b. ap (λ (z : List ℕ). page z q) (insert-is xs up refl (omega arith) inside end_is) ∙ insert-below xs up refl (omega arith) inside end_is q b;
+          below = λ q b. ap (λ (z : List ℕ). page z q) (insert-is xs up v refl (omega arith) inside end_is) ∙ insert-below xs up v refl (omega arith) inside end_is q b;
           moves = λ q lo hi leaving hl.
-              ap (λ (z : List ℕ). page z q) (insert-is xs up refl (omega arith) inside end_is)
-              ∙ insert-moves xs up refl (omega arith) inside end_is leaving hl q lo hi;
-          above = λ q b. ap (λ (z : List ℕ). page z q) (insert-is xs up refl (omega arith) inside end_is) ∙ insert-above xs up refl (omega arith) inside end_is q b;
+              ap (λ (z : List ℕ). page z q) (insert-is xs up v refl (omega arith) inside end_is)
+              ∙ insert-moves xs up v refl (omega arith) inside end_is leaving hl q lo hi;
+          above = λ q b. ap (λ (z : List ℕ). page z q) (insert-is xs up v refl (omega arith) inside end_is) ∙ insert-above xs up v refl (omega arith) inside end_is q b;
           total = omega (arith, ap sum up_is, sum-inserted xs i v, ea);
           hours = omega (arith, up-long, hd.pages-is);
         },
@@ -155,7 +157,7 @@ module _ {s : List ℕ} (i : ℕ) (e : sound s ≡ true) {H : Header} (hd : Head
 
   module _ (li : i < H.hours) where
     abbrev down : Shift
-    down = record { strike = true; first = i / 64; at = i % 64; count = 0; end = (H.hours - 1) / 64 + 1 }
+    down = record { edit = Strikes; first = i / 64; at = i % 64; end = (H.hours - 1) / 64 + 1 }
 
     logged : 64 * (i / 64) + i % 64 < length was
     logged = omega (arith, long-is)
@@ -170,7 +172,7 @@ module _ {s : List ℕ} (i : ℕ) (e : sound s ≡ true) {H : Header} (hd : Head
     down-long = ap length down_is ∙ omega (arith, length-struck was i (omega (arith, long-is)), long-is)
 
     pub strike-shiftable : Shiftable s down × (H.hours - 1 ≡ length (shifted down was))
-    unfolding turned pick
+    unfolding turned
     strike-shiftable = (
       record {
         is-sound = e;

@@ -1,17 +1,18 @@
 -- A page's counts when the hours behind one move by one place. Assumes nothing.
-use mathlib.Core.Path.{◌≡◌, sym, ap, ◌∙◌}
-use mathlib.Core.Bool.{Bool, true, false}
-use mathlib.Core.List.{List, [], ◌∷◌, ◌++◌}
+use mathlib.Core.Path.{◌≡◌, refl, sym, ap, ap₂, ◌∙◌}
+use mathlib.Core.List.{List, [], ◌∷◌, ◌++◌, append_assoc}
 use Prim.Native.Nat.{ℕ, suc, ◌+◌, ◌-◌, ◌≤◌, ◌<◌}
 use native.Mathlib.Numerals.{add-one}
 use native.Mathlib.Omega.{arith}
 use native.Mathlib.Decide.{dec_le, ℕ_discrete}
-use lib.ListN.{get_or-append, length, get_or, set, take, length-append, length-set, length-take}
-use lib.Seq.{ext_get_or, get_or-append_seam, get_or-set_other, get_or-set_same, get_or-take, take_all, take-suc}
-use Rattle.lists.specs.Lists.{pick, sum}
+use lib.ListN.{drop_of_length-le, get_or-append, length, get_or, set, take, drop, length-append, length-drop, length-set, length-take}
+use lib.Seq.{drop-append-le, drop-cons, drop-set-lt, ext_get_or, get_or-append_seam, get_or-set_other, get_or-set_same, get_or-take, take_all, take_at, take-suc, take-suc-set, take-take}
+use Rattle.lists.specs.Lists.{sum}
 use Rattle.lists.proofs.Sums.{sum-snoc}
-use Rattle.store.specs.Plain.{struck}
+use Rattle.store.specs.Plain.{inserted, struck}
 use Rattle.store.proofs.Inserting.{inserted-at, inserted-before, inserted-behind, length_inserted, length-struck, struck-before, struck-behind, sum-inserted, sum-struck}
+use Rattle.move_counts.specs.declared.Edit.{Edit}
+use Rattle.move_counts.specs.declared.Edit.TheVariants.{Insert, Strike}
 use Rattle.move_counts.specs.Code.Turned.{leaving_index, pulled, pushed, turned}
 
 -- ---- an insert, index by index
@@ -94,45 +95,47 @@ module _ (x : List ℕ) (j v : ℕ) (n : length x ≡ 64) (lj : j < 64) where
   pulled-sum = omega (arith, sum-struck x j, sum-snoc (struck x j) v)
 
 -- ---- both
-module _ (strike : Bool) (x : List ℕ) (j v : ℕ) (n : length x ≡ 64) (lj : j < 64) where
-  pub turned-length : length (turned strike x j v) ≡ 64
-  unfolding turned pick
-  turned-length = go strike
+module _ (edit : Edit) (x : List ℕ) (j v : ℕ) (n : length x ≡ 64) (lj : j < 64) where
+  pub turned-length : length (turned edit x j v) ≡ 64
+  unfolding turned
+  turned-length = go edit
     where
-      go : (b : Bool) → length (turned b x j v) ≡ 64
-      go true = pulled-length x j v n lj
-      go false = pushed-length x j v n lj
+      go : (e : Edit) → length (turned e x j v) ≡ 64
+      go (Insert u) = pushed-length x j v n lj
+      go Strike = pulled-length x j v n lj
 
   -- 'one count comes in, one leaves'
-  pub turned-sum : sum (turned strike x j v) + get_or x (leaving_index strike j) 0 ≡ sum x + v
-  unfolding turned leaving_index pick
-  turned-sum = go strike
+  pub turned-sum : sum (turned edit x j v) + get_or x (leaving_index edit j) 0 ≡ sum x + v
+  unfolding turned leaving_index
+  turned-sum = go edit
     where
-      go : (b : Bool) → sum (turned b x j v) + get_or x (leaving_index b j) 0 ≡ sum x + v
-      go true = pulled-sum x j v n lj
-      go false = pushed-sum x j v n lj
+      go : (e : Edit) → sum (turned e x j v) + get_or x (leaving_index e j) 0 ≡ sum x + v
+      go (Insert u) = pushed-sum x j v n lj
+      go Strike = pulled-sum x j v n lj
 
--- ---- the loops: what is left to do gives the same
-push-more : (x : List ℕ) (k v : ℕ) → length x ≡ 64 → k < 63 → pushed x k v ≡ pushed (set x k v) (suc k) (get_or x k 0)
-push-more x k v n l =
-    let y : List ℕ = set x k v in
-    let ny : length y ≡ 64 = length-set x k v ∙ n in
-    sym (pushed-is x k v n (omega arith) (pushed y (suc k) (get_or x k 0)) (pushed-length y (suc k) (get_or x k 0) ny (omega arith))
-    (λ h b. pushed-before y (suc k) (get_or x k 0) ny (omega arith) h (omega arith) ∙ get_or-set_other x k h v 0 (λ e. omega (arith, e)))
-    (pushed-before y (suc k) (get_or x k 0) ny (omega arith) k (omega arith) ∙ get_or-set_same x k v 0 (omega (arith, n)))
-    (λ h b r. go h b r (ℕ_discrete h k)))
-  where
-    go : (h : ℕ) → k ≤ h → h < 63 → Dec (h ≡ k) → get_or (pushed (set x k v) (suc k) (get_or x k 0)) (suc h) 0 ≡ get_or x h 0
-    go h b r (yes e) =
-        rw e (pushed_at (set x k v) (suc k) (get_or x k 0) (length-set x k v ∙ n) (omega arith))
-    go h b r (no e) =
-        pushed-behind (set x k v) (suc k) (get_or x k 0) (length-set x k v ∙ n) (omega arith) h (omega (arith, e)) r ∙ get_or-set_other x k h v 0 e
+-- ---- an insert's loop: put back where it goes, the count in hand gives what was there with v before it
+pub hand-on : (ys : List ℕ) (i next : ℕ) → i < length ys → inserted (set ys i next) (i + 1) (get_or ys i 0) ≡ inserted ys i next
+unfolding inserted
+hand-on ys i next l =
+    rw (add-one i, take-suc-set ys i next l, drop-set-lt (suc i) ys i next (omega arith), drop-cons ys i 0 l)
+    (append_assoc (take i ys) (next ∷ []) (get_or ys i 0 ∷ drop (suc i) ys))
 
-pub push-last : (x : List ℕ) (v : ℕ) → length x ≡ 64 → pushed x 63 v ≡ set x 63 v
-push-last x v n =
-    sym (pushed-is x 63 v n (omega arith) (set x 63 v) (length-set x 63 v ∙ n) (λ h b. get_or-set_other x 63 h v 0 (λ e. omega (arith, e)))
-    (get_or-set_same x 63 v 0 (omega (arith, n))) (λ h b r. absurd (omega arith)))
+pub hand-last : (x ys : List ℕ) (j v i next : ℕ) → length x ≡ 64 → j < 64 → length ys ≡ 64 - j → length ys ≤ i → inserted ys i next ≡ v ∷ drop j x
+    → take j x ++ ys ≡ pushed x j v
+unfolding inserted pushed
+hand-last x ys j v i next n lj ly li e =
+    let w : List ℕ = drop j (take 63 x) in
+    let g : ℕ = get_or x 63 0 in
+    let whole : x ≡ take 63 x ++ g ∷ [] = sym (take_all 64 x (omega (arith, n))) ∙ take-suc x 63 0 (omega (arith, n)) in
+    let few : length (take 63 x) ≡ 63 = omega (arith, length-take 63 x) in
+    let behind : drop j x ≡ w ++ g ∷ [] = ap (drop j) whole ∙ drop-append-le j (take 63 x) (g ∷ []) (omega (arith, few)) in
+    let long : length (v ∷ w) ≡ length ys = omega (arith, length-drop j (take 63 x), few, ly) in
+    let all : ys ++ next ∷ [] ≡ (v ∷ w) ++ g ∷ [] =
+    sym (ap₂ (λ (a : List ℕ) (b : List ℕ). a ++ next ∷ b) (take_all i ys li) (drop_of_length-le ys li)) ∙ e ∙ ap (λ (z : List ℕ). v ∷ z) behind in
+    let same : ys ≡ v ∷ w = sym (take_at ys (next ∷ []) (length ys) refl) ∙ ap (take (length ys)) all ∙ take_at (v ∷ w) (g ∷ []) (length ys) long in
+    ap₂ (λ (a : List ℕ) (b : List ℕ). a ++ b) (sym (take-take j 63 x (omega arith))) same
 
+-- ---- a strike's loop: what is left to do gives the same
 pull-more : (x : List ℕ) (k v : ℕ) → length x ≡ 64 → k < 63 → pulled x k v ≡ pulled (set x k (get_or x (suc k) 0)) (suc k) v
 pull-more x k v n l =
     let y : List ℕ = set x k (get_or x (suc k) 0) in
@@ -156,17 +159,5 @@ pull-last x v n =
     (λ h b r. absurd (omega arith)) (get_or-set_same x 63 v 0 (omega (arith, n))))
 
 -- the same with the code's next index
-pub push-on : (x : List ℕ) (k v : ℕ) → length x ≡ 64 → k < 63 → pushed x k v ≡ pushed (set x k v) (k + 1) (get_or x k 0)
-push-on x k v n l = push-more x k v n l ∙ ap (λ (z : ℕ). pushed (set x k v) z (get_or x k 0)) (sym (add-one k))
-
 pub pull-on : (x : List ℕ) (k v : ℕ) → length x ≡ 64 → k < 63 → pulled x k v ≡ pulled (set x k (get_or x (k + 1) 0)) (k + 1) v
 pull-on x k v n l = pull-more x k v n l ∙ ap (λ (z : ℕ). pulled (set x k (get_or x z 0)) z v) (sym (add-one k))
-
--- which of the two it is
-pub turned-strike : {strike : Bool} (x : List ℕ) (j v : ℕ) {y : List ℕ} → y ≡ pulled x j v → strike ≡ true → y ≡ turned strike x j v
-unfolding turned pick
-turned-strike x j v e b = rw b e
-
-pub turned-insert : {strike : Bool} (x : List ℕ) (j v : ℕ) {y : List ℕ} → y ≡ pushed x j v → strike ≡ false → y ≡ turned strike x j v
-unfolding turned pick
-turned-insert x j v e b = rw b e

@@ -5,23 +5,28 @@ ghost use Rattle.std.specs.Prelude.{◌≡◌, ◌<◌, length};
 ghost use Rattle.store.specs.Limits.{page_hours};
 ghost use Rattle.move_counts.specs.Code.Turned.{leaving_index, pulled, pushed, turned};
 
+use std::mem::swap;
+
 // The last index of a page.
 const LAST: usize = 63;
 
+// What is done to an hour: a count is inserted before it, or it is struck.
+#[derive(Clone, Copy)]
+pub enum Edit {
+    Insert(u32),
+    Strike,
+}
+
 // v comes in before index j, and the last count leaves.
+// No rotate_right, nor rotate_left in pull: they take memmove, and the library asks a board for memcpy and memset alone (include/hourlog.h).
 fn push(counts: &mut [u32], j: usize, v: u32)
     requires { (length counts.old ≡ page_hours) × (j < page_hours) }
     ensures { counts.new ≡ pushed counts.old j v }
 {
-    let mut k = j;
     let mut next = v;
-    while k < LAST {
-        let here = counts[k];
-        counts[k] = next;
-        next = here;
-        k = k + 1;
+    for count in &mut counts[j..] {
+        swap(count, &mut next);
     }
-    counts[k] = next;
 }
 
 // Count j leaves, and v comes in at the end.
@@ -29,30 +34,32 @@ fn pull(counts: &mut [u32], j: usize, v: u32)
     requires { (length counts.old ≡ page_hours) × (j < page_hours) }
     ensures { counts.new ≡ pulled counts.old j v }
 {
-    let mut k = j;
-    while k < LAST {
+    for k in j..LAST {
         counts[k] = counts[k + 1];
-        k = k + 1;
     }
-    counts[k] = v;
+    counts[LAST] = v;
 }
 
-// One of the two: of a strike, or of an insert.
-pub fn turn(counts: &mut [u32], strike: bool, j: usize, v: u32)
+// Makes room for v where an hour is inserted, or closes the gap of one that is struck.
+#[tactic(auto, unfolding(crate::specs::Code::Turned::turned))]
+pub fn turn(counts: &mut [u32], edit: Edit, j: usize, v: u32)
     requires { (length counts.old ≡ page_hours) × (j < page_hours) }
-    ensures { counts.new ≡ turned strike counts.old j v }
+    ensures { counts.new ≡ turned edit counts.old j v }
 {
-    if strike {
-        pull(counts, j, v);
-        return;
+    match edit {
+        Edit::Insert(_) => push(counts, j, v),
+        Edit::Strike => pull(counts, j, v),
     }
-    push(counts, j, v);
 }
 
 // The index of the count that leaves.
-pub fn leaves_at(strike: bool, j: usize) -> usize
+#[tactic(auto, unfolding(crate::specs::Code::Turned::leaving_index))]
+pub fn leaves_at(edit: Edit, j: usize) -> usize
     requires { j < page_hours }
-    ensures { (result ≡ leaving_index strike j) × (result < page_hours) }
+    ensures { (result ≡ leaving_index edit j) × (result < page_hours) }
 {
-    if strike { j } else { LAST }
+    match edit {
+        Edit::Insert(_) => LAST,
+        Edit::Strike => j,
+    }
 }

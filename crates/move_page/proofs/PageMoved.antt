@@ -60,7 +60,7 @@ module _ {s : List ℕ} {base : ℕ} {c : PageMove} {hours : ℕ} (q : Movable s
   lp = omega (arith, q.inside, f.pages-are)
 
   own : page zs p ≡ counts_after s c
-  own = repaged-own P (list_in s) p (counts_after s c) lp (turned-length c.strike x c.at c.count (page-length (list_in s) p) q.within)
+  own = repaged-own P (list_in s) p (counts_after s c) lp (turned-length c.edit x c.at c.count (page-length (list_in s) p) q.within)
 
   off : OffPage (list_in s) zs p
   off = repaged-off P (list_in s) p (counts_after s c) g.hours
@@ -88,15 +88,15 @@ module _ {s : List ℕ} {base : ℕ} {c : PageMove} {hours : ℕ} (q : Movable s
 
   -- what the code has read and worked out
   module _ {e before : ℕ} (ee : e ≡ entry_at p) (eb : before ≡ number_at s e 4) {counts : List ℕ} (ec : counts ≡ x) {leaves : ℕ}
-      (el : leaves ≡ leaving_index c.strike c.at) where
+      (el : leaves ≡ leaving_index c.edit c.at) where
     before-is : before ≡ sum x
     before-is = sum-read s p _ _ ee eb ∙ f.sums p q.inside
 
-    out-is : get_or counts leaves 0 ≡ get_or x (leaving_index c.strike c.at) 0
+    out-is : get_or counts leaves 0 ≡ get_or x (leaving_index c.edit c.at) 0
     out-is = ap₂ (λ (u : List ℕ) (z : ℕ). get_or u z 0) ec el
 
     pub out-low : get_or counts leaves 0 ≤ before
-    out-low = omega (arith, out-is, before-is, get_d_le x (leaving_index c.strike c.at))
+    out-low = omega (arith, out-is, before-is, get_d_le x (leaving_index c.edit c.at))
 
     pub sum-now : before - get_or counts leaves 0 + c.count ≡ sum (counts_after s c)
     sum-now =
@@ -105,7 +105,7 @@ module _ {s : List ℕ} {base : ℕ} {c : PageMove} {hours : ℕ} (q : Movable s
           out-is,
           before-is,
           out-low,
-          turned-sum c.strike x c.at c.count (page-length (list_in s) p) q.within,
+          turned-sum c.edit x c.at c.count (page-length (list_in s) p) q.within,
         )
 
     module _ {turned : List ℕ} (et : turned ≡ counts_after s c) {code : List ℕ} {sum' : ℕ} (es : sum' ≡ before - get_or counts leaves 0 + c.count)

@@ -1,22 +1,22 @@
 // One page of a store whose hours move by one place: read, turned and written again, with the cells that it is to have.
 #![tactic(auto)]
 
-ghost use Rattle.sum_table.specs.Code.Sums.{Sums};
 ghost use Rattle.move_page.specs.Code.Move.{Movable, Moved};
 
-use bits::numbers::get4;
+use bits::numbers::get;
 use chains::rewrite::{PageChange, rewrite};
-use move_counts::{leaves_at, turn};
+use move_counts::{Edit, leaves_at, turn};
 use pages::code::code_of;
 use pages::counts::counts_in;
 use store::header::entry_at;
+use sum_table::SumTable;
 
-// A page that moves: its number, whether an hour is struck or inserted, the index from which its counts move, the count that comes in, and
-// the cells that it has and is to have.
+// A page that moves: its number, what is done, the index from which its counts move, the count that comes in, and the cells that it has and is
+// to have.
 #[derive(Clone, Copy)]
 pub struct PageMove {
     pub page: usize,
-    pub strike: bool,
+    pub edit: Edit,
     pub at: usize,
     pub count: u32,
     pub old: usize,
@@ -25,19 +25,18 @@ pub struct PageMove {
 
 // Moves the page's counts by one place. Between two pages the header says 64 hours for each page: so none is cut off. The table of small sums is
 // lent, as many pages move.
-pub fn move_page(s: &mut [u8], base: usize, c: PageMove, hours: usize, table: &[u8; 864])
-    requires movable { Movable s.old base c hours }
-    requires sums { Sums table.now }
+pub fn move_page(s: &mut [u8], base: usize, c: PageMove, hours: usize, table: &SumTable)
+    requires { Movable s.old base c hours }
     ensures { Moved s.old c s.new }
 {
     let page = c.page;
     let at = c.at;
     let old = c.old;
-    let before = get4(s, entry_at(page));
+    let before = get::<4>(s, entry_at(page));
     let mut counts = counts_in(s, base, page, before, old, table);
-    let leaves = leaves_at(c.strike, at);
+    let leaves = leaves_at(c.edit, at);
     let sum = before - counts[leaves] as u64 + c.count as u64;
-    turn(&mut counts, c.strike, at, c.count);
+    turn(&mut counts, c.edit, at, c.count);
     let code = code_of(counts, sum);
     let change = PageChange {
         page,

@@ -1,15 +1,15 @@
 -- A pass over the pages that move, in the numbers that the code has. Assumes nothing.
-use mathlib.Core.Path.{◌≡◌, sym, ap, ap₂, subst, subst₂, ◌∙◌}
-use mathlib.Core.Bool.{Bool, true, false}
+use mathlib.Core.Path.{◌≡◌, refl, sym, ap, ap₂, subst, subst₂, ◌∙◌}
+use mathlib.Core.Bool.{Bool, true, false, not, beq}
 use mathlib.Core.List.{List}
 use mathlib.Core.Logic.{inl}
 use Prim.Native.Nat.{ℕ, ◌+◌, ◌-◌, ◌*◌, ◌≤◌, ◌<◌}
 use native.Mathlib.Numerals.{add-one}
 use native.Mathlib.Omega.{arith}
 use lib.ListN.{length, get_or}
-use lib.Dec.{leb, ltb}
-use borrow.Author.Tests.{leb-false, leb-true, ltb-false, ltb-true}
-use Rattle.lists.specs.Lists.{pick, sum}
+use lib.Dec.{ltb}
+use borrow.Author.Tests.{ltb-false, ltb-true}
+use Rattle.lists.specs.Lists.{sum}
 use Rattle.bits.specs.Numbers.{number_at}
 use Rattle.store.specs.PageCode.{cells}
 use Rattle.store.specs.Plain.{need, page}
@@ -30,23 +30,44 @@ use Rattle.move_counts.specs.Code.Turned.{turned}
 use Rattle.move_page.specs.declared.PageMove.{PageMove}
 use Rattle.move_page.specs.Code.Move.{Movable, Moved, counts_after}
 use Rattle.move_plan.specs.declared.shift.Shift.{Shift}
+use Rattle.move_pages.specs.declared.Plan.{Plan}
 use Rattle.move_plan.specs.Code.Plan.{comes_to, near, shifted}
 use Rattle.move_plan.proofs.PlanSteps.{asked-few, had-few}
 use Rattle.move_plan.proofs.Shifting.{near-low}
 use Rattle.move_pages.specs.Code.Pass.{Enough, Settles, Stands}
 
 -- the test of a page
-pub due-yes : (late : Bool) (old new : ℕ) {r : Bool} → r ≡ pick late (ltb old new) (leb new old) → r ≡ true → Due late old new
-unfolding pick
-due-yes true old new e t = ltb-true old new (sym e ∙ t)
-due-yes false old new e t = leb-true new old (sym e ∙ t)
+pub due-yes : (late : Bool) (old new : ℕ) → not (beq late (ltb old new)) ≡ false → Due late old new
+due-yes late old new e = go late (ltb old new) refl e
+  where
+    go : (l b : Bool) → ltb old new ≡ b → not (beq l b) ≡ false → Due l old new
+    go true true q f = ltb-true old new q
+    go true false q f = cc
+    go false true q f = cc
+    go false false q f = ltb-false old new q
 
-pub due-no : (late : Bool) (old new : ℕ) {r : Bool} → r ≡ pick late (ltb old new) (leb new old) → r ≡ false → NotDue late old new
-unfolding pick
-due-no true old new e t = ltb-false old new (sym e ∙ t)
-due-no false old new e t = leb-false new old (sym e ∙ t)
+pub due-no : (late : Bool) (old new : ℕ) → not (beq late (ltb old new)) ≡ true → NotDue late old new
+due-no late old new e = go late (ltb old new) refl e
+  where
+    go : (l b : Bool) → ltb old new ≡ b → not (beq l b) ≡ true → NotDue l old new
+    go true true q f = cc
+    go true false q f = ltb-false old new q
+    go false true q f = ltb-true old new q
+    go false false q f = cc
 
-module _ {z : List ℕ} {base : ℕ} {m : Shift} {leaving old new : List ℕ} {hours : ℕ} (h : Enough z base m leaving old new hours) where
+module _ {z : List ℕ} {plan : Plan} (h : Enough z plan) where
+  abbrev m : Shift
+  m = plan.shift
+
+  abbrev leaving : List ℕ
+  leaving = plan.leaving.now
+
+  abbrev old : List ℕ
+  old = plan.old.now
+
+  abbrev new : List ℕ
+  new = plan.new.now
+
   abbrev w₀ : Model
   w₀ = read z
 
@@ -101,11 +122,11 @@ module _ {z : List ℕ} {base : ℕ} {m : Shift} {leaving old new : List ℕ} {h
 
       module _ {a c o n : ℕ} (ea : a ≡ near m p) (ec : c ≡ comes_to m leaving p) (eo : o ≡ get_or old p 0) (en : n ≡ get_or new p 0) where
         abbrev ch : PageMove
-        ch = record { page = p; strike = m.strike; at = a; count = c; old = o; new = n }
+        ch = record { page = p; edit = m.edit; at = a; count = c; old = o; new = n }
 
         after_is : counts_after s ch ≡ page ys p
         after_is =
-            ap (λ (u : List ℕ). turned m.strike u a c) page-same ∙ ap₂ (turned m.strike (page xs p)) ea ec
+            ap (λ (u : List ℕ). turned m.edit u a c) page-same ∙ ap₂ (turned m.edit (page xs p)) ea ec
             ∙ sym (h.shiftable.moves p lo hi leaving h.leaves)
 
         old-as : o ≡ wanted xs p
@@ -125,7 +146,7 @@ module _ {z : List ℕ} {base : ℕ} {m : Shift} {leaving old new : List ℕ} {h
             let r = moving-room w₀ ys g cells-enough h.shiftable.total late p lp d in
             omega (arith, l, r, hf.free-is, ap (λ (v : Model). length v.spare) says)
 
-        pub movable : Movable s base ch hours
+        pub movable : Movable s plan.base ch plan.all
         movable = record {
           holds = holds;
           base-is = h.base-is ∙ ap cells_start (f.pages-are ∙ sym pages-same);
@@ -188,7 +209,7 @@ module _ {z : List ℕ} {base : ℕ} {m : Shift} {leaving old new : List ℕ} {h
       ∙ ap (λ (n : ℕ). bytes_of (moving late w₀ ys n)) k
 
   -- ---- from the store to the store
-  pub all-begins : {t : List ℕ} → t ≡ put z 12 4 hours → Stands z m false 0 t
+  pub all-begins : {t : List ℕ} → t ≡ put z 12 4 plan.all → Stands z m false 0 t
   all-begins e =
       e ∙ ap (put z 12 4) (h.hours-are ∙ ap (λ (v : ℕ). 64 * v) f.pages-are)
       ∙ moving-begins w₀ ys g cells-enough h.shiftable.total z (spread-of z w₀ g.rows f.holds)

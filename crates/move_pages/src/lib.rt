@@ -2,101 +2,67 @@
 // its cells back before a page of the late pass takes some.
 #![tactic(auto)]
 
-ghost use Rattle.std.specs.Prelude.{◌≡◌, ◌+◌, ◌≤◌, ◌<◌, leb, ltb, length};
-ghost use Rattle.lists.specs.Lists.{pick};
+ghost use Rattle.std.specs.Prelude.{◌≡◌, ◌+◌, ◌≤◌, ◌<◌, length};
 ghost use Rattle.store.specs.Reading.{list_in};
-ghost use Rattle.sum_table.specs.Code.Sums.{Sums};
 ghost use Rattle.move_plan.specs.Code.Plan.{shifted};
 ghost use Rattle.move_pages.specs.Code.Pass.{Enough, PassTo, Settles, Some, pages_in};
 
-use chains::numbers::put_four;
+use chains::numbers::put;
 use move_page::{PageMove, move_page};
-use move_plan::shift::{Shift, coming, near};
+use move_plan::shift::Shift;
+use sum_table::SumTable;
 
-// Whether a page is to move in this pass, from the cells that it has and is to have.
-fn due(late: bool, old: usize, new: usize) -> bool
-    ensures { result ≡ pick late (ltb old new) (leb new old) }
-{
-    if late {
-        return old < new;
-    }
-    new <= old
+// What is worked out before anything is written: where the cells start, the shift, and for each page, at its number, the count that leaves it
+// and the cells that it has and is to have. Meanwhile the header says that all the hours of all pages are logged, so that no page is cut off.
+#[derive(Clone, Copy)]
+pub struct Plan<'a> {
+    pub base: usize,
+    pub shift: Shift,
+    pub leaving: &'a [u32],
+    pub old: &'a [u8],
+    pub new: &'a [u8],
+    pub all: usize,
 }
 
-// Page p in its turn. The store is one between two pages of the shift.
-fn pass_page(
-    s: &mut [u8],
-    base: usize,
-    m: Shift,
-    leaving: &[u32],
-    old: &[u8],
-    new: &[u8],
-    hours: usize,
-    late: bool,
-    p: usize,
-    table: &[u8; 864],
-)
-    requires { Some base m leaving.now old.now new.now hours late p s.old × (m.first ≤ p) × (p < m.end) × Sums table.now }
-    ensures { PassTo base m leaving.now old.now new.now hours late p (λ _. p + 1) s.old s.new }
+// Page p in its turn: one that grows is due in the late pass, any other in the first. The store is one between two pages of the shift.
+fn pass_page(s: &mut [u8], plan: Plan, late: bool, p: usize, table: &SumTable)
+    requires { Some plan late p s.old × (plan.shift.first ≤ p) × (p < plan.shift.end) }
+    ensures { PassTo plan.entry late p (λ _. p + 1) s.old s.new }
 {
-    let has = old[p] as usize;
-    let gets = new[p] as usize;
-    if !due(late, has, gets) {
+    let has = plan.old[p] as usize;
+    let gets = plan.new[p] as usize;
+    if late != (has < gets) {
         return;
     }
     let change = PageMove {
         page: p,
-        strike: m.strike,
-        at: near(m, p),
-        count: coming(m, leaving, p),
+        edit: plan.shift.edit,
+        at: plan.shift.near(p),
+        count: plan.shift.coming(plan.leaving, p),
         old: has,
         new: gets,
     };
-    move_page(s, base, change, hours, table);
+    move_page(s, plan.base, change, plan.all, table);
 }
 
 // One pass, over all pages that move.
-fn pass(
-    s: &mut [u8],
-    base: usize,
-    m: Shift,
-    leaving: &[u32],
-    old: &[u8],
-    new: &[u8],
-    hours: usize,
-    late: bool,
-    table: &[u8; 864],
-)
-    requires some { Some base m leaving.now old.now new.now hours late 0 s.old }
-    requires sums { Sums table.now }
-    ensures { PassTo base m leaving.now old.now new.now hours late 0 pages_in s.old s.new }
+fn pass(s: &mut [u8], plan: Plan, late: bool, table: &SumTable)
+    requires { Some plan late 0 s.old }
+    ensures { PassTo plan.entry late 0 pages_in s.old s.new }
 {
-    let end = m.end;
-    let mut p = m.first;
-    while p < end {
-        pass_page(s, base, m, leaving, old, new, hours, late, p, table);
-        p = p + 1;
+    for p in plan.shift.first..plan.shift.end {
+        pass_page(s, plan, late, p, table);
     }
 }
 
-// Both passes. Meanwhile the header says that all the hours of all pages are logged, so that no page is cut off.
-pub fn move_all(
-    s: &mut [u8],
-    base: usize,
-    m: Shift,
-    leaving: &[u32],
-    old: &[u8],
-    new: &[u8],
-    all: usize,
-    hours: usize,
-)
-    requires { Enough s.old base m leaving.now old.now new.now all × (hours ≡ length (shifted m (list_in s.old))) }
-    ensures { Settles s.old m s.new }
+// Both passes, and then the hours that are logged.
+pub fn move_all(s: &mut [u8], plan: Plan, hours: usize)
+    requires { Enough s.old plan × (hours ≡ length (shifted plan.shift (list_in s.old))) }
+    ensures { Settles s.old plan.entry.shift s.new }
 {
-    let mut table = [0u8; 864];
-    sum_table::put_sums(&mut table);
-    put_four(s, 12, all as u64);
-    pass(s, base, m, leaving, old, new, all, false, &table);
-    pass(s, base, m, leaving, old, new, all, true, &table);
-    put_four(s, 12, hours as u64);
+    let table = SumTable::new();
+    put::<4>(s, 12, plan.all as u64);
+    pass(s, plan, false, &table);
+    pass(s, plan, true, &table);
+    put::<4>(s, 12, hours as u64);
 }

@@ -40,7 +40,7 @@ step-at f l a p v lp h e q la lq = go (ℕ_discrete q p)
 pub leaves-next : (m : Shift) (xs l : List ℕ) (p v : ℕ) → p < length l → Leaves m xs l p → v ≡ leaves_page m xs p → Leaves m xs (set l p v) (p + 1)
 leaves-next m xs l p v = step-at (leaves_page m xs) l m.first p v
 
-pub leaves-is : (m : Shift) (xs : List ℕ) (p : ℕ) {v : ℕ} → v ≡ get_or (page xs p) (leaving_index m.strike (near m p)) 0 → v ≡ leaves_page m xs p
+pub leaves-is : (m : Shift) (xs : List ℕ) (p : ℕ) {v : ℕ} → v ≡ get_or (page xs p) (leaving_index m.edit (near m p)) 0 → v ≡ leaves_page m xs p
 unfolding leaves_page
 leaves-is m xs p e = e
 
@@ -85,12 +85,12 @@ module _ {s : List ℕ} {m : Shift} (h : Shiftable s m) where
 
     -- a count leaves, a count comes in
     module _ (lo : m.first ≤ p) (leaving : List ℕ) (hl : Leaves m xs leaving m.end) {c : ℕ} (ec : c ≡ comes_to m leaving p) where
-      out : get_or leaving p 0 ≡ get_or (page xs p) (leaving_index m.strike (near m p)) 0
+      out : get_or leaving p 0 ≡ get_or (page xs p) (leaving_index m.edit (near m p)) 0
       unfolding leaves_page
       out = hl p lo lp
 
       pub out-low : get_or leaving p 0 ≤ r
-      out-low = omega (arith, out, sum-page, get_d_le (page xs p) (leaving_index m.strike (near m p)))
+      out-low = omega (arith, out, sum-page, get_d_le (page xs p) (leaving_index m.edit (near m p)))
 
       pub sum-after : r - get_or leaving p 0 + c ≡ sum (page ys p)
       sum-after =
@@ -101,7 +101,7 @@ module _ {s : List ℕ} {m : Shift} (h : Shiftable s m) where
             sum-page,
             ec,
             ap sum (h.moves p lo lp leaving hl),
-            turned-sum m.strike (page xs p) (near m p) (comes_to m leaving p) (page-length xs p) (near-low m p h.within),
+            turned-sum m.edit (page xs p) (near m p) (comes_to m leaving p) (page-length xs p) (near-low m p h.within),
           )
 
       pub after-fits : r - get_or leaving p 0 + c ≤ max_total

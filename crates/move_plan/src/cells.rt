@@ -3,8 +3,8 @@ ghost use Rattle.std.specs.Prelude.{◌≤◌, length};
 ghost use Rattle.store.specs.Reading.{list_in};
 ghost use Rattle.move_plan.specs.Code.Plan.{Counted, Leaves, Needs, Shiftable, shifted};
 
-use crate::shift::{Shift, coming};
-use bits::numbers::get4;
+use crate::shift::Shift;
+use bits::numbers::get;
 use store::cells::cells_of;
 use store::header::entry_at;
 
@@ -22,17 +22,14 @@ pub fn size_up(s: &[u8], m: Shift, leaving: &[u32], old: &[u8], new: &mut [u8]) 
     ensures needs { Needs s.now m result.had result.asked }
     ensures counted { Counted m (shifted m (list_in s.now)) new.new m.end }
 {
-    let end = m.end;
     let mut had = 0;
     let mut asked = 0;
-    let mut p = m.first;
-    while p < end {
-        let sum = get4(s, entry_at(p)) - leaving[p] as u64 + coming(m, leaving, p) as u64;
+    for p in m.first..m.end {
+        let sum = get::<4>(s, entry_at(p)) - leaving[p] as u64 + m.coming(leaving, p) as u64;
         let k = cells_of(sum);
         new[p] = k as u8;
-        had = had + old[p] as usize;
-        asked = asked + k;
-        p = p + 1;
+        had += old[p] as usize;
+        asked += k;
     }
     Cells { had, asked }
 }

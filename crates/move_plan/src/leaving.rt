@@ -7,8 +7,8 @@ ghost use Rattle.store.specs.Reading.{list_in, page_count_of};
 ghost use Rattle.store.specs.Code.Hours.{OfPage};
 ghost use Rattle.move_plan.specs.Code.Plan.{Counted, Leaves, Shiftable};
 
-use crate::shift::{Shift, near};
-use bits::numbers::get4;
+use crate::shift::Shift;
+use bits::numbers::get;
 use move_counts::leaves_at;
 use pages::gather::gather_at;
 use store::cells::cells_of;
@@ -30,14 +30,11 @@ pub fn look_up(s: &[u8], base: usize, m: Shift, leaving: &mut [u32], old: &mut [
     ensures leaves { Leaves m (list_in s.now) leaving.new m.end }
     ensures counted { Counted m (list_in s.now) old.new m.end }
 {
-    let end = m.end;
-    let mut p = m.first;
-    while p < end {
-        let sum = get4(s, entry_at(p));
+    for p in m.first..m.end {
+        let sum = get::<4>(s, entry_at(p));
         let k = cells_of(sum);
-        let j = leaves_at(m.strike, near(m, p));
+        let j = leaves_at(m.edit, m.near(p));
         leaving[p] = count_of(s, base, p, sum, k, j);
         old[p] = k as u8;
-        p = p + 1;
     }
 }

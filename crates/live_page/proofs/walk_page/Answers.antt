@@ -12,9 +12,9 @@ gather_at-code-requires c = as_said c.entry_of-e.ensures
 pub walk-requires : goal.walk-requires
 walk-requires c =
     let o = c.entry_of-e.ensures in
-    (lies c.gather_at-code.result _ (omega arith) (sum-small o), omega (arith, sum-small o), c.requires.4)
+    (lies c.gather_at-code.result _ (omega arith) (sum-small o), omega (arith, sum-small o), c.requires.3)
 
 pub returns : goal.returns
 returns c =
     c.walk.ensures ∙ walk-told c.entry_of-e.ensures c.gather_at-code.ensures c.args.j c.args.acc
-    c.args.keep c.requires.2
+    c.args.keep c.requires.1

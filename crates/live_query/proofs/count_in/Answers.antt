@@ -7,9 +7,9 @@ use Rattle.live_query.proofs.count_in.Goals as goal
 
 pub walk_page-requires : goal.walk_page-requires
 walk_page-requires c =
-    (c.requires.0, omega (arith, (facts c.args.s.now c.requires.0).hours-fit), omega arith, omega arith, omega arith)
+    (omega (arith, (facts c.args.s.bytes.now c.args.s.is_sound).hours-fit), omega arith, omega arith, omega arith)
 
 pub returns : goal.returns
 returns c =
     let a = c.args in
-    omega (arith, c.walk_page.ensures, page-hour (list_in a.s.now) a.i)
+    omega (arith, c.walk_page.ensures, page-hour (list_in a.s.bytes.now) a.i)

@@ -5,11 +5,11 @@ use Rattle.live_page.proofs.Questions.{reading-7, reading-is}
 use Rattle.live_query.proofs.reading.Goals as goal
 
 pub of-head-requires : goal.of-head-requires
-of-head-requires c = omega (arith, (facts c.args.s.now c.requires).long)
+of-head-requires c = omega (arith, (facts c.args.s.bytes.now c.args.s.is_sound).long)
 
 pub returns-then-head-i : goal.returns-then-head-i
-returns-then-head-i c = reading-7 c.requires c.of-head.ensures _ c.if-head-i.true
+returns-then-head-i c = reading-7 c.args.s.is_sound c.of-head.ensures _ c.if-head-i.true
 
 pub returns : goal.returns
 returns c =
-    reading-is c.requires c.of-head.ensures _ _ c.if-head-i.false c.reading_in.ensures
+    reading-is c.args.s.is_sound c.of-head.ensures _ _ c.if-head-i.false c.reading_in.ensures

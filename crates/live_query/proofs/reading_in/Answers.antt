@@ -10,19 +10,18 @@ use Rattle.live_query.proofs.reading_in.Goals as goal
 
 pub before-all-requires : goal.before-all-requires
 before-all-requires c =
-    (c.requires.0, omega (arith, (facts c.args.s.now c.requires.0).hours-fit))
+    (c.args.s.is_sound, omega (arith, (facts c.args.s.bytes.now c.args.s.is_sound).hours-fit))
 
 pub returns-then-j-eq0 : goal.returns-then-j-eq0
 returns-then-j-eq0 c =
     let a = c.args in
-    c.before-all.ensures ∙ reading-first (list_in a.s.now) a.i (omega arith)
+    c.before-all.ensures ∙ reading-first (list_in a.s.bytes.now) a.i (omega arith)
 
 pub walk_page-requires : goal.walk_page-requires
 walk_page-requires c = (
-  c.requires.0,
-  omega (arith, (facts c.args.s.now c.requires.0).hours-fit),
+  omega (arith, (facts c.args.s.bytes.now c.args.s.is_sound).hours-fit),
   omega arith,
-  omega (arith, before-fits c.args.s.now c.requires.0 (64 * (c.args.i / 64)), c.before-all.ensures),
+  omega (arith, before-fits c.args.s.bytes.now c.args.s.is_sound (64 * (c.args.i / 64)), c.before-all.ensures),
   omega arith,
 )
 
@@ -30,5 +29,5 @@ pub returns : goal.returns
 returns c =
     let a = c.args in
     let l : 1 ≤ a.i % 64 = omega arith in
-    reading-inside (list_in a.s.now) a.i c.walk_page.result l
+    reading-inside (list_in a.s.bytes.now) a.i c.walk_page.result l
     (omega (arith, c.walk_page.ensures, c.before-all.ensures))

@@ -8,41 +8,41 @@ use Rattle.live_search.proofs.page_of.Goals as goal
 pub entry_at-requires : goal.entry_at-requires
 entry_at-requires c = omega arith
 
-pub get4-all-requires : goal.get4-all-requires
-get4-all-requires c =
-    let f = facts c.args.s.now c.requires.0 in
+pub get-all-requires-clause-in_bounds : goal.get-all-requires-clause-in_bounds
+get-all-requires-clause-in_bounds c =
+    let f = facts c.args.s.bytes.now c.args.s.is_sound in
     omega (arith, f.long, f.pages-low, c.entry_at.ensures)
 
 pub loop-before-init : goal.loop-before-init
 loop-before-init c =
-    starts c.args.s.now c.requires.0 c.args.q _ _ c.requires.1 c.entry_at.ensures c.get4-all.ensures.is
+    starts c.args.s.bytes.now c.args.s.is_sound c.args.q _ _ c.requires.0 c.entry_at.ensures c.get-all.ensures.is
 
 pub overflow_add-before : goal.overflow_add-before
 overflow_add-before c =
     let l = c.loop-before in
-    omega (arith, small c.args.s.now c.requires.0 c.args.q c.requires.2 l.page l.before l.all l.invariant)
+    omega (arith, small c.args.s.bytes.now c.args.s.is_sound c.args.q c.requires.1 l.page l.before l.all l.invariant)
 
 pub overflow_add-before-in-loop-before : goal.overflow_add-before-in-loop-before
 overflow_add-before-in-loop-before c =
     let l = c.loop-before in
-    omega (arith, small c.args.s.now c.requires.0 c.args.q c.requires.2 l.page l.before l.all l.invariant)
+    omega (arith, small c.args.s.bytes.now c.args.s.is_sound c.args.q c.requires.1 l.page l.before l.all l.invariant)
 
 pub overflow_add-page : goal.overflow_add-page
 overflow_add-page c =
     let l = c.loop-before in
-    omega (arith, (facts c.args.s.now c.requires.0).pages-high, l.invariant.inside)
+    omega (arith, (facts c.args.s.bytes.now c.args.s.is_sound).pages-high, l.invariant.inside)
 
 pub entry_at-requires-in-loop-before : goal.entry_at-requires-in-loop-before
 entry_at-requires-in-loop-before c =
     let l = c.loop-before in
-    omega (arith, (facts c.args.s.now c.requires.0).pages-high, l.invariant.inside)
+    omega (arith, (facts c.args.s.bytes.now c.args.s.is_sound).pages-high, l.invariant.inside)
 
-pub get4-all-requires-in-loop-before : goal.get4-all-requires-in-loop-before
-get4-all-requires-in-loop-before c =
+pub get-all-requires-in-loop-before-clause-in_bounds : goal.get-all-requires-in-loop-before-clause-in_bounds
+get-all-requires-in-loop-before-clause-in_bounds c =
     let l = c.loop-before in
     let i : l.before + l.all < c.args.q = omega arith in
-    let m = more c.args.s.now c.requires.0 c.args.q c.requires.2 l.page l.before l.all l.invariant i in
-    omega (arith, (facts c.args.s.now c.requires.0).long, m, c.entry_at-in-loop-before.ensures)
+    let m = more c.args.s.bytes.now c.args.s.is_sound c.args.q c.requires.1 l.page l.before l.all l.invariant i in
+    omega (arith, (facts c.args.s.bytes.now c.args.s.is_sound).long, m, c.entry_at-in-loop-before.ensures)
 
 pub loop-before-smaller : goal.loop-before-smaller
 loop-before-smaller c =
@@ -53,8 +53,8 @@ pub loop-before-preserved : goal.loop-before-preserved
 loop-before-preserved c =
     let l = c.loop-before in
     let i : l.before + l.all < c.args.q = omega arith in
-    goes c.args.s.now c.requires.0 c.args.q c.requires.2 l.page l.before l.all l.invariant _ _ i
-    c.entry_at-in-loop-before.ensures c.get4-all-in-loop-before.ensures.is
+    goes c.args.s.bytes.now c.args.s.is_sound c.args.q c.requires.1 l.page l.before l.all l.invariant _ _ i
+    c.entry_at-in-loop-before.ensures c.get-all-in-loop-before.ensures.is
 
 pub overflow_sub-result : goal.overflow_sub-result
 overflow_sub-result c = omega (arith, c.loop-before.invariant.below)
@@ -63,4 +63,4 @@ pub returns : goal.returns
 returns c =
     let l = c.loop-before in
     let i : c.args.q ≤ l.before + l.all = omega arith in
-    stops c.args.s.now c.requires.0 c.args.q c.requires.2 l.page l.before l.all l.invariant i
+    stops c.args.s.bytes.now c.args.s.is_sound c.args.q c.requires.1 l.page l.before l.all l.invariant i

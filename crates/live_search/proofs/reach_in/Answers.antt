@@ -11,19 +11,19 @@ use Rattle.live_search.proofs.reach_in.Goals as goal
 
 pub returns-then-q-eq0 : goal.returns-then-q-eq0
 returns-then-q-eq0 c =
-    let xs = list_in c.args.s.now in
+    let xs = list_in c.args.s.bytes.now in
     sym (reached-zero xs) ∙ ap (λ (z : ℕ). reached z xs) (sym c.if-q-eq0.true)
 
 pub overflow_mul-spot : goal.overflow_mul-spot
 overflow_mul-spot c =
-    omega (arith, (facts c.args.s.now c.requires.0).pages-high, c.page_of-spot.ensures.inside)
+    omega (arith, (facts c.args.s.bytes.now c.args.s.is_sound).pages-high, c.page_of-spot.ensures.inside)
 
 pub search_page-requires : goal.search_page-requires
 search_page-requires c =
     let w = c.page_of-spot.ensures in
-    record { s_value = (c.requires.0, w.inside, omega (arith, (facts c.args.s.now c.requires.0).pages-high, w.inside)); le_q = (w.some, w.enough) }
+    record { inside = (w.inside, omega (arith, (facts c.args.s.bytes.now c.args.s.is_sound).pages-high, w.inside)); le_q = (w.some, w.enough) }
 
 pub returns : goal.returns
 returns c =
     let a = c.args in
-    spot-reached (list_in a.s.now) _ a.q _ _ _ c.page_of-spot.ensures c.search_page.ensures
+    spot-reached (list_in a.s.bytes.now) _ a.q _ _ _ c.page_of-spot.ensures c.search_page.ensures

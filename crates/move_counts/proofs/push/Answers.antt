@@ -1,23 +1,31 @@
--- `move_counts::push` meets its contract. The loop's invariant: what is left to do gives what all of it gives. Assumes nothing.
-use mathlib.Core.Path.{◌≡◌, refl, sym, ap, ◌∙◌}
-use Prim.Native.Nat.{ℕ}
+-- `move_counts::push` meets its contract. Assumes nothing.
+use mathlib.Core.Path.{◌≡◌, refl, ap, ◌∙◌}
+use mathlib.Core.List.{List, [], ◌∷◌, ◌++◌, append-nil}
+use Prim.Native.Nat.{ℕ, ◌-◌}
 use native.Mathlib.Omega.{arith}
-use lib.ListN.{length, set, length-set}
-use Rattle.move_counts.specs.Code.Turned.{pushed}
-use Rattle.move_counts.proofs.Turning.{push-last, push-on}
+use lib.ListN.{drop_of_length-le, length, take, drop, length-drop, length-take}
+use lib.Seq.{take_all}
+use Rattle.store.specs.Plain.{inserted}
+use Rattle.move_counts.proofs.Turning.{hand-last, hand-on}
 use Rattle.move_counts.proofs.push.Goals as goal
 
-pub loop-k-init : goal.loop-k-init
-loop-k-init c = (omega arith, refl, refl)
+pub loop-count-init : goal.loop-count-init
+unfolding inserted
+loop-count-init c = refl
 
-pub loop-k-preserved : goal.loop-k-preserved
-loop-k-preserved c =
-    let l = c.loop-k in
-    let n : length l.counts ≡ 64 = l.invariant.1 ∙ c.requires.0 in
-    (omega arith, length-set l.counts _ _ ∙ l.invariant.1, l.invariant.2 ∙ push-on l.counts l.k l.next n (omega arith))
+pub loop-count-preserved : goal.loop-count-preserved
+loop-count-preserved c =
+    let l = c.loop-count in
+    rw (c.swap.ensures.x_after, c.swap.ensures.y_after) (hand-on l.count-items l.count-index l.next (omega arith) ∙ l.invariant)
 
 pub returns : goal.returns
 returns c =
-    let l = c.loop-k in
-    let e : l.k ≡ 63 = omega arith in
-    sym (l.invariant.2 ∙ ap (λ (z : ℕ). pushed l.counts z l.next) e ∙ push-last l.counts l.next (l.invariant.1 ∙ c.requires.0) ∙ ap (λ (z : ℕ). set l.counts z l.next) (sym e))
+    let l = c.loop-count in
+    let x : List ℕ = c.args.counts.now in
+    let few : length (drop c.args.j x) ≡ length x - c.args.j = length-drop c.args.j x in
+    let rest : drop (length x - c.args.j) (drop c.args.j x) ≡ [] = drop_of_length-le (drop c.args.j x) (omega arith) in
+    ap (λ (z : List ℕ). take c.args.j x ++ (l.count-items ++ z)) rest
+    ∙ ap (λ (z : List ℕ). take c.args.j x ++ z) (append-nil l.count-items)
+    ∙ hand-last x l.count-items c.args.j c.args.v l.count-index l.next c.requires.0 c.requires.1
+    (omega (arith, length-take (length x - c.args.j) (drop c.args.j x))) (omega arith)
+    (l.invariant ∙ ap (λ (z : List ℕ). c.args.v ∷ z) (take_all (length x - c.args.j) (drop c.args.j x) (omega arith)))

@@ -1,7 +1,8 @@
 -- A page's counts when the hours behind one move by one place. Assumes nothing.
-use Rattle.std.specs.Prelude.{Bool, List, [], ◌∷◌, ◌++◌, ℕ, take}
-use Rattle.lists.specs.Lists.{pick}
+use Rattle.std.specs.Prelude.{List, [], ◌∷◌, ◌++◌, ℕ, take}
 use Rattle.store.specs.Plain.{inserted, struck}
+use Rattle.move_counts.specs.declared.Edit.{Edit}
+use Rattle.move_counts.specs.declared.Edit.TheVariants.{Insert, Strike}
 
 -- v comes in before index j, and the last count leaves
 unfoldable pub pushed : List ℕ → ℕ → ℕ → List ℕ
@@ -11,10 +12,12 @@ pushed x j v = inserted (take 63 x) j v
 unfoldable pub pulled : List ℕ → ℕ → ℕ → List ℕ
 pulled x j v = struck x j ++ v ∷ []
 
--- of a strike the second, of an insert the first
-unfoldable pub turned : Bool → List ℕ → ℕ → ℕ → List ℕ
-turned strike x j v = pick strike (pulled x j v) (pushed x j v)
+-- of an insert the first, of a strike the second
+unfoldable pub turned : Edit → List ℕ → ℕ → ℕ → List ℕ
+turned (Insert n) x j v = pushed x j v
+turned Strike x j v = pulled x j v
 
 -- the index of the count that leaves
-unfoldable pub leaving_index : Bool → ℕ → ℕ
-leaving_index strike j = pick strike j 63
+unfoldable pub leaving_index : Edit → ℕ → ℕ
+leaving_index (Insert n) j = 63
+leaving_index Strike j = j

@@ -1,47 +1,44 @@
 -- `move_page::move_page` meets its contract. Assumes nothing.
-use mathlib.Core.Path.{refl, sym, ap, ◌∙◌}
+use mathlib.Core.Path.{◌≡◌, refl, sym, ap, ◌∙◌}
 use mathlib.Core.List.{List}
 use Prim.Native.Nat.{ℕ}
 use native.Mathlib.Omega.{arith}
 use Rattle.lists.specs.Lists.{sum}
 use Rattle.move_counts.specs.Code.Turned.{turned}
+use Rattle.move_page.specs.Code.Move.{counts_after}
 use Rattle.move_page.proofs.PageMoved.{can-rewrite, moved-now, of-page, out-low, pages-low, size_is, sum-now}
+use Rattle.move_page.proofs.move_page.Goals.{After-turn}
 use Rattle.move_page.proofs.move_page.Goals as goal
 
-pub entry_at-requires : goal.entry_at-requires
-entry_at-requires c = omega (arith, pages-low c.requires.movable, c.requires.movable.inside)
+-- the counts that are written
+turned-now : (c : After-turn) → c.turn.new.counts ≡ counts_after c.args.s.now c.args.c
+turned-now c = c.turn.ensures ∙ ap (λ (z : List ℕ). turned c.args.c.edit z c.args.c.at c.args.c.count) c.counts_in-counts.ensures
 
-pub get4-before-requires : goal.get4-before-requires
-get4-before-requires c = omega (arith, size_is c.requires.movable, c.entry_at.ensures)
+pub entry_at-requires : goal.entry_at-requires
+entry_at-requires c = omega (arith, pages-low c.requires, c.requires.inside)
+
+pub get-before-requires-clause-in_bounds : goal.get-before-requires-clause-in_bounds
+get-before-requires-clause-in_bounds c = omega (arith, size_is c.requires, c.entry_at.ensures)
 
 pub counts_in-counts-requires : goal.counts_in-counts-requires
-counts_in-counts-requires c =
-    (of-page c.requires.movable c.entry_at.ensures c.get4-before.ensures.is, c.requires.sums)
+counts_in-counts-requires c = of-page c.requires c.entry_at.ensures c.get-before.ensures.is
 
 pub overflow_sub-sum : goal.overflow_sub-sum
 overflow_sub-sum c =
-    out-low c.requires.movable c.entry_at.ensures
-    c.get4-before.ensures.is c.counts_in-counts.ensures c.leaves_at-leaves.ensures.0
+    out-low c.requires c.entry_at.ensures c.get-before.ensures.is c.counts_in-counts.ensures c.leaves_at-leaves.ensures.0
 
 pub code_of-code-requires : goal.code_of-code-requires
 code_of-code-requires c =
-    let q = c.requires.movable in
-    let e = c.entry_at.ensures in
-    let g = c.get4-before.ensures.is in
-    let x = c.counts_in-counts.ensures in
-    let j = c.leaves_at-leaves.ensures.0 in
-    let y = c.turn.ensures ∙ ap (λ (z : List ℕ). turned c.args.c.strike z c.args.c.at c.args.c.count) x in
-    let n = sum-now q e g x j in
-    (n ∙ sym (ap sum y), omega (arith, n, q.fits))
+    let q = c.requires in
+    let n = sum-now q c.entry_at.ensures c.get-before.ensures.is c.counts_in-counts.ensures c.leaves_at-leaves.ensures.0 in
+    (n ∙ sym (ap sum (turned-now (goal.at.code_of-code-requires c).After-turn)), omega (arith, n, q.fits))
 
 pub rewrite-requires : goal.rewrite-requires
 rewrite-requires c =
-    let x = c.counts_in-counts.ensures in
-    let y = c.turn.ensures ∙ ap (λ (z : List ℕ). turned c.args.c.strike z c.args.c.at c.args.c.count) x in
-    can-rewrite c.requires.movable c.entry_at.ensures c.get4-before.ensures.is x c.leaves_at-leaves.ensures.0 y refl c.code_of-code.ensures
+    can-rewrite c.requires c.entry_at.ensures c.get-before.ensures.is c.counts_in-counts.ensures c.leaves_at-leaves.ensures.0
+    (turned-now (goal.at.rewrite-requires c).After-turn) refl c.code_of-code.ensures
 
 pub returns : goal.returns
 returns c =
-    let x = c.counts_in-counts.ensures in
-    let y = c.turn.ensures ∙ ap (λ (z : List ℕ). turned c.args.c.strike z c.args.c.at c.args.c.count) x in
-    moved-now c.requires.movable c.entry_at.ensures c.get4-before.ensures.is x c.leaves_at-leaves.ensures.0 y refl c.code_of-code.ensures c.rewrite.ensures
+    moved-now c.requires c.entry_at.ensures c.get-before.ensures.is c.counts_in-counts.ensures c.leaves_at-leaves.ensures.0
+    (turned-now (goal.at.returns c).After-turn) refl c.code_of-code.ensures c.rewrite.ensures

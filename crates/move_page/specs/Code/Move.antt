@@ -14,7 +14,7 @@ use Rattle.move_page.specs.declared.PageMove.{PageMove}
 
 -- the page's counts afterwards
 abbrev pub counts_after : List ℕ → PageMove → List ℕ
-counts_after s c = turned c.strike (page (list_in s) c.page) c.at c.count
+counts_after s c = turned c.edit (page (list_in s) c.page) c.at c.count
 
 -- what is asked: the page is there and has its cells, its counts fit afterwards, and there are the cells that they need
 pub record Movable (s : List ℕ) (base : ℕ) (c : PageMove) (hours : ℕ) : Type 0 where

@@ -17,29 +17,29 @@ look_up-requires c =
     let h = c.requires.0 in
     record { shiftable = (h, c.cells_from-base.ensures ∙ ap cells_start c.of-head.ensures.pages-is); end_in_bounds = (pages-few h, pages-few h) }
 
-pub size_up-cells-requires : goal.size_up-cells-requires
-size_up-cells-requires c =
+pub size_up-had-requires : goal.size_up-had-requires
+size_up-had-requires c =
     let h = c.requires.0 in
     let w = c.look_up in
     record { shiftable = (h, omega (arith, pages-few h, w.auto.leaving), omega (arith, pages-few h, w.auto.old), pages-few h); leaves = (w.ensures.leaves, w.ensures.counted) }
 
 pub overflow_add-had : goal.overflow_add-had
-overflow_add-had c = omega (arith, sum-few c.requires.0 c.of-head.ensures c.size_up-cells.ensures.needs)
+overflow_add-had c = omega (arith, sum-few c.requires.0 c.of-head.ensures c.size_up-had.ensures.needs)
 
 pub returns-then-had-head : goal.returns-then-had-head
-returns-then-had-head c = carried-12 c.requires.0 c.of-head.ensures c.size_up-cells.ensures.needs c.if-had-head.true
+returns-then-had-head c = carried-12 c.requires.0 c.of-head.ensures c.size_up-had.ensures.needs c.if-had-head.true
 
 pub move_all-requires : goal.move_all-requires
 move_all-requires c =
     let h = c.requires.0 in
     let w = c.look_up in
-    let n = c.size_up-cells in (
-      enough-now h c.of-head.ensures n.ensures.needs c.if-had-head.false c.cells_from-base.ensures refl w.ensures.leaves w.ensures.counted
+    let n = c.size_up-had in (
+      enough-now h c.of-head.ensures n.ensures.needs c.if-had-head.false _ refl c.cells_from-base.ensures refl w.ensures.leaves w.ensures.counted
           n.ensures.counted (omega (arith, pages-few h, w.auto.leaving)) (omega (arith, pages-few h, w.auto.old)) (omega (arith, pages-few h, n.auto.new)),
       c.requires.1,
     )
 
 pub returns : goal.returns
 returns c =
-    carried-now c.requires.0 c.of-head.ensures c.size_up-cells.ensures.needs c.if-had-head.false c.move_all.ensures c.excess.ensures
-    c.excess-2.ensures
+    carried-now c.requires.0 c.of-head.ensures c.size_up-had.ensures.needs c.if-had-head.false c.move_all.ensures c.saturating_sub.ensures
+    c.saturating_sub-2.ensures

@@ -1,7 +1,6 @@
--- `move_plan::cells::size_up` meets its contract. The loop's invariant: the need of the pages that were passed. Assumes nothing.
-use mathlib.Core.Path.{◌≡◌, refl, ◌∙◌}
+-- `move_plan::cells::size_up` meets its contract. Assumes nothing.
+use mathlib.Core.Path.{refl}
 use native.Mathlib.Omega.{arith}
-use lib.ListN.{length-set}
 use Rattle.store.specs.Reading.{list_in}
 use Rattle.move_plan.specs.Code.Plan.{shifted}
 use Rattle.move_plan.proofs.PlanSteps.{after-fits, cells-asked, counted_next, entry_in, had-few, had-more, need-most}
@@ -10,47 +9,46 @@ use Rattle.move_plan.proofs.cells.size_up.Goals as goal
 
 pub loop-p-init : goal.loop-p-init
 loop-p-init c =
-    let h = c.requires.shiftable.0 in
-    (omega arith, omega (arith, h.some), refl, λ q l r. absurd (omega arith), needs-begin h, omega arith, omega arith)
+    record { counted = λ q l r. absurd (omega arith); moved = needs-begin c.requires.shiftable.0; had-low = omega arith; asked_low = omega arith }
 
 pub entry_at-requires : goal.entry_at-requires
 entry_at-requires c = omega (arith, pages-few c.requires.shiftable.0)
 
-pub get4-requires : goal.get4-requires
-get4-requires c = omega (arith, entry_in c.requires.shiftable.0 c.loop-p.p (omega arith), c.entry_at.ensures)
+pub get-requires-clause-in_bounds : goal.get-requires-clause-in_bounds
+get-requires-clause-in_bounds c = omega (arith, entry_in c.requires.shiftable.0 c.loop-p.p (omega arith), c.entry_at.ensures)
 
 pub overflow_cast-sum : goal.overflow_cast-sum
 overflow_cast-sum c =
     let l = c.loop-p in
     let e = c.entry_at.ensures in
-    let r = c.get4.ensures.is in
-    omega (arith, out-low c.requires.shiftable.0 (omega arith) e r l.invariant.0 c.args.leaving.now c.requires.leaves.0 refl, sum_fits c.requires.shiftable.0 (omega arith) e r)
+    let r = c.get.ensures.is in
+    omega (arith, out-low c.requires.shiftable.0 (omega arith) e r (omega arith) c.args.leaving.now c.requires.leaves.0 refl, sum_fits c.requires.shiftable.0 (omega arith) e r)
 
 pub overflow_sub-sum : goal.overflow_sub-sum
 overflow_sub-sum c =
     let l = c.loop-p in
     let e = c.entry_at.ensures in
-    let r = c.get4.ensures.is in
-    out-low c.requires.shiftable.0 (omega arith) e r l.invariant.0 c.args.leaving.now c.requires.leaves.0 refl
+    let r = c.get.ensures.is in
+    out-low c.requires.shiftable.0 (omega arith) e r (omega arith) c.args.leaving.now c.requires.leaves.0 refl
 
 pub coming-requires : goal.coming-requires
-coming-requires c = (c.loop-p.invariant.0, omega arith, c.requires.shiftable.1)
+coming-requires c = ((omega arith), omega arith, c.requires.shiftable.1)
 
 pub cells_of-k-requires : goal.cells_of-k-requires
 cells_of-k-requires c =
-    after-fits c.requires.shiftable.0 (omega arith) c.entry_at.ensures c.get4.ensures.is c.loop-p.invariant.0 c.args.leaving.now c.requires.leaves.0
+    after-fits c.requires.shiftable.0 (omega arith) c.entry_at.ensures c.get.ensures.is (omega arith) c.args.leaving.now c.requires.leaves.0
     c.coming.ensures
 
 pub overflow_cast-had : goal.overflow_cast-had
 overflow_cast-had c =
     let l = c.loop-p in
-    let o = c.requires.leaves.1 l.p l.invariant.0 (omega arith) in
+    let o = c.requires.leaves.1 l.p (omega arith) (omega arith) in
     omega (arith, o, had-few c.requires.shiftable.0 l.p)
 
 pub overflow_add-had : goal.overflow_add-had
 overflow_add-had c =
     let l = c.loop-p in
-    let o = c.requires.leaves.1 l.p l.invariant.0 (omega arith) in
+    let o = c.requires.leaves.1 l.p (omega arith) (omega arith) in
     omega (arith, o, had-few c.requires.shiftable.0 l.p, need-most c.requires.shiftable.0 l.p, pages-few c.requires.shiftable.0)
 
 pub overflow_add-asked : goal.overflow_add-asked
@@ -59,21 +57,21 @@ overflow_add-asked c = omega (arith, c.cells_of-k.ensures.1, pages-few c.require
 pub loop-p-preserved : goal.loop-p-preserved
 loop-p-preserved c =
     let l = c.loop-p in
-    let o = c.requires.leaves.1 l.p l.invariant.0 (omega arith) in
     let h = c.requires.shiftable.0 in
-    let k = cells-asked h (omega arith) c.entry_at.ensures c.get4.ensures.is l.invariant.0 c.args.leaving.now c.requires.leaves.0
-    c.coming.ensures c.cells_of-k.ensures.0 in (
-      omega arith,
-      omega arith,
-      length-set l.new _ _ ∙ l.invariant.2,
-      counted_next c.args.m (shifted c.args.m (list_in c.args.s.now)) l.new l.p _ (omega arith) l.invariant.3 k,
-      needs-more h l.p l.had l.asked l.invariant.4 o k,
-      had-more h l.p l.had l.invariant.5 o,
-      omega (arith, c.cells_of-k.ensures.1),
-    )
+    let o = c.requires.leaves.1 l.p (omega arith) (omega arith) in
+    let k = cells-asked h (omega arith) c.entry_at.ensures c.get.ensures.is (omega arith) c.args.leaving.now c.requires.leaves.0
+    c.coming.ensures c.cells_of-k.ensures.0 in
+    record {
+      counted = counted_next c.args.m (shifted c.args.m (list_in c.args.s.now)) l.new l.p _ (omega arith) l.invariant.counted k;
+      moved = needs-more h l.p l.had l.asked l.invariant.moved o k;
+      had-low = had-more h l.p l.had l.invariant.had-low o;
+      asked_low = omega (arith, c.cells_of-k.ensures.1);
+    }
 
 pub returns : goal.returns
 returns c =
     let l = c.loop-p in
-    let e : l.p ≡ c.args.m.end = omega arith in
-    record { needs = needs-end c.requires.shiftable.0 l.p l.had l.asked e l.invariant.4 l.invariant.5 l.invariant.6; counted = λ q f r. l.invariant.3 q f (omega arith) }
+    record {
+      needs = needs-end c.requires.shiftable.0 l.p l.had l.asked (omega arith) l.invariant.moved l.invariant.had-low l.invariant.asked_low;
+      counted = λ q f r. l.invariant.counted q f (omega arith);
+    }
