@@ -13,7 +13,7 @@ use Rattle.lists.specs.Lists.{every, pick}
 use Rattle.answers.specs.Store.{Answer, answered, refused as turned}
 use Rattle.store.specs.Call.{Result, after, call, fresh_call}
 use Rattle.store.specs.Fitting.{fits}
-use Rattle.store.specs.Layout.{Model, bytes_of, fresh, size}
+use Rattle.store.specs.Layout.{Model, bytes_of, size}
 use Rattle.store.specs.Limits.{limit_tests}
 use Rattle.store.specs.Plain.{Call, Plain, plain_answers, plain_fresh, step}
 use Rattle.store.specs.Reading.{read}

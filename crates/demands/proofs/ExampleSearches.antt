@@ -14,10 +14,8 @@ use borrow.Author.Tests.{eqb-false, eqb-true, leb-true, ltb-false, ltb-true, not
 use Rattle.lists.specs.Lists.{every, pick, reached, tabulate}
 use Rattle.lists.proofs.Tests.{each, left, right}
 use Rattle.answers.specs.Image.{Reply, fails, given, refused as turned}
-use Rattle.answers.specs.declared.image.Bag.{Bag}
-use Rattle.answers.specs.declared.image.Bag.TheVariants.{None, Run as BagRun, Refused as NoBag}
-use Rattle.answers.specs.declared.image.Stretch.{Stretch}
-use Rattle.answers.specs.declared.image.Stretch.TheVariants.{Run, Refused as NoStretch}
+use Rattle.answers.specs.Bag.{Bag, None, Run as BagRun, Refused as NoBag}
+use Rattle.answers.specs.Stretch.{Stretch, Run, Refused as NoStretch}
 use Rattle.image.specs.Check.{accepted, check, headed}
 use Rattle.image.specs.Reach.{Reach, above-total, any-index, damage, header-wrong, smallest}
 use Rattle.image.specs.Read.{list_of, n_of, s_of}

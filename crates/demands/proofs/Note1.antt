@@ -9,7 +9,7 @@ use lib.ListN.{length}
 use Rattle.lists.specs.Lists.{part, sum}
 use Rattle.image.specs.Check.{accepted}
 use Rattle.image.specs.Read.{list_of, n_of}
-use Rattle.answers.specs.declared.image.Stretch.TheVariants.{Run}
+use Rattle.answers.specs.Stretch.{Run}
 use Rattle.image.proofs.Accepted.{length-list}
 use Rattle.runs.specs.Runs.{Busiest}
 use Rattle.image_busiest.specs.Busiest.{BusiestCall, the-run}

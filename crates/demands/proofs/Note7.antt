@@ -9,8 +9,7 @@ use lib.ListN.{length}
 use Rattle.lists.specs.Lists.{part, sum}
 use Rattle.image.specs.Check.{accepted}
 use Rattle.image.specs.Read.{list_of}
-use Rattle.answers.specs.declared.image.Bag.{Bag}
-use Rattle.answers.specs.declared.image.Bag.TheVariants.{Run, None}
+use Rattle.answers.specs.Bag.{Bag, Run, None}
 use Rattle.runs.specs.Runs.{FirstMatch, NoMatch}
 use Rattle.image_match.specs.Match.{MatchCall, none, the-run}
 use Rattle.image_match.proofs.AnswerLaws.{one_answer}

@@ -24,7 +24,7 @@ use Rattle.store.proofs.SoundFacts.{facts}
 use Rattle.store.proofs.StepLaws.{Change, change-is, done, over, short}
 use Rattle.image.specs.Calls.{Result as ImageResult, length_call, past, put, put_after, unwritten, write_call}
 use Rattle.image.specs.Check.{accepted, check, headed}
-use Rattle.answers.specs.Image.{Reply, Verdict, fails, given, holds, refused, told}
+use Rattle.answers.specs.Image.{Reply, Verdict, fails, given, holds, refused}
 use Rattle.image.specs.Image.{image}
 use Rattle.image.specs.Query.{count, ended, look, reading, reading_at, the_count, the_reading}
 use Rattle.image.specs.Reach.{Reach, above-total, any-index, damage, header-wrong, smallest}
@@ -34,8 +34,8 @@ use Rattle.image.proofs.CheckLaws.{accepted-or, check-holds, past-5}
 use Rattle.repair.specs.Repair.{Outcome as Repaired, repair_call}
 use Rattle.freeze.specs.Freeze.{freeze_call}
 use Rattle.freeze.proofs.Freezing.{only-page-size}
-use Rattle.answers.specs.declared.image.Bag.{Bag}
-use Rattle.answers.specs.declared.image.Stretch.{Stretch}
+use Rattle.answers.specs.Bag.{Bag}
+use Rattle.answers.specs.Stretch.{Stretch}
 use Rattle.image_busiest.specs.Busiest.{BusiestCall, no-such-run, not-accepted, the-run}
 use Rattle.image_match.specs.Match.{MatchCall, no-coins, none, not-accepted as no-image, the-run as the-hours}
 use Rattle.book.specs.Book.{book_of, decimal, list_of_book}

@@ -25,11 +25,9 @@ use Rattle.image.specs.Reach.{Reach}
 use Rattle.image.specs.Read.{n_of, s_of}
 use Rattle.repair.specs.Repair.{repair_call}
 use Rattle.freeze.specs.Freeze.{freeze_call}
-use Rattle.answers.specs.declared.image.Stretch.{Stretch}
-use Rattle.answers.specs.declared.image.Stretch.TheVariants.{Run, Refused as NoStretch}
+use Rattle.answers.specs.Stretch.{Stretch, Run, Refused as NoStretch}
 use Rattle.image_busiest.specs.Busiest.{BusiestCall}
-use Rattle.answers.specs.declared.image.Bag.{Bag}
-use Rattle.answers.specs.declared.image.Bag.TheVariants.{Run as BagRun, None, Refused as NoBag}
+use Rattle.answers.specs.Bag.{Bag, Run as BagRun, None, Refused as NoBag}
 use Rattle.image_match.specs.Match.{MatchCall}
 use Rattle.image_merge.specs.Merge.{merge_call}
 use Rattle.hourlog_c.specs.Public.{Ends, Fresh, Freeze, ImageBusiest, ImageCheck, ImageCount, ImageFromBcd, ImageLength, ImageMatch, ImageReach}

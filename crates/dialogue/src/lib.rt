@@ -11,7 +11,7 @@ use session::Command;
 use session_input::Gathered;
 
 // Where a session stands: how many bytes of the store's buffer are the store, how many bytes are held of the line that is begun, and how
-// many bytes of the output are to be written.
+// many bytes of the output are to be written. The buffer and the line stay beside it, for close takes a line of any length.
 #[derive(Clone, Copy)]
 pub struct Standing {
     pub used: usize,
@@ -87,10 +87,8 @@ pub fn feed(
         held: place.held,
         said: 0,
     };
-    let mut i = 0;
-    while i < chunk.len() {
-        next = take_byte(store, line, next, chunk[i], out);
-        i += 1;
+    for byte in chunk {
+        next = take_byte(store, line, next, *byte, out);
     }
     next
 }

@@ -22,10 +22,8 @@ use Rattle.image.proofs.Sizes.{Small as SmallReply, SmallVerdict, check-small, c
 use Rattle.repair.specs.Repair.{Repairs, repair_call, repairable}
 use Rattle.repair.proofs.CallLaws.{call-no, call-yes, lost-few, repair-refused}
 use Rattle.freeze.specs.Freeze.{freeze_call}
-use Rattle.answers.specs.declared.image.Stretch.{Stretch}
-use Rattle.answers.specs.declared.image.Stretch.TheVariants.{Run, Refused as NoStretch}
-use Rattle.answers.specs.declared.image.Bag.{Bag}
-use Rattle.answers.specs.declared.image.Bag.TheVariants.{Run as BagRun, None, Refused as NoBag}
+use Rattle.answers.specs.Stretch.{Stretch, Run, Refused as NoStretch}
+use Rattle.answers.specs.Bag.{Bag, Run as BagRun, None, Refused as NoBag}
 use Rattle.image_busiest.specs.Busiest.{BusiestCall}
 use Rattle.image_busiest.proofs.AnswerLaws.{Small as SmallStretch, small-answer}
 use Rattle.image_match.specs.Match.{MatchCall}

@@ -14,11 +14,11 @@ use Rattle.image_busiest.specs.Busiest.{BusiestCall}
 use Rattle.image_match.specs.Match.{MatchCall}
 use Rattle.repair.specs.Repair.{repair_call}
 use Rattle.freeze.specs.Freeze.{freeze_call}
-use Rattle.answers.specs.declared.image.Stretch.{Stretch}
+use Rattle.answers.specs.Stretch.{Stretch}
 use Rattle.book_in.specs.FromBook.{from_call}
 use Rattle.book_out.specs.ToBook.{to_call}
 use Rattle.image_merge.specs.Merge.{merge_call}
-use Rattle.answers.specs.declared.image.Bag.{Bag}
+use Rattle.answers.specs.Bag.{Bag}
 use Rattle.words.specs.End.{End, end_of_bag, end_of_check, end_of_image, end_of_store, end_of_stretch, refusal}
 
 -- a public call with its numbers and with the slices that it is lent; the live calls are nine

@@ -7,12 +7,13 @@ use native.Mathlib.Omega.{arith}
 use lib.ListN.{length, take, drop, replicate, length-replicate, take-append-drop}
 use lib.Seq.{take_at, length-take-le}
 use lib.Dec.{leb, eqb}
+use borrow.Author.Tests.{leb-true}
 use Rattle.lists.specs.Lists.{pick, every}
 use Rattle.lists.proofs.Parts.{take-smaller}
 use Rattle.store.specs.Limits.{limit_tests, max_pages, max_cells}
 use Rattle.store.specs.Fitting.{fits}
 use Rattle.store.specs.Plain.{Call}
-use Rattle.answers.specs.Store.{Answer as Said, changed, answered, refused}
+use Rattle.answers.specs.Store.{Answer as Said, answered, refused}
 use Rattle.store.specs.Layout.{size, bytes_of, fresh}
 use Rattle.store.specs.Call.{Called, Result, Started, call, fresh_call}
 use Rattle.session.specs.declared.line.Command.{Command}
@@ -24,7 +25,7 @@ use Rattle.replies.specs.Session.{reply_for, Turn, changes, asks, starts, renews
 use Rattle.replies.specs.Code.Respond.{Responds}
 
 -- the n bytes of the buffer s that are the store, of u that are said to be
-pub front_long : (s : List ℕ) (u n : ℕ) → n ≡ min u (length s) → n ≡ length (take n s)
+front_long : (s : List ℕ) (u n : ℕ) → n ≡ min u (length s) → n ≡ length (take n s)
 front_long s u n e = sym (length-take-le n s (omega arith))
 
 -- the same of the bytes that are said to be used, and of the command that was matched
@@ -85,21 +86,20 @@ unfolding fresh_call pick
 fresh-no b P C e = rw e
 
 -- the buffer that the code takes, of n bytes, serves as one of the right length
-pub buffer : (b : List ℕ) (P C : ℕ) → length b ≡ pick (leb P max_pages && leb C max_cells) (size P C) 0
-    → fits b P C ≡ fits (replicate (size P C) 0) P C
-unfolding pick
-buffer b P C h = go (leb P max_pages && leb C max_cells) refl
+pub buffer : (b : List ℕ) (P C : ℕ) → length b ≡ size (min P max_pages) (min C max_cells) → fits b P C ≡ fits (replicate (size P C) 0) P C
+buffer b P C h = go (leb P max_pages) (leb C max_cells) refl refl
   where
-    go : (t : Bool) → (leb P max_pages && leb C max_cells) ≡ t → fits b P C ≡ fits (replicate (size P C) 0) P C
-    go true e = fits-same b (replicate (size P C) 0) P C (h ∙ rw e (sym (length-replicate (size P C) 0)))
-    go false e = fits-no b P C e ∙ sym (fits-no (replicate (size P C) 0) P C e)
+    go : (t u : Bool) → leb P max_pages ≡ t → leb C max_cells ≡ u → fits b P C ≡ fits (replicate (size P C) 0) P C
+    go true true e f =
+        let p : min P max_pages ≡ P = omega (arith, leb-true P max_pages e) in
+        let c : min C max_cells ≡ C = omega (arith, leb-true C max_cells f) in
+        fits-same b (replicate (size P C) 0) P C (h ∙ ap₂ size p c ∙ sym (length-replicate (size P C) 0))
+    go true false e f = rw (fits-no b P C (rw (e, f)), fits-no (replicate (size P C) 0) P C (rw (e, f)))
+    go false u e f = rw (fits-no b P C (rw e), fits-no (replicate (size P C) 0) P C (rw e))
 
--- no other answer is a refusal
-pub not-changed : (x y k : ℕ) → ◌≡◌ {A = Said} (changed x y) (refused k) → ⊥
-not-changed x y k e = let z : ◌≡◌ {A = ℕ} 0 1 = cc in omega arith
-
+-- a number is no refusal
 pub not-answered : (m k : ℕ) → ◌≡◌ {A = Said} (answered m) (refused k) → ⊥
-not-answered m k e = let z : ◌≡◌ {A = ℕ} 0 1 = cc in omega arith
+not-answered m k e = cc
 
 -- n on a buffer b that serves as one of the right length
 module _ (P C : ℕ) (s b : List ℕ) (same : fits b P C ≡ fits (replicate (size P C) 0) P C) (a : Said)
@@ -133,7 +133,7 @@ module _ (P C : ℕ) (s b : List ℕ) (same : fits b P C ≡ fits (replicate (si
       go false f = absurd (h (q ∙ ap (λ (r : Result). r.answer) (fresh-no b P C f)))
 
 -- n on the first n bytes of the buffer s
-module _ (P C : ℕ) (s : List ℕ) (u n : ℕ) (h : 63760 ≤ length s) (l : n ≡ pick (leb P max_pages && leb C max_cells) (size P C) 0) (m : n ≤ 63760)
+module _ (P C : ℕ) (s : List ℕ) (u n : ℕ) (h : 63760 ≤ length s) (l : n ≡ size (min P max_pages) (min C max_cells)) (m : n ≤ 63760)
     (a : Said) (t : List ℕ) (q : Started (take n s) P C a t) where
   serves : fits (take n s) P C ≡ fits (replicate (size P C) 0) P C
   serves = buffer (take n s) P C (length-take-le n s (omega arith) ∙ l)

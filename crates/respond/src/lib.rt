@@ -4,7 +4,7 @@
 ghost use Rattle.std.specs.Prelude.{◌≤◌, length};
 ghost use Rattle.replies.specs.Code.Respond.{Responds};
 
-use replies::{Response, kept, renew};
+use replies::{Response, asked, changed, renew};
 use session::Command;
 use session_print::Reply;
 
@@ -13,16 +13,16 @@ pub fn respond(store: &mut [u8], used: usize, command: Command) -> Response
     requires { 63760 ≤ length store.old }
     ensures { Responds command store.old used result store.new }
 {
-    let n = lists::smaller(used, store.len());
+    let n = used.min(store.len());
     match command {
         Command::Fresh(p, c) => renew(store, n, p, c),
-        Command::Append(v) => kept(n, live::append(&mut store[..n], v)),
-        Command::Set(i, v) => kept(n, live::set(&mut store[..n], i, v)),
-        Command::Count(i) => kept(n, live::count(&store[..n], i)),
-        Command::Reading(i) => kept(n, live::reading(&store[..n], i)),
-        Command::Reach(p) => kept(n, live::reach(&store[..n], p)),
-        Command::Day(d) => kept(n, live::day(&store[..n], d, &[])),
-        Command::Free => kept(n, live::free(&store[..n])),
+        Command::Append(v) => changed(n, live::append(&mut store[..n], v)),
+        Command::Set(i, v) => changed(n, live::set(&mut store[..n], i, v)),
+        Command::Count(i) => asked(n, live::count(&store[..n], i)),
+        Command::Reading(i) => asked(n, live::reading(&store[..n], i)),
+        Command::Reach(p) => asked(n, live::reach(&store[..n], p)),
+        Command::Day(d) => asked(n, live::day(&store[..n], d, &[])),
+        Command::Free => asked(n, live::free(&store[..n])),
         Command::Unknown => Response {
             used: n,
             reply: Reply::Unknown,

@@ -6,8 +6,7 @@ use Prim.Native.Nat.{ℕ}
 use borrow.Author.Tests.{ne_eqb}
 use Rattle.lists.specs.Lists.{pick}
 use Rattle.session.specs.Line.{none, one, two, by_letter}
-use Rattle.session.specs.declared.number.Numeral.{Numeral}
-use Rattle.session.specs.declared.number.Numeral.TheVariants.{Value, Wrong}
+use Rattle.std.specs.Prelude.{Option, Some, None}
 use Rattle.session.specs.declared.line.Command.{Command}
 use Rattle.session.specs.declared.line.Command.TheVariants.{Unknown}
 
@@ -26,52 +25,45 @@ module _ (l : ℕ) where
   unfolding by_letter none one two
   none_other f = simp (ne_eqb l 102 f, pick_no, pick_same)
 
-  pub one-other : (x : ℕ) → (l ≡ 97 → ⊥) → (l ≡ 103 → ⊥) → (l ≡ 114 → ⊥) → (l ≡ 119 → ⊥) → (l ≡ 100 → ⊥) → by_letter l (Value x ∷ []) ≡ Unknown
+  pub one-other : (x : ℕ) → (l ≡ 97 → ⊥) → (l ≡ 103 → ⊥) → (l ≡ 114 → ⊥) → (l ≡ 119 → ⊥) → (l ≡ 100 → ⊥) → by_letter l (Some x ∷ []) ≡ Unknown
   unfolding by_letter none one two
   one-other x a g r w d = simp (ne_eqb l 97 a, ne_eqb l 103 g, ne_eqb l 114 r, ne_eqb l 119 w, ne_eqb l 100 d, pick_no, pick_same)
 
-  pub two-other : (x y : ℕ) → (l ≡ 110 → ⊥) → (l ≡ 115 → ⊥) → by_letter l (Value x ∷ Value y ∷ []) ≡ Unknown
+  pub two-other : (x y : ℕ) → (l ≡ 110 → ⊥) → (l ≡ 115 → ⊥) → by_letter l (Some x ∷ Some y ∷ []) ≡ Unknown
   unfolding by_letter none one two
   two-other x y n s = simp (ne_eqb l 110 n, ne_eqb l 115 s, pick_no, pick_same)
 
 -- no letter takes these numbers
-pub record Fails (ns : List Numeral) : Type 0 where
+pub record Fails (ns : List (Option ℕ)) : Type 0 where
   pub no_none : (c : Command) → none c ns ≡ Unknown
   pub no_one : (f : ℕ → Command) → one f ns ≡ Unknown
   pub no-two : (f : ℕ → ℕ → Command) → two f ns ≡ Unknown
 
-pub fails : (l : ℕ) (ns : List Numeral) → Fails ns → by_letter l ns ≡ Unknown
+pub fails : (l : ℕ) (ns : List (Option ℕ)) → Fails ns → by_letter l ns ≡ Unknown
 unfolding by_letter
 fails l ns h = simp (h.no_none, h.no_one, h.no-two, pick_same)
 
-pub wrong_first : (ns : List Numeral) → Fails (Wrong ∷ ns)
+pub wrong_first : (ns : List (Option ℕ)) → Fails (None ∷ ns)
 unfolding none one two
 wrong_first [] = record { no_none = λ c. refl; no_one = λ f. refl; no-two = λ f. refl }
 wrong_first (n ∷ []) = record { no_none = λ c. refl; no_one = λ f. refl; no-two = λ f. refl }
 wrong_first (n ∷ m ∷ ns) = record { no_none = λ c. refl; no_one = λ f. refl; no-two = λ f. refl }
 
-pub wrong_second : (n : Numeral) → Fails (n ∷ Wrong ∷ [])
+pub wrong_second : (n : Option ℕ) → Fails (n ∷ None ∷ [])
 unfolding none one two
-wrong_second (Value x) = record { no_none = λ c. refl; no_one = λ f. refl; no-two = λ f. refl }
-wrong_second Wrong = record { no_none = λ c. refl; no_one = λ f. refl; no-two = λ f. refl }
+wrong_second (Some x) = record { no_none = λ c. refl; no_one = λ f. refl; no-two = λ f. refl }
+wrong_second None = record { no_none = λ c. refl; no_one = λ f. refl; no-two = λ f. refl }
 
-pub three : (n m l : Numeral) (ns : List Numeral) → Fails (n ∷ m ∷ l ∷ ns)
+pub three : (n m l : Option ℕ) (ns : List (Option ℕ)) → Fails (n ∷ m ∷ l ∷ ns)
 unfolding none one two
 three n m l ns = record { no_none = λ c. refl; no_one = λ f. refl; no-two = λ f. refl }
 
--- what a function answers that was given the numbers r and s: each is what its part says, and is told apart from the other variant
-pub single-wrong : (l : ℕ) {r n : Numeral} → r ≡ Wrong → r ≡ n → Unknown ≡ by_letter l (n ∷ [])
+-- what a function answers that was given no number where r is what the part says
+pub single-wrong : (l : ℕ) {r n : Option ℕ} → r ≡ None → r ≡ n → Unknown ≡ by_letter l (n ∷ [])
 single-wrong l w e = rw (sym e ∙ w) (sym (fails l _ (wrong_first [])))
 
-pub first-wrong : (l : ℕ) {r n : Numeral} (m : Numeral) → r ≡ Wrong → r ≡ n → Unknown ≡ by_letter l (n ∷ m ∷ [])
+pub first-wrong : (l : ℕ) {r n : Option ℕ} (m : Option ℕ) → r ≡ None → r ≡ n → Unknown ≡ by_letter l (n ∷ m ∷ [])
 first-wrong l m w e = rw (sym e ∙ w) (sym (fails l _ (wrong_first (m ∷ []))))
 
-pub second-wrong : (l : ℕ) (n : Numeral) {r m : Numeral} → r ≡ Wrong → r ≡ m → Unknown ≡ by_letter l (n ∷ m ∷ [])
+pub second-wrong : (l : ℕ) (n : Option ℕ) {r m : Option ℕ} → r ≡ None → r ≡ m → Unknown ≡ by_letter l (n ∷ m ∷ [])
 second-wrong l n w e = rw (sym e ∙ w) (sym (fails l _ (wrong_second n)))
-
-pub of_one : (l : ℕ) {r n v : Numeral} {c : Command} → c ≡ by_letter l (v ∷ []) → r ≡ v → r ≡ n → c ≡ by_letter l (n ∷ [])
-of_one l c v n = cc
-
-pub of_two :
-    (l : ℕ) {r s n m v w : Numeral} {c : Command} → c ≡ by_letter l (v ∷ w ∷ []) → r ≡ v → r ≡ n → s ≡ w → s ≡ m → c ≡ by_letter l (n ∷ m ∷ [])
-of_two l c v n w m = cc

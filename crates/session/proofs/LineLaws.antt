@@ -12,7 +12,7 @@ use borrow.Author.Tests.{lt-ltb, le-ltb}
 use Rattle.lists.specs.Lists.{pick}
 use Rattle.session.specs.Number.{is_decimal_digit, number}
 use Rattle.session.specs.Line.{on_first, split_on, by_letter, by_parts, command}
-use Rattle.session.specs.declared.number.Numeral.{Numeral}
+use Rattle.std.specs.Prelude.{Option}
 use Rattle.session.specs.declared.line.Command.TheVariants.{Unknown}
 use Rattle.session.proofs.DigitLaws.{number-stray}
 use Rattle.session.proofs.LetterLaws.{fails, wrong_second, three}
@@ -32,7 +32,7 @@ command-empty [] e = refl
 command-empty (b ∷ s) e = absurd (omega (arith, e))
 
 -- a space is no letter
-space-no-letter : (ns : List Numeral) → by_letter 32 ns ≡ Unknown
+space-no-letter : (ns : List (Option ℕ)) → by_letter 32 ns ≡ Unknown
 unfolding by_letter pick
 space-no-letter ns = refl
 
@@ -64,16 +64,20 @@ worded l b t h = go (ℕ_discrete l 32)
     go (yes q) = ap by_parts (split-cut 32 l (b ∷ t) q)
     go (no q) = ap by_parts (split-more 32 l (b ∷ t) q ∙ ap (on_first l) rest)
 
+-- a slice's end from a place on, as the code has it
+rest : (s : List ℕ) (k : ℕ) → take (length s - k) (drop k s) ≡ drop k s
+rest s k = take_all (length s - k) (drop k s) (rw length-drop (omega arith))
+
 pub command-alone : (s : List ℕ) → length s ≡ 1 → command s ≡ by_letter (get_or s 0 0) []
 command-alone [] e = absurd (omega (arith, e))
 command-alone (l ∷ []) e = command-short (l ∷ []) (omega arith) ∙ alone l
 command-alone (l ∷ b ∷ t) e = absurd (omega (arith, e))
 
 pub command-spaced : (s : List ℕ) → 2 ≤ length s → length s ≤ 40 → get_or s 1 0 ≡ 32
-    → command s ≡ by_letter (get_or s 0 0) (map number (split_on 32 (drop 2 s)))
+    → command s ≡ by_letter (get_or s 0 0) (map number (split_on 32 (take (length s - 2) (drop 2 s))))
 command-spaced [] l h e = absurd (omega arith)
 command-spaced (x ∷ []) l h e = absurd (omega arith)
-command-spaced (x ∷ b ∷ t) l h e = command-short (x ∷ b ∷ t) h ∙ spaced x b t e
+command-spaced (x ∷ b ∷ t) l h e = rw (rest (x ∷ b ∷ t) 2) (command-short (x ∷ b ∷ t) h ∙ spaced x b t e)
 
 pub command-worded : (s : List ℕ) → 2 ≤ length s → length s ≤ 40 → (get_or s 1 0 ≡ 32 → ⊥) → command s ≡ Unknown
 command-worded [] l h e = absurd (omega arith)
@@ -82,11 +86,11 @@ command-worded (x ∷ b ∷ t) l h e = command-short (x ∷ b ∷ t) h ∙ worde
 
 -- what stands behind the letter's space: numbers, cut at spaces
 module _ (l : ℕ) (s : List ℕ) where
-  pub numbers-one : (k : ℕ) → Free 32 s k → k ≡ length s → by_letter l (map number (split_on 32 s)) ≡ by_letter l (number s ∷ [])
-  numbers-one k f e = ap (λ ps. by_letter l (map number ps)) (split-none 32 s (rw e at f))
+  pub numbers-one : Free 32 s (length s) → by_letter l (map number (split_on 32 s)) ≡ by_letter l (number s ∷ [])
+  numbers-one f = ap (λ ps. by_letter l (map number ps)) (split-none 32 s f)
 
   -- behind the second space a third would leave too many parts, and no number either
-  second : (n : Numeral) → by_letter l (n ∷ map number (split_on 32 s)) ≡ by_letter l (n ∷ number s ∷ [])
+  second : (n : Option ℕ) → by_letter l (n ∷ map number (split_on 32 s)) ≡ by_letter l (n ∷ number s ∷ [])
   unfolding is_decimal_digit
   second n = go (first_or_none 32 s)
     where
@@ -106,10 +110,6 @@ module _ (l : ℕ) (s : List ℕ) where
       go (inr f) = ap (λ ps. by_letter l (n ∷ map number ps)) (split-none 32 s f)
 
 pub numbers-two : (l : ℕ) (s : List ℕ) (k : ℕ) → k < length s → Free 32 s k → get_or s k 0 ≡ 32
-    → by_letter l (map number (split_on 32 s)) ≡ by_letter l (number (take k s) ∷ number (drop (k + 1) s) ∷ [])
+    → by_letter l (map number (split_on 32 s)) ≡ by_letter l (number (take k s) ∷ number (take (length s - (k + 1)) (drop (k + 1) s)) ∷ [])
 numbers-two l s k h f e =
-    rw add-one (ap (λ ps. by_letter l (map number ps)) (split-first 32 s k h f e) ∙ second l (drop (suc k) s) (number (take k s)))
-
--- a slice's end from a place on, as the code has it
-pub rest : (s : List ℕ) (k : ℕ) → take (length s - k) (drop k s) ≡ drop k s
-rest s k = take_all (length s - k) (drop k s) (rw length-drop (omega arith))
+    rw (rest s (k + 1), add-one) (ap (λ ps. by_letter l (map number ps)) (split-first 32 s k h f e) ∙ second l (drop (suc k) s) (number (take k s)))

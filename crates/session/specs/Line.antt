@@ -1,10 +1,8 @@
 -- Document 01, 'The session program': what a line asks. A line is its bytes without the line end. Assumes nothing.
-use Rattle.std.specs.Prelude.{List, [], ◌∷◌, map, ℕ, length, ltb, eqb}
+use Rattle.std.specs.Prelude.{Option, Some, None, List, [], ◌∷◌, map, ℕ, length, ltb, eqb}
 use Rattle.lists.specs.Lists.{pick}
 use Rattle.session.specs.Ascii.{byte}
 use Rattle.session.specs.Number.{number}
-use Rattle.session.specs.declared.number.Numeral.{Numeral}
-use Rattle.session.specs.declared.number.Numeral.TheVariants.{Value, Wrong}
 use Rattle.session.specs.declared.line.Command.{Command}
 use Rattle.session.specs.declared.line.Command.TheVariants.{Fresh, Append, Set, Count, Reading, Reach, Day, Free, Unknown}
 
@@ -19,26 +17,26 @@ split_on c [] = [] ∷ []
 split_on c (b ∷ bs) = pick (eqb b c) ([] ∷ split_on c bs) (on_first b (split_on c bs))
 
 -- a command that takes no number, one or two: '`line?` for .. a missing or extra number'
-unfoldable pub none : Command → List Numeral → Command
+unfoldable pub none : Command → List (Option ℕ) → Command
 none c [] = c
 none c (n ∷ ns) = Unknown
 
-unfoldable pub one : (ℕ → Command) → List Numeral → Command
+unfoldable pub one : (ℕ → Command) → List (Option ℕ) → Command
 one f [] = Unknown
-one f (Value x ∷ []) = f x
-one f (Wrong ∷ []) = Unknown
+one f (Some x ∷ []) = f x
+one f (None ∷ []) = Unknown
 one f (n ∷ m ∷ ns) = Unknown
 
-unfoldable pub two : (ℕ → ℕ → Command) → List Numeral → Command
+unfoldable pub two : (ℕ → ℕ → Command) → List (Option ℕ) → Command
 two f [] = Unknown
 two f (n ∷ []) = Unknown
-two f (Value x ∷ Value y ∷ []) = f x y
-two f (Value x ∷ Wrong ∷ []) = Unknown
-two f (Wrong ∷ m ∷ []) = Unknown
+two f (Some x ∷ Some y ∷ []) = f x y
+two f (Some x ∷ None ∷ []) = Unknown
+two f (None ∷ m ∷ []) = Unknown
 two f (n ∷ m ∷ l ∷ ns) = Unknown
 
 -- 'Letters: n P C (fresh), a v, s i v, g i (count), r i, w p (reach), d day, f (free)'; '`line?` for another letter'
-unfoldable pub by_letter : ℕ → List Numeral → Command
+unfoldable pub by_letter : ℕ → List (Option ℕ) → Command
 by_letter l ns =
     pick (eqb l (byte "n")) (two Fresh ns)
     (pick (eqb l (byte "a")) (one Append ns)

@@ -1,10 +1,9 @@
 // What a line asks.
-ghost use Rattle.std.specs.Prelude.{◌≡◌, [], ◌∷◌, map, ℕ, ◌<◌, ◌≤◌, length, get_or};
+ghost use Rattle.std.specs.Prelude.{◌≡◌, ◌≢◌, [], ◌∷◌, map, ℕ, ◌<◌, length, slice_index, IfNone, IfSome, Some};
 ghost use Rattle.session.specs.Number.{number as number_of};
 ghost use Rattle.session.specs.Line.{by_letter, command, split_on};
-ghost use Rattle.session.specs.declared.number.Numeral.TheVariants.{Value};
 
-use crate::number::{Numeral, number};
+use crate::number::number;
 
 #[derive(Clone, Copy)]
 pub enum Command {
@@ -32,7 +31,7 @@ fn with_none(letter: u8) -> Command
 
 // The command of a letter and a number.
 fn with_one(letter: u8, x: u32) -> Command
-    ensures { result ≡ by_letter letter (Value x ∷ []) }
+    ensures { result ≡ by_letter letter (Some x ∷ []) }
 {
     match letter {
         b'a' => Command::Append(x),
@@ -46,7 +45,7 @@ fn with_one(letter: u8, x: u32) -> Command
 
 // The command of a letter and two numbers.
 fn with_two(letter: u8, x: u32, y: u32) -> Command
-    ensures { result ≡ by_letter letter (Value x ∷ Value y ∷ []) }
+    ensures { result ≡ by_letter letter (Some x ∷ Some y ∷ []) }
 {
     match letter {
         b'n' => Command::Fresh(x, y),
@@ -55,27 +54,20 @@ fn with_two(letter: u8, x: u32, y: u32) -> Command
     }
 }
 
-// The place of the first space in s, or its length if it has none.
-fn first_space(s: &[u8]) -> usize
-    ensures within { result ≤ length s.now }
-    ensures before { (k : ℕ) → k < result → get_or s.now k 0 ≡ 32 → ⊥ }
-    ensures found { result < length s.now → get_or s.now result 0 ≡ 32 }
+// The place of the first space in s, if there is one.
+fn first_space(s: &[u8]) -> Option<usize>
+    ensures none { IfNone result ((k : ℕ) → k < length s.now → slice_index s.now k ≢ 32) }
+    ensures before { IfSome result (λ i. (k : ℕ) → k < i → slice_index s.now k ≢ 32) }
+    ensures found { IfSome result (λ i. (i < length s.now) × (slice_index s.now i ≡ 32)) }
 {
-    let mut i = 0;
-    while i < s.len() {
-        if s[i] == b' ' {
-            return i;
-        }
-        i += 1;
-    }
-    i
+    s.iter().position(|b| *b == b' ')
 }
 
 // The command of a letter and one part that is to be a number.
 fn single(letter: u8, part: &[u8]) -> Command
     ensures { result ≡ by_letter letter (number_of part.now ∷ []) }
 {
-    let Numeral::Value(x) = number(part) else {
+    let Some(x) = number(part) else {
         return Command::Unknown;
     };
     with_one(letter, x)
@@ -85,10 +77,10 @@ fn single(letter: u8, part: &[u8]) -> Command
 fn pair(letter: u8, part: &[u8], other: &[u8]) -> Command
     ensures { result ≡ by_letter letter (number_of part.now ∷ number_of other.now ∷ []) }
 {
-    let Numeral::Value(x) = number(part) else {
+    let Some(x) = number(part) else {
         return Command::Unknown;
     };
-    let Numeral::Value(y) = number(other) else {
+    let Some(y) = number(other) else {
         return Command::Unknown;
     };
     with_two(letter, x, y)
@@ -98,29 +90,22 @@ fn pair(letter: u8, part: &[u8], other: &[u8]) -> Command
 fn with_numbers(letter: u8, rest: &[u8]) -> Command
     ensures { result ≡ by_letter letter (map number_of (split_on 32 rest.now)) }
 {
-    let k = first_space(rest);
-    if k == rest.len() {
-        return single(letter, rest);
+    match first_space(rest) {
+        None => single(letter, rest),
+        Some(k) => pair(letter, &rest[..k], &rest[k + 1..]),
     }
-    pair(letter, &rest[..k], &rest[k + 1..])
 }
 
 // What a line asks, given its bytes without the line end.
 pub fn parse(line: &[u8]) -> Command
     ensures { result ≡ command line.now }
 {
-    if line.len() == 0 {
-        return Command::Unknown;
-    }
     if 40 < line.len() {
         return Command::Unknown;
     }
-    let letter = line[0];
-    if line.len() == 1 {
-        return with_none(letter);
+    match line {
+        [letter] => with_none(*letter),
+        [letter, b' ', rest @ ..] => with_numbers(*letter, rest),
+        _ => Command::Unknown,
     }
-    if line[1] != b' ' {
-        return Command::Unknown;
-    }
-    with_numbers(letter, &line[2..])
 }

@@ -18,7 +18,7 @@ pub enum Gathered {
 pub fn gather(line: &mut [u8], len: usize, byte: u8) -> Gathered
     ensures { Gathers line.old len byte result line.new }
 {
-    let held = lists::smaller(len, line.len());
+    let held = len.min(line.len());
     if byte == b'\n' {
         return Gathered::Whole(parse(&line[..held]));
     }
@@ -33,7 +33,7 @@ pub fn gather(line: &mut [u8], len: usize, byte: u8) -> Gathered
 pub fn finish(line: &[u8], len: usize) -> Gathered
     ensures { whole_commands result ≡ ends (take len line.now) }
 {
-    let held = lists::smaller(len, line.len());
+    let held = len.min(line.len());
     if held == 0 {
         return Gathered::More(0);
     }

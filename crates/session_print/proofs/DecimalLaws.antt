@@ -1,23 +1,21 @@
 -- A number's decimal digits: they are digits, their value is the number, and none in front is a zero that is not needed. Those that
 -- std prints are these. Assumes nothing.
-use mathlib.Core.Path.{◌≡◌, refl, sym, ap, ap₂, ◌∙◌}
+use mathlib.Core.Path.{◌≡◌, refl, sym, ap, ◌∙◌}
 use mathlib.Core.Bool.{true}
-use mathlib.Core.List.{List, [], ◌∷◌, ◌++◌, map, append_assoc, append-nil}
+use mathlib.Core.List.{List, [], ◌∷◌, ◌++◌, map}
 use Prim.Native.Nat.{ℕ, zero, suc, ◌+◌, ◌-◌, ◌*◌, ◌/◌, ◌%◌, ◌^◌, ◌≤◌, ◌<◌}
 use native.Mathlib.Nat.{pow-succ'}
-use native.Mathlib.Numerals.{add-one}
 use native.Mathlib.Omega.{arith}
 use native.Mathlib.Decide.{dec_le}
-use lib.ListN.{length, drop, set, length-append, length-set}
+use lib.ListN.{length, length-append}
 use Rattle.std.specs.Fmt.{decimal as printed_decimal}
 use Rattle.std.proofs.lemmas.Fmt.{decimal_by_steps}
-use Rattle.std.proofs.lemmas.List.{drop_all, drop-set}
 use borrow.Author.Tests.{le-leb, lt-ltb, le-ltb}
 use Rattle.lists.specs.Lists.{pick, every, first}
 use Rattle.lists.proofs.Tests.{both, left, right}
 use Rattle.session.specs.Number.{is_decimal_digit, value_from, value, digits_only, number}
 use Rattle.session_print.specs.Printed.{decimal_in, decimal}
-use Rattle.session.specs.declared.number.Numeral.TheVariants.{Value}
+use Rattle.std.specs.Prelude.{Some}
 
 -- one digit, and one digit more
 module _ (k n : ℕ) where
@@ -92,7 +90,7 @@ pub decimal-shows : (n : ℕ) → n < 2 ^ 64 → Shows (decimal n) n
 decimal-shows n h = shows_in 20 n (omega arith) (omega arith)
 
 -- what is printed is read as the same number
-pub read_back : (n : ℕ) → n ≤ 4294967295 → number (decimal n) ≡ Value n
+pub read_back : (n : ℕ) → n ≤ 4294967295 → number (decimal n) ≡ Some n
 unfolding digits_only number pick
 read_back n h =
     let s = decimal-shows n (omega arith) in
@@ -120,53 +118,6 @@ same_digits n h =
     (λ k s m l b. same_one m k l s)
     (λ k ds p ih m l b. same_more m k ds l b p ih)
     n h 20 (omega arith) (omega arith)
-
--- the digits that are written so far, from the last one back to the place behind at, and the digits of the number that is left
-pub record IsPartlyWritten (n at rest : ℕ) (digits : List ℕ) : Type 0 where
-  pub place : at < 20
-  pub room : length digits ≡ 20
-  pub left : rest < 10 ^ suc at
-  pub joined : decimal n ≡ decimal_in (suc at) rest ++ drop (suc at) digits
-
--- nothing is written yet
-pub write_start : (n : ℕ) (digits : List ℕ) → n < 2 ^ 64 → length digits ≡ 20 → IsPartlyWritten n 19 n digits
-write_start n digits h l = record {
-  place = omega arith;
-  room = l;
-  left = omega arith;
-  joined = rw (drop_all 20 digits (omega arith), append-nil);
-}
-
--- the place behind one that was written
-behind-set : (digits : List ℕ) (i d : ℕ) → i < length digits → drop i (set digits i d) ≡ d ∷ drop (suc i) digits
-behind-set digits i d h = rw add-one at (drop-set digits i d h)
-
--- one digit more
-pub write_more : (n at rest at' : ℕ) (digits : List ℕ) → 10 ≤ rest → IsPartlyWritten n at rest digits → at ≡ at' + 1
-    → IsPartlyWritten n at' (rest / 10) (set digits at (48 + rest % 10))
-write_more n at rest at' digits h w e =
-    let d : ℕ = 48 + rest % 10 in
-    let s : suc at' ≡ at = omega arith in
-    record {
-      place = omega (arith, w.place);
-      room = omega (arith, length-set digits at d, w.room);
-      left = rw s (tenth-below at rest w.left);
-      joined =
-          w.joined ∙ ap (λ (z : List ℕ). z ++ drop (suc at) digits) (more-digits at rest h)
-          ∙ append_assoc (decimal_in at (rest / 10)) (d ∷ []) (drop (suc at) digits)
-          ∙ ap (λ (z : List ℕ). decimal_in at (rest / 10) ++ z) (sym (behind-set digits at d (omega (arith, w.place, w.room))))
-          ∙ ap (λ (k : ℕ). decimal_in k (rest / 10) ++ drop k (set digits at d)) (sym s);
-    }
-
--- a number of two digits or more has a place left in front
-pub room_left : (n at rest : ℕ) (digits : List ℕ) → 10 ≤ rest → IsPartlyWritten n at rest digits → 1 ≤ at
-room_left n at rest digits h w = some-power at rest h w.left
-
--- the last digit left
-pub write_last : (n at rest : ℕ) (digits : List ℕ) → rest < 10 → IsPartlyWritten n at rest digits → drop at (set digits at (48 + rest)) ≡ decimal n
-write_last n at rest digits h w =
-    behind-set digits at (48 + rest) (omega (arith, w.place, w.room))
-    ∙ sym (w.joined ∙ ap (λ (z : List ℕ). z ++ drop (suc at) digits) (one-digit at rest h))
 
 -- there are at most twenty
 pub decimal-length : (k n : ℕ) → length (decimal_in k n) ≤ k

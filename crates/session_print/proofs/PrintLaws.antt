@@ -1,11 +1,10 @@
 -- Texts put into a buffer, one behind another. Assumes nothing.
-use mathlib.Core.Path.{◌≡◌, sym, ap, ap₂, ◌∙◌}
+use mathlib.Core.Path.{◌≡◌, sym, ap, ◌∙◌}
 use mathlib.Core.List.{List, [], ◌∷◌, ◌++◌, append_assoc}
-use Prim.Native.Nat.{ℕ, ◌+◌, ◌≤◌, ◌<◌}
+use Prim.Native.Nat.{ℕ, ◌+◌, ◌≤◌}
 use native.Mathlib.Omega.{arith}
-use native.Mathlib.Numerals.{add-one}
-use lib.ListN.{length, get_or, take, drop, set, length-append}
-use lib.Seq.{paste, paste-suc, length-paste, take_all, take_at, length-take-le}
+use lib.ListN.{length, take, drop, length-append}
+use lib.Seq.{take_at, length-take-le}
 use Rattle.lists.specs.Lists.{splice}
 use Rattle.session.specs.Ascii.{bytes}
 use Rattle.session_print.specs.Printed.{decimal, printed, Prints}
@@ -13,21 +12,6 @@ use Rattle.session_print.specs.declared.Reply.{Reply}
 use Rattle.session_print.specs.declared.Reply.TheVariants.{Number, Done, Refused, Unknown}
 use Rattle.session_print.proofs.DecimalLaws.{decimal-length}
 use Rattle.lists.proofs.Parts.{splice-then}
-
--- a turn of the copying loop
-module _ (out : List ℕ) (at : ℕ) (text : List ℕ) (h : at + length text ≤ length out) (now : List ℕ) (i : ℕ) (e : now ≡ paste out at text i) where
-  pub put-room : i ≤ length text → length now ≡ length out
-  put-room l = ap length e ∙ length-paste out at text i (omega arith) l
-
-  pub put-turn : i < length text → set now (at + i) (get_or text i 0) ≡ paste out at text (i + 1)
-  put-turn l = rw add-one (ap (λ (z : List ℕ). set z (at + i) (get_or text i 0)) e ∙ paste-suc out at text i 0 (omega arith) l)
-
-  pub put_all : i ≤ length text → length text ≤ i → now ≡ splice out at text
-  unfolding splice
-  put_all l l' =
-      let q : i ≡ length text = omega arith in
-      e ∙ append_assoc (take at out) (take i text) (drop (at + i) out)
-      ∙ ap₂ (λ (x y : List ℕ). take at out ++ (x ++ y)) (take_all i text l') (ap (λ (k : ℕ). drop (at + k) out) q)
 
 -- a number's line, from the digits that stand in a buffer of their own
 pub number_put : (out : List ℕ) (at n : ℕ) (text mid fin : List ℕ) (end r : ℕ) → at + 21 ≤ length out → text ≡ decimal n

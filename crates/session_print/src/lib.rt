@@ -5,6 +5,9 @@ ghost use Rattle.std.specs.Prelude.{◌≡◌, [], ◌∷◌, ◌++◌, ◌+◌,
 ghost use Rattle.lists.specs.Lists.{splice};
 ghost use Rattle.session_print.specs.Printed.{decimal, Prints};
 
+use itoa::Buffer;
+
+// Refused holds any number, and no Refusal, since print promises its line for every number.
 #[derive(Clone, Copy)]
 pub enum Reply {
     Number(u64),
@@ -19,28 +22,9 @@ fn put(out: &mut [u8], at: usize, text: &[u8]) -> usize
     ensures value { result ≡ at + length text.now }
     ensures out_after { out.new ≡ splice out.old at text.now }
 {
-    let mut i = 0;
-    while i < text.len() {
-        out[at + i] = text[i];
-        i += 1;
-    }
-    at + i
-}
-
-// Writes a number's digits at the end of digits, and answers where the first of them stands.
-fn write_digits(n: u64, digits: &mut [u8; 20]) -> usize
-    ensures in_bounds { result < length digits.new }
-    ensures value { drop result digits.new ≡ decimal n }
-{
-    let mut at = 19;
-    let mut rest = n;
-    while rest >= 10 {
-        digits[at] = b'0' + (rest % 10) as u8;
-        rest /= 10;
-        at -= 1;
-    }
-    digits[at] = b'0' + rest as u8;
-    at
+    let end = at + text.len();
+    out[at..end].copy_from_slice(text);
+    end
 }
 
 // Puts a number's digits and a line end at a place of out, and answers the place behind them.
@@ -49,9 +33,9 @@ fn put_number(out: &mut [u8], at: usize, n: u64) -> usize
     ensures value { result ≡ at + length (decimal n ++ (10 ∷ [])) }
     ensures out_after { out.new ≡ splice out.old at (decimal n ++ (10 ∷ [])) }
 {
-    let mut digits = [0u8; 20];
-    let first = write_digits(n, &mut digits);
-    let end = put(out, at, &digits[first..]);
+    let mut buffer = Buffer::new();
+    let digits = buffer.format(n).as_bytes();
+    let end = put(out, at, digits);
     put(out, end, b"\n")
 }
 
@@ -65,7 +49,7 @@ pub fn print(out: &mut [u8], at: usize, reply: Reply) -> usize
         Reply::Done => put(out, at, b"ok\n"),
         Reply::Refused(k) => {
             let end = put(out, at, b"refused ");
-            put_number(out, end, k as u64)
+            put_number(out, end, u64::from(k))
         }
         Reply::Unknown => put(out, at, b"line?\n"),
     }

@@ -2,10 +2,8 @@
 use Rattle.std.specs.Prelude.{ℕ}
 use Rattle.answers.specs.Store.{Answer, answered, changed, refused as turned}
 use Rattle.answers.specs.Image.{Reply, given, refused, Verdict, fails, holds}
-use Rattle.answers.specs.declared.image.Stretch.{Stretch}
-use Rattle.answers.specs.declared.image.Stretch.TheVariants.{Run, Refused as NoStretch}
-use Rattle.answers.specs.declared.image.Bag.{Bag}
-use Rattle.answers.specs.declared.image.Bag.TheVariants.{Run as BagRun, None, Refused as NoBag}
+use Rattle.answers.specs.Stretch.{Stretch, Run, Refused as NoStretch}
+use Rattle.answers.specs.Bag.{Bag, Run as BagRun, None, Refused as NoBag}
 
 -- what a call ends in: the number asked for, the cells taken and given back, N and S, a run's first hour and its sum, a run's first hour and
 -- its hours, no run, or 'a refusal is its number alone'

@@ -2,69 +2,94 @@
 #![tactic(auto)]
 
 ghost use Rattle.std.specs.Prelude.{◌≡◌, ◌<◌};
-ghost use Rattle.answers.specs.Store.{told};
-ghost use Rattle.answers.specs.Image.{told as replied, ruled};
+ghost use Rattle.answers.specs.Bag.{told as told_bag};
+ghost use Rattle.answers.specs.Image.{ruled, told};
+ghost use Rattle.answers.specs.Number.{number};
+ghost use Rattle.answers.specs.Store.{told_change, told_done, told_number};
+ghost use Rattle.answers.specs.Stretch.{told as told_stretch};
 ghost use Rattle.words.specs.End.{end_of_bag, end_of_check, end_of_image, end_of_store, end_of_stretch};
 ghost use Rattle.words.specs.Words.{minus as minus_word, pair as pair_word, word_of};
 
-use std::num::{wrapping_add_u64, wrapping_sub_u64};
+use answers::image::{Contents, Run, Stretch};
+use answers::refusal::Refusal;
+use answers::store::Change;
 
-fn minus(k: u32) -> u64
-    ensures { result ≡ minus_word k }
+#[tactic(auto, unfolding(crate::specs::Words::minus))]
+fn minus(r: Refusal) -> u64
+    ensures { result ≡ minus_word (number r) }
 {
-    wrapping_sub_u64(0, k as u64)
+    0u64.wrapping_sub(u64::from(r.number()))
 }
 
+#[tactic(auto, unfolding(crate::specs::Words::pair))]
 fn pair(k: u32, a: u64, b: u64) -> u64
     requires { k < 64 }
     ensures { result ≡ pair_word k a b }
 {
-    wrapping_add_u64(a, b << k)
+    a.wrapping_add(b << k)
 }
 
-pub fn of_store(a: answers::store::Answer) -> u64
-    ensures { result ≡ word_of (end_of_store (told a)) }
+// An accepted append, set, insert or strike.
+#[tactic(auto, unfolding(crate::specs::Words::word_of, crate::specs::End::end_of_store))]
+pub fn of_change(a: Result<Change, Refusal>) -> u64
+    ensures { result ≡ word_of (end_of_store (told_change a)) }
 {
     match a {
-        answers::store::Answer::Changed(taken, returned) => pair(16, taken, returned),
-        answers::store::Answer::Number(n) => n,
-        answers::store::Answer::Refused(k) => minus(k),
+        Ok(c) => pair(16, c.taken, c.returned),
+        Err(r) => minus(r),
     }
 }
 
-pub fn of_image(a: answers::image::Answer) -> u64
-    ensures { result ≡ word_of (end_of_image (replied a)) }
+// A number, of the live store or of an image.
+#[tactic(auto, unfolding(crate::specs::Words::word_of, crate::specs::End::end_of_store, crate::specs::End::end_of_image, answers::specs::Image::told))]
+pub fn of_number(a: Result<u64, Refusal>) -> u64
+    ensures store { result ≡ word_of (end_of_store (told_number a)) }
+    ensures image { result ≡ word_of (end_of_image (told a)) }
 {
     match a {
-        answers::image::Answer::Number(n) => n,
-        answers::image::Answer::Refused(k) => minus(k),
+        Ok(n) => n,
+        Err(r) => minus(r),
     }
 }
 
-pub fn of_check(v: answers::image::Verdict) -> u64
-    ensures { result ≡ word_of (end_of_check (ruled v)) }
+// Fresh answers that it is done, as 0.
+#[tactic(auto, unfolding(crate::specs::Words::word_of, crate::specs::End::end_of_store))]
+pub fn of_done(a: Result<(), Refusal>) -> u64
+    ensures { result ≡ word_of (end_of_store (told_done a)) }
 {
-    match v {
-        answers::image::Verdict::Holds(hours, total) => pair(40, total, hours),
-        answers::image::Verdict::Refused(k) => minus(k),
+    match a {
+        Ok(()) => 0,
+        Err(r) => minus(r),
     }
 }
 
-pub fn of_stretch(a: answers::image::Stretch) -> u64
-    ensures { result ≡ word_of (end_of_stretch a) }
+#[tactic(auto, unfolding(crate::specs::Words::word_of, crate::specs::End::end_of_check, answers::specs::Image::ruled))]
+pub fn of_check(a: Result<Contents, Refusal>) -> u64
+    ensures { result ≡ word_of (end_of_check (ruled a)) }
 {
     match a {
-        answers::image::Stretch::Run(first, total) => pair(40, total, first),
-        answers::image::Stretch::Refused(k) => minus(k),
+        Ok(c) => pair(40, c.total, c.hours),
+        Err(r) => minus(r),
     }
 }
 
-pub fn of_bag(a: answers::image::Bag) -> u64
-    ensures { result ≡ word_of (end_of_bag a) }
+#[tactic(auto, unfolding(crate::specs::Words::word_of, crate::specs::End::end_of_stretch))]
+pub fn of_stretch(a: Result<Stretch, Refusal>) -> u64
+    ensures { result ≡ word_of (end_of_stretch (told_stretch a)) }
 {
     match a {
-        answers::image::Bag::Run(first, hours) => pair(32, first, hours),
-        answers::image::Bag::None => 0,
-        answers::image::Bag::Refused(k) => minus(k),
+        Ok(s) => pair(40, s.total, s.first),
+        Err(r) => minus(r),
+    }
+}
+
+#[tactic(auto, unfolding(crate::specs::Words::word_of, crate::specs::End::end_of_bag))]
+pub fn of_bag(a: Result<Option<Run>, Refusal>) -> u64
+    ensures { result ≡ word_of (end_of_bag (told_bag a)) }
+{
+    match a {
+        Ok(Some(run)) => pair(32, run.first, run.hours),
+        Ok(None) => 0,
+        Err(r) => minus(r),
     }
 }

@@ -22,7 +22,7 @@ returns-in-Refused c =
     let q = c.put_number-in-Refused in
     prints (ap printed c.in-Refused.is)
     (refused-put c.args.out.now c.args.at c.in-Refused.k p.new.out q.new.out p.result q.result c.requires p.ensures.out_after p.ensures.value
-    q.ensures.out_after q.ensures.value)
+    (rw c.from.ensures at q.ensures.out_after) (rw c.from.ensures at q.ensures.value))
 
 pub returns-in-Unknown : goal.returns-in-Unknown
 unfolding printed

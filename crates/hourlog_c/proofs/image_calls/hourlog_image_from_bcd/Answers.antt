@@ -3,4 +3,4 @@ use Rattle.hourlog_c.proofs.BookExports.{from-answers}
 use Rattle.hourlog_c.proofs.image_calls.hourlog_image_from_bcd.Goals as goal
 
 pub returns : goal.returns
-returns c = from-answers _ _ _ _ _ _ c.of_image.ensures c.from_bcd.ensures
+returns c = from-answers _ _ _ _ _ _ c.of_number.ensures.image c.from_bcd.ensures

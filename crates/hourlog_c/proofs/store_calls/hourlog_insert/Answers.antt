@@ -4,4 +4,4 @@ use Rattle.hourlog_c.proofs.Exports.{live-answers}
 use Rattle.hourlog_c.proofs.store_calls.hourlog_insert.Goals as goal
 
 pub returns : goal.returns
-returns c = live-answers _ _ _ _ _ (λ (j : ℕ). (c.slice_known-1.given j).fits) c.of_store.ensures c.insert.ensures
+returns c = live-answers _ _ _ _ _ (λ (j : ℕ). (c.slice_known-1.given j).fits) c.of_change.ensures c.insert.ensures

@@ -4,4 +4,4 @@ use Rattle.hourlog_c.proofs.Exports.{live-answers}
 use Rattle.hourlog_c.proofs.store_calls.hourlog_reach.Goals as goal
 
 pub returns : goal.returns
-returns c = live-answers _ _ _ _ _ (λ (j : ℕ). (c.type_inv.store j).fits) c.of_store.ensures c.reach.ensures
+returns c = live-answers _ _ _ _ _ (λ (j : ℕ). (c.type_inv.store j).fits) c.of_number.ensures.store c.reach.ensures

@@ -5,5 +5,5 @@ use Rattle.hourlog_c.proofs.store_calls.hourlog_set.Goals as goal
 
 pub returns : goal.returns
 returns c =
-    let r = change-answers _ _ _ _ _ _ (λ (j : ℕ). (c.slice_known-1.given j).fits) c.of_store.ensures (c.set.ensures.called, c.set.ensures.takes_at_most) in
+    let r = change-answers _ _ _ _ _ _ (λ (j : ℕ). (c.slice_known-1.given j).fits) c.of_change.ensures (c.set.ensures.called, c.set.ensures.takes_at_most) in
     record { answers = r.0; costs = r.1 }

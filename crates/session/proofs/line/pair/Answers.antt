@@ -1,5 +1,5 @@
 -- `session::line::pair` meets its contract. Assumes nothing.
-use Rattle.session.proofs.LetterLaws.{first-wrong, second-wrong, of_two}
+use Rattle.session.proofs.LetterLaws.{first-wrong, second-wrong}
 use Rattle.session.proofs.line.pair.Goals as goal
 
 pub returns-in_default : goal.returns-in_default
@@ -7,7 +7,3 @@ returns-in_default c = first-wrong _ _ c.in_default.is c.number.ensures
 
 pub returns-in_default-number : goal.returns-in_default-number
 returns-in_default-number c = second-wrong _ _ c.in_default-number.is c.number-2.ensures
-
-pub returns : goal.returns
-returns c =
-    of_two _ c.with_two.ensures c.in-Value.is c.number.ensures c.in-Value-number.is c.number-2.ensures

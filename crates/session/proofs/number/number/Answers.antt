@@ -1,51 +1,43 @@
 -- `session::number::number` meets its contract. Assumes nothing.
-use mathlib.Core.Path.{◌≡◌, sym, ap, ◌∙◌}
-use mathlib.Core.Bool.{Bool, true, false, not}
-use mathlib.Core.List.{List}
-use borrow.Author.Tests.{not-true, not-false}
-use Prim.Native.Nat.{ℕ, ◌+◌, ◌-◌, ◌*◌, ◌<◌}
-use native.Mathlib.Omega.{arith}
-use lib.ListN.{length, get_or, drop}
-use Rattle.session.specs.Number.{is_decimal_digit, number}
-use Rattle.session.proofs.DigitLaws.{number_from, number-all, number-none, from_end, from-over, at_other, at-digit, digit-bounds}
+use Rattle.std.proofs.Common.{◌≡◌, ◌+◌, ◌-◌, ◌*◌, sym, ◌∙◌, arith, rules, get_or}
+use Rattle.session.proofs.DigitLaws.{number-all, number-none, from_end, at_other, at-digit, at-over, digit-test}
 use Rattle.session.proofs.number.number.Goals as goal
 
--- past the test the byte is a digit
-is_one : (r : Bool) (b : ℕ) → r ≡ is_decimal_digit b → not r ≡ false → is_decimal_digit b ≡ true
-is_one r b e n = sym e ∙ not-false r n
+pub returns-then-is_empty : goal.returns-then-is_empty
+returns-then-is_empty c = sym (number-none c.args.s.now (search rules))
 
--- past a digit the number is that of the longer value and the rest
-longer : (s : List ℕ) (v i d : ℕ) → number s ≡ number_from v (drop i s) → i < length s → is_decimal_digit (get_or s i 0) ≡ true →
-    d ≡ get_or s i 0 - 48 → number s ≡ number_from (10 * v + d) (drop (i + 1) s)
-longer s v i d h q o e = h ∙ at-digit v s i q o ∙ ap (λ (x : ℕ). number_from (10 * v + x) (drop (i + 1) s)) (sym e)
+pub loop-b-init : goal.loop-b-init
+loop-b-init c = record { in_range = omega arith; rest = number-all c.args.s.now (λ e. search rules) }
 
-pub returns-then-s-eq0 : goal.returns-then-s-eq0
-returns-then-s-eq0 c = sym (number-none c.args.s.now c.if-s-eq0.true)
+pub returns-then-not-is_ascii_digit : goal.returns-then-not-is_ascii_digit
+returns-then-not-is_ascii_digit c =
+    let l = c.loop-b in
+    sym (l.invariant.rest ∙ at_other l.value c.args.s.now l.b-index c.loop-b-test.true (digit-test _ _ c.if-not-is_ascii_digit.ensures.value))
 
-pub loop-i-init : goal.loop-i-init
-loop-i-init c = (omega arith, omega arith, number-all c.args.s.now c.if-s-eq0.false)
+pub returns-in_err-checked_mul : goal.returns-in_err-checked_mul
+returns-in_err-checked_mul c =
+    let l = c.loop-b in
+    c.from_residual.ensures
+    ∙ sym (l.invariant.rest
+    ∙ at-over l.value c.args.s.now l.b-index c.loop-b-test.true (digit-test _ _ c.if-not-is_ascii_digit.ensures.value) (omega (arith, c.in_err-checked_mul.ensures)))
 
-pub returns-then-not-is_digit : goal.returns-then-not-is_digit
-returns-then-not-is_digit c =
-    let s = c.args.s.now in
-    let l = c.loop-i in
-    sym (l.invariant.2 ∙ at_other l.value s l.i c.loop-i-test.true
-    (sym c.is_digit.ensures ∙ not-true c.is_digit.result c.if-not-is_digit.true-raw))
+pub returns-in_err-value : goal.returns-in_err-value
+returns-in_err-value c =
+    let l = c.loop-b in
+    c.from_residual-in_err-value.ensures
+    ∙ sym (l.invariant.rest
+    ∙ at-over l.value c.args.s.now l.b-index c.loop-b-test.true (digit-test _ _ c.if-not-is_ascii_digit.ensures.value)
+    (omega (arith, c.in_err-value.ensures, c.in_ok-checked_mul.ensures, c.from.ensures)))
 
-pub digit-requires : goal.digit-requires
-digit-requires c = (digit-bounds _ (is_one c.is_digit.result _ c.is_digit.ensures c.if-not-is_digit.false-raw)).0
-
-pub overflow_add-value : goal.overflow_add-value
-overflow_add-value c = omega (arith, digit-bounds _ (is_one c.is_digit.result _ c.is_digit.ensures c.if-not-is_digit.false-raw), c.digit.ensures, c.loop-i.invariant.1)
-
-pub returns-then-value-gt4294967295 : goal.returns-then-value-gt4294967295
-returns-then-value-gt4294967295 c = sym (longer c.args.s.now c.loop-i.value c.loop-i.i c.digit.result c.loop-i.invariant.2 c.loop-i-test.true (is_one c.is_digit.result _ c.is_digit.ensures c.if-not-is_digit.false-raw) c.digit.ensures ∙ from-over _ _ c.if-value-gt4294967295.true)
-
-pub loop-i-preserved : goal.loop-i-preserved
-loop-i-preserved c = (omega arith, c.if-value-gt4294967295.false, longer c.args.s.now c.loop-i.value c.loop-i.i c.digit.result c.loop-i.invariant.2 c.loop-i-test.true (is_one c.is_digit.result _ c.is_digit.ensures c.if-not-is_digit.false-raw) c.digit.ensures)
+pub loop-b-preserved : goal.loop-b-preserved
+loop-b-preserved c =
+    let l = c.loop-b in
+    let v = c.in_ok-value.value in
+    let e : v ≡ 10 * l.value + (get_or c.args.s.now l.b-index 0 - 48) = omega (arith, c.in_ok-value.ensures, c.in_ok-checked_mul.ensures, c.from.ensures) in
+    record {
+      in_range = omega (arith, c.in_ok-value.ensures);
+      rest = rw e (l.invariant.rest ∙ at-digit l.value c.args.s.now l.b-index c.loop-b-test.true (digit-test _ _ c.if-not-is_ascii_digit.ensures.value));
+    }
 
 pub returns : goal.returns
-returns c =
-    let s = c.args.s.now in
-    let l = c.loop-i in
-    sym (l.invariant.2 ∙ from_end l.value s l.i l.invariant.1 c.loop-i-test.false l.invariant.0)
+returns c = sym (c.loop-b.invariant.rest ∙ from_end c.loop-b.value c.args.s.now c.loop-b.b-index c.loop-b.invariant.in_range (omega arith) (omega arith))
