@@ -1,7 +1,8 @@
-// The refusals of document 01, 'Where a call is turned down', and from 13 on those of document 02's notes.
+// The refusals of document 01, 'Where a call is turned down', and from 13 on those of document 02's notes. They have no Display and are no
+// Error: 'A refusal is its number alone', and that is what a session prints and what C gets.
 ghost use Rattle.std.specs.Prelude.{◌≡◌};
 
-#[derive(Clone, Copy)]
+#[derive(Clone, Copy, Debug, PartialEq, Eq)]
 pub enum Refusal {
     // e outside 2 to 8
     PageSize = 1,
@@ -44,7 +45,8 @@ pub enum Refusal {
 impl Refusal {
     ghost use Rattle.answers.specs.Number.{number};
 
-    // 'A refusal is its number alone.'
+    // 'A refusal is its number alone.' It is no From<Refusal> for u32, as its name says at each call what
+    // `from` would not: whose number it is.
     pub fn number(self) -> u32
         ensures { result ≡ number self }
     {
