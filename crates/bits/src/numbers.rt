@@ -1,4 +1,5 @@
-// Numbers of several bytes, low byte first.
+// Numbers of several bytes, low byte first, as stored numbers are; a stream's bits count from the high one, so `bits_word` has the high
+// byte first.
 ghost use Rattle.std.specs.Prelude.{◌≡◌, ◌+◌, ◌≤◌, length};
 ghost use Rattle.lists.specs.Lists.{splice};
 ghost use Rattle.bits.specs.Numbers.{Number, little};

@@ -12,7 +12,7 @@ pub fn clear_bits(out: &mut [u8], at: usize, n: usize)
     requires { (at + n ≤ 8 * length out.old) × (at + n < 2 ^ 63) × (8 ≤ length out.old) }
     ensures { bits out.new ≡ splice (bits out.old) at (replicate n 0) }
 {
-    let front = n.min((8 - at % 8) % 8);
+    let front = n.min(at.next_multiple_of(8) - at);
     let whole = (n - front) / 8;
     let first = (at + front) / 8;
     let last = at + front + 8 * whole;

@@ -59,6 +59,10 @@ shift_is : (at o k n : ℕ) → 8 * o ≤ at → at + (k + suc n) ≤ 8 * o + 64
     → (64 - (at + k - 8 * o) - suc n) % 64 ≡ 64 - (at - 8 * o + (k + suc n))
 shift_is at o k n l i = mod-eq_of_lt (omega arith) ∙ omega arith
 
+-- eight bytes of n from o on, where `place` puts them, start no later than bit at, and have the w bits from it on
+pub placed : (at n w : ℕ) {o : ℕ} → o ≡ min (at / 8) (n - 8) → 8 ≤ n → at + w ≤ 8 * n → w ≤ 57 → (8 * o ≤ at) × (o + 8 ≤ n) × (at + w ≤ 8 * o + 64)
+placed at n w e long inside few = (omega (arith, e), omega (arith, e), omega (arith, e))
+
 -- the word at o, shifted up to bit at
 module _ (s : List ℕ) (o at w : ℕ) (eo : o ≡ min (at / 8) (length s - 8)) (long : 8 ≤ length s) (g : field 64 w ≡ take 64 (drop (8 * o) (bits s))) where
   before : 8 * o ≤ at

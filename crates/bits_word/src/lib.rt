@@ -1,4 +1,5 @@
-// Words of eight bytes, high byte first, and the fields in a word. The compiler makes one load or store of a word.
+// Words of eight bytes, high byte first, as a stream's bits go (`bits::numbers` has the low byte first), and the fields in a word. The
+// compiler makes one load or store of a word.
 #![tactic(auto)]
 
 ghost use Rattle.std.specs.Prelude.{◌≡◌, ◌+◌, ◌*◌, ◌/◌, ◌%◌, ◌^◌, ◌≤◌, ◌<◌, length, take, drop};
@@ -29,15 +30,8 @@ pub fn with_field(w: u64, n: u32, low: u32, v: u64) -> u64
     joined(joined((w >> low) >> n, n, v), low, low_bits(w, low))
 }
 
-// The same where these n bits of w are 0.
-pub fn with_added(w: u64, n: u32, low: u32, v: u64) -> u64
-    requires { (n + low ≤ 64) × (n < 64) × (low < 64) × (v < 2 ^ n) × (w / 2 ^ low % 2 ^ n ≡ 0) }
-    ensures { result ≡ (w / 2 ^ (low + n) * 2 ^ n + v) * 2 ^ low + w % 2 ^ low }
-{
-    w + (v << low)
-}
-
-// The eight bytes from index i on as one number: one load and a byte swap.
+// The eight bytes from index i on as one number: one load and a byte swap. By `copy_from_slice`, as in `store8`, the compiler leaves a test
+// of the length and a way through memory: a check takes a fifth longer, a walk an eighth.
 pub fn load8(s: &[u8], i: usize) -> u64
     requires { i + 8 ≤ length s.now }
     ensures { field 64 result ≡ take 64 (drop (8 * i) (bits s.now)) }

@@ -10,19 +10,24 @@ ghost use Rattle.reserve_table.specs.Code.Tabled.{Tabled};
 use entries::RESERVES;
 use reserve::{digits_of, formula, power};
 
-// The table. Its entries lie among the program's constants, and take no stack.
+// The table: a row of 64 sums for each height, in one array. Any array with `Tabled` makes one, and the crates above promise their
+// answers of each: so it is lent to them.
 #[derive(Clone, Copy)]
-pub struct ReserveTable {
-    pub entries: &'static [u8; 512],
+pub struct ReserveTable<'a> {
+    pub entries: &'a [u8; 512],
     ghost tabled: { Tabled entries.now },
 }
 
-impl ReserveTable {
+impl ReserveTable<'static> {
+    // The table whose entries lie among the program's constants, and take no stack.
     pub fn new() -> Self {
         ReserveTable { entries: &RESERVES }
     }
+}
 
-    // The reserve of a tree of 2^h counts with sum s: looked up where the table has it, else by the formula.
+impl ReserveTable<'_> {
+    // The reserve of a tree of 2^h counts with sum s: looked up where the table has it, else by the formula. The bound of s is no type of
+    // its own, which would be made anew for each half's sum.
     pub fn reserve(&self, h: u32, s: u64) -> usize
         requires { (h ≤ 7) × (s < 1099511627776) }
         ensures { result ≡ reserve h s }

@@ -1,5 +1,6 @@
 // A table of small sums: their binary digits, what trees of 4 to 32 counts with such a sum reserve, and the eight counts of codes with two
-// coins at most. For code that decodes many counts: a look-up takes a fraction of the steps of working these out, and has no jump.
+// coins at most. For code that decodes many counts: a look-up takes a fraction of the steps of working these out, and has no jump. Places
+// in it are made by `as`: std has no From between usize and u32 or u64.
 #![tactic(auto)]
 
 mod entries;
@@ -20,19 +21,23 @@ pub struct Few {
     pub right: u8,
 }
 
-// The table. Its entries lie among the program's constants, and take no stack.
+// The table: one array of entries, each kind from a place of its own on, so that one pointer serves. Any array with `Sums` makes one, and
+// the crates above promise their answers of each: so it is lent to them.
 #[derive(Clone, Copy)]
-pub struct SumTable {
-    pub entries: &'static [u8; 864],
+pub struct SumTable<'a> {
+    pub entries: &'a [u8; 864],
     ghost sums: { Sums entries.now },
 }
 
-impl SumTable {
+impl SumTable<'static> {
+    // The table whose entries lie among the program's constants, and take no stack.
     pub fn new() -> Self {
         SumTable { entries: &SUMS }
     }
+}
 
-    // The binary digits of a sum.
+impl SumTable<'_> {
+    // The binary digits of a sum. Sums stay u64 in all contracts, though the rows end at 255: a u8 would need a cast behind each left sum.
     pub fn digits(&self, s: u64) -> u32
         requires { s < 256 }
         ensures { result ≡ digits s }
@@ -41,14 +46,15 @@ impl SumTable {
     }
 
     // The reserve of four counts with sum s.
-    pub fn four(&self, s: u64) -> u32
+    pub fn reserve_four(&self, s: u64) -> u32
         requires { s < 256 }
         ensures { result ≡ reserve 2 s }
     {
         u32::from(self.entries[256 + (s as usize)])
     }
 
-    // The reserve of 8, 16 or 32 counts with sum s. Height 3 stands behind the 512 entries of the rows of 256.
+    // The reserve of 8, 16 or 32 counts with sum s. Height 3 stands behind the 512 entries of the rows of 256. `reserve_table` has these
+    // entries too: decoding takes them from here, so that it has one table and one pointer.
     pub fn reserve(&self, h: u32, s: u64) -> u32
         requires { (3 ≤ h) × (h ≤ 5) × (s < 64) }
         ensures { result ≡ reserve h s }

@@ -1,4 +1,5 @@
-// The lowest three levels, out of one load: in place of one for the root and one for each four.
+// The lowest three levels, out of one load: in place of one for the root and one for each four. The sum is below `eight_limit` by the test
+// `eight_in_word`.
 ghost use Rattle.std.specs.Prelude.{◌≡◌, ◌<◌};
 ghost use Rattle.bits.specs.Bits.{bits};
 ghost use Rattle.reserve.specs.Reserve.{reserve as reserved};
@@ -11,7 +12,8 @@ use reserve::digits_of;
 use reserve_table::ReserveTable;
 use tree_lowest::four_exact;
 
-// Whether the eight counts with sum s at bit at, which own r bits, are some list's code: each four as the number in its own bits.
+// Whether the eight counts with sum s at bit at, which own r bits, are some list's code: each four as the number in its own bits. The left
+// sum is tested by <, as in `check_node`.
 pub(crate) fn eight_exact(b: &[u8], table: &ReserveTable, at: usize, s: u64, r: usize) -> bool
     requires { Lies b.now at 3 s × (r ≡ reserved 3 s) × (s < eight_limit) }
     ensures { result ≡ exact 3 s (bits b.now) at }

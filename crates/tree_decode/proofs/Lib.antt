@@ -1,4 +1,3 @@
--- Laws of decoding: a tree's halves, the limit of its counts, and eight counts whose fours come out of a word each.
-pub mod EightCounts
+-- Laws of decoding: a tree's halves, and the limit of its counts.
 pub mod Limits
 pub mod Halving

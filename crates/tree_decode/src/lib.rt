@@ -1,16 +1,15 @@
-// The counts of a tree that is some list's code. A recursion in which h falls, one level a call. It ends where one load has all the bits of 16
-// counts or more, or else at eights: out of one load where the table has their sum, else each four out of one, or, where that does not fit a
-// word, each two. It reads over `&&[u8]` and writes into one array of 256, both by a thin pointer.
+// The counts of a tree that is some list's code. A recursion in which h falls, one level a call. It ends where one load has all the bits of
+// 16 counts or more, or else at eights: out of one load where the table has their sum, else each four out of one, or, where that does not
+// fit a word, each two. It reads over `&&[u8]` and writes into one array of 256, both by a thin pointer. `Coded` is all that it asks of a
+// tree, whose place goes down as numbers: a search with one struct for them takes 5 to 13 hundredths longer (`tree`). Four functions have
+// the same three lines, a root and both its halves: a closure for the half, with what it asks and ensures, is longer than they are.
 #![tactic(auto)]
 
-ghost use Rattle.std.specs.Prelude.{true, ◌≡◌, ◌+◌, ◌≤◌, ◌<◌, ◌^◌, length};
-ghost use Rattle.lists.specs.Counts.{max_count, within};
+ghost use Rattle.std.specs.Prelude.{◌≡◌, ◌+◌, ◌≤◌, ◌<◌, ◌^◌};
 ghost use Rattle.lists.specs.Lists.{splice};
-ghost use Rattle.bits.specs.Bits.{bits};
-ghost use Rattle.reserve.specs.Reserve.{digits};
+ghost use Rattle.bits.specs.Bits.{bits, field};
+ghost use Rattle.reserve.specs.Reserve.{digits, reserve};
 ghost use Rattle.tree.specs.Read.{counts};
-ghost use Rattle.tree.specs.Code.Exact.{exact};
-ghost use Rattle.tree.specs.Code.Node.{Lies};
 ghost use Rattle.tree_decode.specs.Code.Coded.{Coded};
 
 use bits_field::front;
@@ -18,7 +17,19 @@ use reserve::power;
 use sum_table::SumTable;
 use tree::node::{one_word, root_by_shifts};
 use tree_whole::{decode_word, fits};
-use tree_word::{eight, four};
+use tree_word::{Word, eight, four};
+
+// The word of the 2^H counts with sum s at bit at, which own 57 bits at most.
+fn word<const H: u32>(b: &[u8], at: usize, s: u64) -> Word<H>
+    requires { Coded H b.now at s × (reserve H s ≤ 57) }
+    ensures sum { result.sum ≡ s }
+    ensures counts { counts H result.sum (field 64 result.bits) 0 ≡ counts H s (bits b.now) at }
+{
+    Word {
+        bits: front::load(b, at),
+        sum: s,
+    }
+}
 
 // The eight counts with sum s at bit at, each four out of a word of their own.
 fn fours(b: &[u8], at: usize, s: u64, out: &mut [u32; 256], from: usize)
@@ -26,11 +37,11 @@ fn fours(b: &[u8], at: usize, s: u64, out: &mut [u32; 256], from: usize)
     ensures { out.new ≡ splice out.old from (counts 3 s (bits b.now) at) }
 {
     let r = root_by_shifts(b, at, 2, s).unwrap();
-    four(front::load(b, r.first), r.left, out, from);
-    four(front::load(b, r.second), s - r.left, out, from + 4);
+    four(word(b, r.first, r.left), out, from);
+    four(word(b, r.second, s - r.left), out, from + 4);
 }
 
-// The two counts with sum s at bit at.
+// The two counts with sum s at bit at, put one by one as in `tree_word`.
 fn two(b: &[u8], at: usize, s: u64, out: &mut [u32; 256], from: usize)
     requires { Coded 1 b.now at s × (from + 2 ≤ 256) }
     ensures { out.new ≡ splice out.old from (counts 1 s (bits b.now) at) }
@@ -50,14 +61,14 @@ fn twos(b: &&[u8], at: usize, s: u64, out: &mut [u32; 256], from: usize)
     two(*b, r.second, s - r.left, out, from + 2);
 }
 
-// The eight counts with sum s at bit at. Most sums are the table's. Below 2^19 every four has its three fields in one word; above, no four is
-// tried, for nothing foretells which have.
+// The eight counts with sum s at bit at. Most sums are the table's. Below 2^19 every four has its three fields in one word; above, no four
+// is tried, for nothing foretells which have.
 fn eights(b: &&[u8], table: &SumTable, at: usize, s: u64, out: &mut [u32; 256], from: usize)
     requires { Coded 3 b.now.now at s × (from + 8 ≤ 256) }
     ensures { out.new ≡ splice out.old from (counts 3 s (bits b.now.now) at) }
 {
     if s < 256 {
-        eight(front::load(*b, at), table, s, out, from);
+        eight(word(*b, at, s), table, out, from);
         return;
     }
     if s < 524288 {
@@ -82,23 +93,13 @@ fn low_tree(
     requires { Coded h b.now.now at s × (h < 4) × (from + 2 ^ h ≤ 256) }
     ensures { out.new ≡ splice out.old from (counts h s (bits b.now.now) at) }
 {
-    if h == 3 {
-        eights(b, table, at, s, out, from);
-        return;
+    match h {
+        3 => eights(b, table, at, s, out, from),
+        2 if one_word(h, s) => four(word(*b, at, s), out, from),
+        2 => twos(b, at, s, out, from),
+        1 => two(*b, at, s, out, from),
+        _ => out[from] = s as u32,
     }
-    if one_word(h, s) {
-        four(front::load(*b, at), s, out, from);
-        return;
-    }
-    if h == 2 {
-        twos(b, at, s, out, from);
-        return;
-    }
-    if h == 1 {
-        two(*b, at, s, out, from);
-        return;
-    }
-    out[from] = s as u32;
 }
 
 // The counts of a node of sixteen counts or more, at bit at, and below it.
@@ -130,8 +131,8 @@ fn decode_node(
     decode_node(b, table, r.second, down, s - r.left, out, from + half);
 }
 
-// Puts the counts of the tree of 2^h counts with sum s at bit at, which is some list's code, into out from index from on. The table of small
-// sums is lent. A page with few coins needs no call of the recursion.
+// Puts the counts of the tree of 2^h counts with sum s at bit at, which is some list's code, into out from index from on. The table of
+// small sums is lent: any table with `Sums` serves. A page with few coins needs no call of the recursion.
 pub fn decode(
     b: &[u8],
     table: &SumTable,
@@ -141,8 +142,8 @@ pub fn decode(
     out: &mut [u32; 256],
     from: usize,
 )
-    requires sums { Lies b.now at h s × (exact h s (bits b.now) at ≡ true) }
-    requires at_value { (within max_count (counts h s (bits b.now) at) ≡ true) × (from + 2 ^ h ≤ 256) }
+    requires code { Coded h b.now at s }
+    requires room { from + 2 ^ h ≤ 256 }
     ensures { out.new ≡ splice out.old from (counts h s (bits b.now) at) }
 {
     if fits(h, s) {

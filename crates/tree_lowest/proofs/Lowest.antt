@@ -159,15 +159,22 @@ module _ {s r v t l : ℕ} (q : Quad s r v t l) where
   left_is : l ≡ v / 2 ^ behind r s
   left_is = q.left ∙ ap (λ (k : ℕ). v / 2 ^ (r - k)) q.top
 
-  pub quad-above : s < l → FourIn s (field r v) None
-  quad-above k = four-above s r v l q.reserved q.small left_is k
+  pub quad-above : (l ≤ s → ⊥) → FourIn s (field r v) None
+  quad-above k = four-above s r v l q.reserved q.small left_is (omega (arith, k))
 
-  module _ (le : l ≤ s) (f g : ℕ) (ef : f ≡ digits l) (eg : g ≡ digits (s - l)) where
+  -- the right pair has sum d; its left pair's and its own right counts are u and w
+  module _ {d : ℕ} (o : (l ≤ s) × (d ≡ s - l)) (f g : ℕ) (ef : f ≡ digits l) (right : g ≡ digits d) where
+    le : l ≤ s
+    le = o.0
+
+    eg : g ≡ digits (s - l)
+    eg = right ∙ ap digits o.1
+
     pub widths : (t + f + g ≤ r) × (f < 64) × (g < 64)
     widths = (
       omega (arith, q.top, ef, eg, fits s r v l q.reserved q.small left_is le),
-      omega (arith, digits_le l 40 (omega (arith, q.total))),
-      omega (arith, digits_le (s - l) 40 (omega (arith, q.total))),
+      omega (arith, digits_le l 40 (omega (arith, q.total, o.0))),
+      omega (arith, eg, digits_le (s - l) 40 (omega (arith, q.total))),
     )
 
     tested : (x y z : ℕ) → x ≡ v / 2 ^ (r - t - f) % 2 ^ f → y ≡ v / 2 ^ (r - t - f - g) % 2 ^ g → z ≡ v % 2 ^ (r - t - f - g)
@@ -176,28 +183,30 @@ module _ {s r v t l : ℕ} (q : Quad s r v t l) where
         four_is s r v l q.reserved q.small left_is le
         ∙ sym (rw (ex, ey, ez, q.top, ef, eg))
 
-    pub quad-left : (x : ℕ) → x ≡ v / 2 ^ (r - t - f) % 2 ^ f → l < x → FourIn s (field r v) None
+    pub quad-left : (x : ℕ) → x ≡ v / 2 ^ (r - t - f) % 2 ^ f → (x ≤ l → ⊥) → FourIn s (field r v) None
     unfolding every
-    quad-left x ex k = tested x _ _ ex refl refl ∙ rw (le-leb l s le, lt-leb x l k)
+    quad-left x ex k = tested x _ _ ex refl refl ∙ rw (le-leb l s le, lt-leb x l (omega (arith, k)))
 
-    module _ (x y : ℕ) (ex : x ≡ v / 2 ^ (r - t - f) % 2 ^ f) (kx : x ≤ l) (ey : y ≡ v / 2 ^ (r - t - f - g) % 2 ^ g) where
-      pub quad-right : s - l < y → FourIn s (field r v) None
+    module _ {u : ℕ} (x y : ℕ) (ex : x ≡ v / 2 ^ (r - t - f) % 2 ^ f) (kx : (x ≤ l) × (u ≡ l - x)) (ey : y ≡ v / 2 ^ (r - t - f - g) % 2 ^ g) where
+      pub quad-right : (y ≤ d → ⊥) → FourIn s (field r v) None
       unfolding every
-      quad-right k = tested x y _ ex ey refl ∙ rw (le-leb l s le, le-leb x l kx, lt-leb y (s - l) k)
+      quad-right k = tested x y _ ex ey refl ∙ rw (le-leb l s le, le-leb x l kx.0, lt-leb y (s - l) (omega (arith, o.1, k)))
 
-      module _ (z : ℕ) (ky : y ≤ s - l) (ez : z ≡ v % 2 ^ (r - t - f - g)) where
+      module _ {w : ℕ} (z : ℕ) (ky : (y ≤ d) × (w ≡ d - y)) (ez : z ≡ v % 2 ^ (r - t - f - g)) where
         last : exact 2 s (field r v) 0 ≡ eqb z 0
         unfolding every
-        last = tested x y z ex ey ez ∙ rw (le-leb l s le, le-leb x l kx, le-leb y (s - l) ky, and-true (eqb z 0))
+        last =
+            tested x y z ex ey ez
+            ∙ rw (le-leb l s le, le-leb x l kx.0, le-leb y (s - l) (omega (arith, o.1, ky.0)), and-true (eqb z 0))
 
         pub quad-spare : (z ≡ 0 → ⊥) → FourIn s (field r v) None
         quad-spare n = last ∙ ne_eqb z 0 n
 
-        pub quad-last : z ≡ 0 → FourIn s (field r v) (Some (record { first = x; second = l - x; third = y; fourth = s - l - y }))
+        pub quad-last : z ≡ 0 → FourIn s (field r v) (Some (record { first = x; second = u; third = y; fourth = w }))
         quad-last e =
             record {
               is_exact = last ∙ eq-eqb z 0 e;
-              counts-are = counts-are s r v l q.reserved q.small left_is le ∙ sym (rw (ex, ey, q.top, ef, eg));
+              counts-are = counts-are s r v l q.reserved q.small left_is le ∙ sym (rw (ky.1, kx.1, o.1, ex, ey, q.top, ef, eg));
             }
 
 -- ---- the number in a tree's own bits
@@ -211,7 +220,7 @@ module _ (b : List ℕ) (a h s r v : ℕ) (y : Lies b a h s) (er : r ≡ reserve
       let n : 2 ^ length (part (bits b) a r) ≡ 2 ^ r = ap (λ (k : ℕ). 2 ^ k) (length_part (bits b) a r inside) in
       omega (arith, ev)
 
-  pub own_pair : h ≡ 1 → leb v s ≡ exact h s (bits b) a
+  own_pair : h ≡ 1 → leb v s ≡ exact h s (bits b) a
   unfolding left_of
   own_pair e =
       let w : reserve h s ≡ digits s = ap (λ (k : ℕ). reserve k s) e ∙ reserve-pair s in

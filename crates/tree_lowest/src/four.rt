@@ -24,29 +24,22 @@ pub(crate) fn four_of(v: u64, r: u32, s: u64) -> Option<Four>
 {
     let high = r - digits_of(s);
     let left = v >> high;
-    if s < left {
-        return None;
-    }
-    let right = s - left;
+    let right = s.checked_sub(left)?;
     let first = digits_of(left);
     let mid = high - first;
-    let x = low_bits(v >> mid, first);
-    if left < x {
-        return None;
-    }
+    let a = low_bits(v >> mid, first);
+    let b = left.checked_sub(a)?;
     let second = digits_of(right);
     let low = mid - second;
-    let y = low_bits(v >> low, second);
-    if right < y {
-        return None;
-    }
+    let c = low_bits(v >> low, second);
+    let d = right.checked_sub(c)?;
     if low_bits(v, low) != 0 {
         return None;
     }
     Some(Four {
-        first: x,
-        second: left - x,
-        third: y,
-        fourth: right - y,
+        first: a,
+        second: b,
+        third: c,
+        fourth: d,
     })
 }

@@ -1,4 +1,5 @@
-// The check of a tree at its lowest: zeros, and two or four counts out of one load.
+// The check of a tree at its lowest: zeros, and two or four counts out of one load. Place, height, sum and reserve as numbers: see `tree`.
+// That the reserve has 57 bits at most and h is 1 or 2 the caller has just seen (`one_load`, `eight_in_word`): no lasting fact.
 #![tactic(auto)]
 
 mod four;
@@ -14,8 +15,8 @@ ghost use Rattle.tree_lowest.specs.Code.Narrow.{narrow};
 use crate::four::four_of;
 use bits_field::get_field;
 
-// Whether n bits from bit at on are 0. Asked at each node of a tree: over `(0..n).step_by(57)`, whose step knows nothing of the shorter last
-// piece, the check of a tree takes a tenth longer.
+// Whether n bits from bit at on are 0. Asked at each node of a tree: over `(0..n).step_by(57)`, whose step knows nothing of the shorter
+// last piece, the check of a tree takes 6 to 9 hundredths longer.
 pub fn zero_bits(b: &[u8], at: usize, n: usize) -> bool
     requires { (at + n ≤ 8 * length b.now) × (at + n < 2 ^ 63) × (8 ≤ length b.now) }
     ensures { result ≡ clear (bits b.now) at n }
@@ -46,18 +47,6 @@ pub fn four_exact(v: u64, r: u32, s: u64) -> bool
     four_of(v, r, s).is_some()
 }
 
-// The lowest two levels, out of one load: a tree of two or four counts with sum s at bit at, whose r bits fit one field.
-pub fn low_levels(b: &[u8], at: usize, h: u32, s: u64, r: usize) -> bool
-    requires { Lies b.now at h s × (r ≡ reserved h s) × (r ≤ 57) × (1 ≤ h) × (h ≤ 2) }
-    ensures { result ≡ exact h s (bits b.now) at }
-{
-    let v = get_field(b, at, r as u32);
-    if h == 1 {
-        return v <= s;
-    }
-    four_exact(v, r as u32, s)
-}
-
 // Whether neither of two counts is above widest.
 fn both_within(x: u64, y: u64, widest: u64) -> bool
     ensures { result ≡ within widest (x ∷ y ∷ []) }
@@ -65,7 +54,8 @@ fn both_within(x: u64, y: u64, widest: u64) -> bool
     x <= widest && y <= widest
 }
 
-// The lowest two levels as above, and none of their counts above widest.
+// The lowest two levels, out of one load: whether a tree of two or four counts with sum s at bit at, whose r bits fit one field, is some
+// list's code and none of its counts is above widest. No count is above s, so that s is no limit.
 pub fn low_within(b: &[u8], at: usize, h: u32, s: u64, r: usize, widest: u64) -> bool
     requires { Lies b.now at h s × (r ≡ reserved h s) × (r ≤ 57) × (1 ≤ h) × (h ≤ 2) }
     ensures { result ≡ narrow widest h s (bits b.now) at }

@@ -50,10 +50,16 @@ pub read_above : (b : List ℕ) (a h s : ℕ) {l : ℕ} → l ≡ left_of s b a 
 read_above b a h s el k = rw (lt-leb (left_of s b a) s (omega (arith, el)))
 
 -- its sum has t digits; its left sum l is at most s, and its halves own u and v bits
-module _ (a h l : ℕ) {s t u v : ℕ} (et : t ≡ digits s) (le : l ≤ s) (eu : u ≡ reserve h l) (ev : v ≡ reserve h (s - l)) where
+module _ (a h l : ℕ) {s t d u v : ℕ} (et : t ≡ digits s) (o : (l ≤ s) × (d ≡ s - l)) (eu : u ≡ reserve h l) (right : v ≡ reserve h d) where
+  le : l ≤ s
+  le = o.0
+
+  ev : v ≡ reserve h (s - l)
+  ev = right ∙ ap (reserve h) o.1
+
   -- the left-over bits start no later than the tree ends
   pub spare-in : {b : List ℕ} {r : ℕ} → Lies b a (h + 1) s × (r ≡ reserve (h + 1) s) → a + t + u + v ≤ a + r
-  spare-in p = omega (arith, et, eu, ev, p.1, (halves l p.0 le).spare)
+  spare-in p = omega (arith, et, eu, ev, p.1, (halves l p.0 o.0).spare)
 
   module _ (b : List ℕ) (r : ℕ) (z : Bool) (el : l ≡ left_of s b a) (er : r ≡ reserve (h + 1) s)
       (ez : z ≡ clear b (a + t + u + v) (a + r - (a + t + u + v))) where

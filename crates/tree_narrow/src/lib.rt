@@ -1,5 +1,6 @@
 // The check of a tree with a limit for its counts: whether bits are the code of some list that has no count above it. A node of no more
 // coins than the limit is the plain check's; so each count is looked at where the check has it at hand, and no page is unpacked for it.
+// Place, height, sum and reserve as numbers, and `&&[u8]` as a thin pointer: see `tree` and `tree_walk`.
 #![tactic(auto)]
 
 ghost use Rattle.std.specs.Prelude.{◌≡◌, ◌+◌, ◌≤◌};
@@ -9,12 +10,12 @@ ghost use Rattle.tree.specs.Code.Node.{Lies};
 ghost use Rattle.tree_lowest.specs.Code.Narrow.{narrow};
 ghost use Rattle.tree_narrow.specs.Code.Halves.{Halved};
 
+use bits_field::front;
 use reserve::digits_of;
 use reserve_table::ReserveTable;
-use tree_check::left_sum;
 use tree_lowest::{low_within, one_load, zero_bits};
 
-// A node that was read: its left sum, where its halves start, and how many bits each owns.
+// A node that was read: its left sum, where its two subtrees start, and how many bits each owns, which a `Split` does not know.
 #[derive(Clone, Copy)]
 pub struct Halves {
     pub left: u64,
@@ -24,19 +25,17 @@ pub struct Halves {
     pub rest: usize,
 }
 
-// Reads a node of height h + 1 at bit at, which has sum s and owns r bits; none where it is damaged. The plain check takes these steps in its own recursion: with one
-// function for both, the compiler no longer joined it with either, and the check took an eighth longer.
+// Reads a node of height h + 1 at bit at, which has sum s and owns r bits; none where it is damaged. The plain check takes these steps in
+// its own recursion: with one function for both, the compiler no longer joined it with either, and the check took an eighth longer.
 fn halve(b: &[u8], table: &ReserveTable, at: usize, h: u32, s: u64, r: usize) -> Option<Halves>
     requires { Lies b.now at (h + 1) s × (r ≡ reserved (h + 1) s) }
     ensures { Halved (bits b.now) at h s result }
 {
     let t = digits_of(s);
-    let left = left_sum(b, at, h, s, t);
-    if s < left {
-        return None;
-    }
+    let left = front::first(b, at, t);
+    let right = s.checked_sub(left)?;
     let own = table.reserve(h, left);
-    let rest = table.reserve(h, s - left);
+    let rest = table.reserve(h, right);
     let first = at + (t as usize);
     let second = first + own;
     let spare = second + rest;
@@ -82,6 +81,7 @@ fn narrow_node(
 }
 
 // Whether the tree of 2^h counts with sum s at bit at, which owns r bits, is the code of some list, and none of its counts is above widest.
+// A tree within the limit goes to the plain check at once, one call sooner than by `narrow_node`. It keeps the name that docs/ has for it.
 pub fn nodes(
     b: &[u8],
     table: &ReserveTable,

@@ -1,18 +1,17 @@
--- One step of the search by prefix sum, as the code takes it: its answer is one number. Assumes nothing.
+-- One step of the search by prefix sum, as the code takes it: an index, or none for damage. Assumes nothing.
 use mathlib.Core.Path.{◌≡◌, refl, sym, ap, ◌∙◌}
 use mathlib.Core.Bool.{Bool, true, false}
 use mathlib.Core.List.{List}
 use Prim.Native.Nat.{ℕ, suc, ◌+◌, ◌-◌, ◌^◌, ◌≤◌, ◌<◌}
 use native.Mathlib.Nat.{add-zero}
 use native.Mathlib.Omega.{arith}
-use Rattle.std.specs.Prelude.{None}
+use Rattle.std.specs.Prelude.{Option, None, Some}
 use lib.Dec.{leb, ltb}
 use borrow.Author.Tests.{lt-leb, ltb-true, ltb-false}
 use Rattle.lists.specs.Lists.{pick}
 use Rattle.bits.specs.Bits.{bits}
 use Rattle.tree.specs.Read.{left_of, Sought, nowhere, at-index, shifted, seek}
 use Rattle.tree.specs.Code.Node.{Lies, Rooted}
-use Rattle.tree_walk.specs.Code.Answers.{damage_word}
 use Rattle.tree_search.specs.Code.Answers.{search_answer}
 use Rattle.tree.specs.declared.node.Split.{Split}
 use Rattle.tree.proofs.SearchLaws.{seek-left, seek-right}
@@ -22,21 +21,21 @@ use Rattle.tree.proofs.Rooting.{Inner, left-lies, right-lies}
 answer-shifted : (n m : ℕ) (p : Sought) → search_answer (n + m) p ≡ search_answer n (shifted m p)
 unfolding search_answer shifted
 answer-shifted n m nowhere = refl
-answer-shifted n m (at-index i) = omega arith
+answer-shifted n m (at-index i) = ap Some {x = n + m + i} {y = n + (m + i)} (omega arith)
 
 pub seek-damaged : (h s : ℕ) (b : List ℕ) (a q : ℕ) → leb (left_of s b a) s ≡ false → seek (suc h) s b a q ≡ nowhere
 unfolding seek pick
 seek-damaged h s b a q e = rw e
 
 module _ (h s : ℕ) (b : List ℕ) (a q n : ℕ) where
-  pub seek-leaf : h ≡ 0 → n + 1 ≡ search_answer n (seek h s b a q)
+  pub seek-leaf : h ≡ 0 → Some (n + 1) ≡ search_answer n (seek h s b a q)
   unfolding seek search_answer
   seek-leaf e = rw e
 
   up : (h ≡ 0 → ⊥) → search_answer n (seek h s b a q) ≡ search_answer n (seek (suc (h - 1)) s b a q)
   up p = ap (λ (i : ℕ). search_answer n (seek i s b a q)) {x = h} {y = suc (h - 1)} (omega (arith, p))
 
-  pub seek-bad : (h ≡ 0 → ⊥) → Rooted b a (h - 1) s None → damage_word ≡ search_answer n (seek h s b a q)
+  pub seek-bad : (h ≡ 0 → ⊥) → Rooted b a (h - 1) s None → None ≡ search_answer n (seek h s b a q)
   unfolding search_answer
   seek-bad p o = rw (up p, seek-damaged (h - 1) s b a q (lt-leb (left_of s b a) s o))
 
@@ -65,8 +64,8 @@ pub record Chosen (r : Split) (s : ℕ) (c : Bool) (m passed hours sum start : �
   pub sum_is : sum ≡ pick c (s - r.left) r.left
   pub start_is : start ≡ pick c r.second r.first
 
--- the search can go on there, to the place x
-pub record Goes (b : List ℕ) (h q n x passed hours sum start : ℕ) : Type 0 where
+-- the search can go on there, to the answer x
+pub record Goes (b : List ℕ) (h q n : ℕ) (x : Option ℕ) (passed hours sum start : ℕ) : Type 0 where
   pub lies : Lies b start h sum
   pub few : passed ≤ q
   pub room : hours ≤ 2 ^ h

@@ -5,6 +5,7 @@ use mathlib.Core.List.{List}
 use Prim.Native.Nat.{ℕ, zero, suc, ◌+◌, ◌-◌, ◌*◌, ◌/◌, ◌%◌, ◌^◌, ◌≤◌, ◌<◌}
 use native.Mathlib.Nat.{add-zero}
 use native.Mathlib.Omega.{arith}
+use Rattle.std.specs.Prelude.{None, Some}
 use lib.Dec.{leb, eqb, eqb-suc-zero}
 use borrow.Author.Tests.{leb-true, leb-false, lt-leb}
 use Rattle.lists.specs.Lists.{pick}
@@ -14,7 +15,7 @@ use Rattle.tree.specs.Code.Node.{Lies}
 use Rattle.reserve.proofs.Fit.{fit_all}
 use Rattle.tree.specs.Code.InWord.{InWord, eight_limit}
 use Rattle.tree_walk.specs.Code.Pairs.{Entered}
-use Rattle.tree_walk.specs.Code.Answers.{damage_word, walk_answer}
+use Rattle.tree_walk.specs.Code.Answers.{walk_answer}
 use Rattle.tree.specs.declared.node.Split.{Split}
 use Rattle.tree_walk.specs.declared.pairs.Pair.{Pair}
 use Rattle.tree.proofs.Rooting.{Inner}
@@ -65,10 +66,10 @@ count_of w k s passed sum x t f g et ef eg ex = ex ∙ rw (et, ef, eg)
 
 -- ---- a pair: its left count x, and the other one
 module _ (sum x : ℕ) (b : List ℕ) (a : ℕ) (e : left_of sum b a ≡ x) where
-  walk_pair : (acc k j : ℕ) → x ≤ sum → acc + pick (eqb j 0) x (sum - x + k * x) ≡ walk_answer acc k (walk 1 sum b a j)
+  walk_pair : (acc k j : ℕ) → x ≤ sum → Some (acc + pick (eqb j 0) x (sum - x + k * x)) ≡ walk_answer acc k (walk 1 sum b a j)
   unfolding walk_answer walk later pick
-  walk_pair acc k zero l = rw (walk-left 0 sum x b a 0 e l (omega arith)) (omega arith)
-  walk_pair acc k (suc j) l = rw (walk-right 0 sum x b a (suc j) e l (omega arith), eqb-suc-zero, add-zero) (omega arith)
+  walk_pair acc k zero l = rw (walk-left 0 sum x b a 0 e l (omega arith)) (ap Some {x = acc + x} {y = acc + k * 0 + x} (omega arith))
+  walk_pair acc k (suc j) l = rw (walk-right 0 sum x b a (suc j) e l (omega arith), eqb-suc-zero, add-zero) (ap Some {x = acc + (sum - x + k * x)} {y = acc + k * x + (sum - x)} (omega arith))
 
 -- ---- a height, as it was tested
 pub of-height : {b : List ℕ} {a h g s : ℕ} → h ≡ g → Lies b a h s → Lies b a g s
@@ -82,7 +83,7 @@ module _ (h s l : ℕ) (b : List ℕ) (a : ℕ) (el : left_of s b a ≡ l) (i : 
   pub above : leb (left_of s b a) s ≡ false
   above = ap (λ (z : ℕ). leb z s) el ∙ lt-leb l s i
 
-  pub walk-above : (acc keep j : ℕ) → damage_word ≡ walk_answer acc keep (walk (suc h) s b a j)
+  pub walk-above : (acc keep j : ℕ) → None ≡ walk_answer acc keep (walk (suc h) s b a j)
   unfolding walk_answer
   walk-above acc keep j = rw (walk-damaged h s b a j above)
 
@@ -133,15 +134,15 @@ module _ {b : List ℕ} {a s w k : ℕ} (o : InWord b a 2 s w k) (l : ℕ) (el :
         ∙ walk-low (inner 1 s l b a el le) j acc keep {m = 2} refl (leb-false 2 j e))
 
     module _ {p : Pair} (e : Entered w k s l (leb 2 j) p) where
-      pub walk-two-bad : p.sum < p.count → damage_word ≡ walk_answer acc keep (walk 2 s b a j)
+      pub walk-two-bad : (p.count ≤ p.sum → ⊥) → None ≡ walk_answer acc keep (walk 2 s b a j)
       walk-two-bad i =
-          walk-above 0 p.sum p.count b (start (leb 2 j)) (count-is (leb 2 j) e) i (acc + keep * p.passed) keep (j - pick (leb 2 j) 2 0)
+          walk-above 0 p.sum p.count b (start (leb 2 j)) (count-is (leb 2 j) e) (omega (arith, i)) (acc + keep * p.passed) keep (j - pick (leb 2 j) 2 0)
           ∙ chosen (leb 2 j) refl p.passed p.sum e.passed_is e.sum_is
 
       -- d counts are passed over, and z is the answer within the pair
       pub walk-two : p.count ≤ p.sum → (d z : ℕ) → d ≡ pick (leb 2 j) 2 0 → z ≡ pick (eqb (j - d) 0) p.count (p.sum - p.count + keep * p.count)
-          → acc + keep * p.passed + z ≡ walk_answer acc keep (walk 2 s b a j)
+          → Some (acc + keep * p.passed + z) ≡ walk_answer acc keep (walk 2 s b a j)
       walk-two i d z ed ez =
-          ap (λ (x : ℕ). acc + keep * p.passed + x) (ez ∙ ap (λ (x : ℕ). pick (eqb (j - x) 0) p.count (p.sum - p.count + keep * p.count)) ed)
+          ap (λ (x : ℕ). Some (acc + keep * p.passed + x)) (ez ∙ ap (λ (x : ℕ). pick (eqb (j - x) 0) p.count (p.sum - p.count + keep * p.count)) ed)
           ∙ walk_pair p.sum p.count b (start (leb 2 j)) (count-is (leb 2 j) e) (acc + keep * p.passed) keep (j - pick (leb 2 j) 2 0) i
           ∙ chosen (leb 2 j) refl p.passed p.sum e.passed_is e.sum_is

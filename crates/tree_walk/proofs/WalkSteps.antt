@@ -1,11 +1,11 @@
--- One step of the walk to a count, as the code takes it: its answer is one number. Assumes nothing.
+-- One step of the walk to a count, as the code takes it: a count, or none for damage. Assumes nothing.
 use mathlib.Core.Path.{◌≡◌, refl, sym, ap}
 use mathlib.Core.Bool.{Bool, true, false}
 use mathlib.Core.List.{List}
 use Prim.Native.Nat.{ℕ, zero, suc, ◌+◌, ◌-◌, ◌*◌, ◌^◌, ◌≤◌, ◌<◌}
 use native.Mathlib.Nat.{mul-le-mul_right}
 use native.Mathlib.Omega.{arith}
-use Rattle.std.specs.Prelude.{None}
+use Rattle.std.specs.Prelude.{None, Some}
 use lib.Dec.{leb, ltb}
 use borrow.Author.Tests.{lt-leb}
 use Rattle.lists.specs.Lists.{pick}
@@ -13,7 +13,7 @@ use Rattle.bits.specs.Bits.{value_from}
 use Rattle.reserve.specs.Reserve.{digits}
 use Rattle.tree.specs.Read.{left_of, left_at, right_at, Found, damaged, found, later, walk}
 use Rattle.tree.specs.Code.Node.{Rooted}
-use Rattle.tree_walk.specs.Code.Answers.{damage_word, walk_answer}
+use Rattle.tree_walk.specs.Code.Answers.{walk_answer}
 use Rattle.tree.specs.declared.node.Split.{Split}
 use Rattle.tree.proofs.WalkLaws.{walk-left, walk-right}
 use Rattle.tree.proofs.Rooting.{Inner}
@@ -26,7 +26,7 @@ kept k l h = omega (arith, mul-le-mul_right l h)
 answer-later : (acc k l : ℕ) (f : Found) → walk_answer (acc + k * l) k f ≡ walk_answer acc k (later l f)
 unfolding walk_answer later
 answer-later acc k l damaged = refl
-answer-later acc k l (found x c) = omega arith
+answer-later acc k l (found x c) = ap Some {x = acc + k * l + k * x + c} {y = acc + k * (l + x) + c} (omega arith)
 
 pub walk-damaged : (h s : ℕ) (b : List ℕ) (a j : ℕ) → leb (left_of s b a) s ≡ false → walk (suc h) s b a j ≡ damaged
 unfolding walk pick
@@ -45,18 +45,18 @@ walk-zero zero b a j = refl
 walk-zero (suc h) b a j = either (ltb j (2 ^ h)) _ _ (walk-zero h b (left_at 0 a) j) (walk-zero h b (right_at h 0 0 a) (j - 2 ^ h))
 
 module _ (h s : ℕ) (b : List ℕ) (a j acc k : ℕ) where
-  pub walk_none : s ≡ 0 → acc ≡ walk_answer acc k (walk h s b a j)
+  pub walk_none : s ≡ 0 → Some acc ≡ walk_answer acc k (walk h s b a j)
   unfolding walk_answer
-  walk_none e = rw (e, walk-zero h b a j) (omega arith)
+  walk_none e = rw (e, walk-zero h b a j) (ap Some {x = acc} {y = acc + k * 0 + 0} (omega arith))
 
-  pub walk-leaf : h ≡ 0 → acc + s ≡ walk_answer acc k (walk h s b a j)
+  pub walk-leaf : h ≡ 0 → Some (acc + s) ≡ walk_answer acc k (walk h s b a j)
   unfolding walk walk_answer
-  walk-leaf e = rw e (omega arith)
+  walk-leaf e = rw e (ap Some {x = acc + s} {y = acc + k * 0 + s} (omega arith))
 
   up : (h ≡ 0 → ⊥) → walk_answer acc k (walk h s b a j) ≡ walk_answer acc k (walk (suc (h - 1)) s b a j)
   up p = ap (λ (i : ℕ). walk_answer acc k (walk i s b a j)) {x = h} {y = suc (h - 1)} (omega (arith, p))
 
-  pub walk-bad : (h ≡ 0 → ⊥) → Rooted b a (h - 1) s None → damage_word ≡ walk_answer acc k (walk h s b a j)
+  pub walk-bad : (h ≡ 0 → ⊥) → Rooted b a (h - 1) s None → None ≡ walk_answer acc k (walk h s b a j)
   unfolding walk_answer
   walk-bad p n = rw (up p, walk-damaged (h - 1) s b a j (lt-leb (left_of s b a) s n))
 

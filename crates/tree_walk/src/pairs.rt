@@ -1,4 +1,4 @@
-// The lowest two levels on a walk's way: four counts whose bits stand in a word, and one of their two pairs.
+// The lowest two levels on the way of a walk or a search: four counts whose bits stand in a word, and one of their two pairs.
 ghost use Rattle.std.specs.Prelude.{◌+◌, ◌≤◌, ◌<◌};
 ghost use Rattle.reserve.specs.Reserve.{reserve};
 ghost use Rattle.tree_walk.specs.Code.Pairs.{Entered};
@@ -16,7 +16,7 @@ pub struct Pair {
 }
 
 // The left pair, or the right one, of four counts with sum s and left sum left, whose bits stand in w behind its k high ones. The pair's
-// left count stands behind the left sum, and in the right pair behind the left pair's.
+// left count stands behind the left sum, and in the right pair behind the left pair's. Which pair picks numbers alone, without a jump.
 pub fn one_pair(w: u64, k: u32, s: u64, left: u64, right: bool) -> Pair
     requires { (left ≤ s) × (k + reserve 2 s < 64) }
     ensures { Entered w k s left right result }

@@ -62,9 +62,17 @@ pub one-count : (l b : List ℕ) (i h s a : ℕ) → h ≡ 0 → i < length l �
 unfolding splice counts
 one-count l b i h s a e k = rw e (set_split l i s k ∙ rw add-one)
 
-counts-node : (h s l : ℕ) (b : List ℕ) (a : ℕ) → left_of s b a ≡ l → counts (suc h) s b a ≡ counts h l b (left_at s a) ++ counts h (s - l) b (right_at h s l a)
+pub counts-node : (h s l : ℕ) (b : List ℕ) (a : ℕ) → left_of s b a ≡ l → counts (suc h) s b a ≡ counts h l b (left_at s a) ++ counts h (s - l) b (right_at h s l a)
 unfolding counts
 counts-node h s l b a e = rw e
+
+-- counts of two halves, one after the other
+pub joined-written : (h x y : ℕ) (b d : List ℕ) {z : List ℕ} → z ≡ counts h x b 0 ++ counts h y d 0 → (o m r : List ℕ) (i half : ℕ) → half ≡ 2 ^ h
+    → i + 2 ^ suc h ≤ length o → m ≡ splice o i (counts h x b 0) → r ≡ splice m (i + half) (counts h y d 0) → r ≡ splice o i z
+joined-written h x y b d ez o m r i half eh fits em er =
+    let lX : length (counts h x b 0) ≡ 2 ^ h = length-counts h x b 0 in
+    let lY : length (counts h y d 0) ≡ 2 ^ h = length-counts h y d 0 in
+    splice-then o m r (counts h x b 0) (counts h y d 0) i (i + half) em er (omega arith) (omega (arith, pow-succ' 2 h)) ∙ ap (splice o i) (sym ez)
 
 -- the counts of a node's left half, whose sum is l, and then those of its right half are the node's
 pub halves-written : (h s l : ℕ) (b : List ℕ) (a : ℕ) → left_of s b a ≡ l → (o m r : List ℕ) (i half : ℕ) → half ≡ 2 ^ h → i + 2 ^ suc h ≤ length o

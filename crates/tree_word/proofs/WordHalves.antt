@@ -1,7 +1,7 @@
 -- Both halves, 2^h counts each, of a tree whose bits are all in the word w. Assumes nothing.
-use mathlib.Core.Path.{◌≡◌, refl, ap, ◌∙◌, subst}
+use mathlib.Core.Path.{◌≡◌, refl, sym, ap, ap₂, ◌∙◌, subst}
 use mathlib.Core.Bool.{true}
-use mathlib.Core.List.{List}
+use mathlib.Core.List.{List, ◌++◌}
 use Prim.Native.Nat.{ℕ, suc, ◌+◌, ◌-◌, ◌*◌, ◌/◌, ◌%◌, ◌^◌, ◌≤◌}
 use native.Mathlib.Omega.{arith}
 use lib.ListN.{length}
@@ -12,7 +12,7 @@ use Rattle.reserve.specs.Reserve.{digits, reserve}
 use Rattle.reserve.proofs.Fit.{fit_all, grows}
 use Rattle.tree.specs.Read.{left_of, left_at, right_at, counts}
 use Rattle.tree.specs.Code.Exact.{exact}
-use Rattle.tree_word.proofs.Decoding.{BothExact, both-exact, halves-written}
+use Rattle.tree_word.proofs.Decoding.{BothExact, both-exact, counts-node, halves-written}
 use Rattle.tree_word.proofs.WordBits.{HighEnd, raised, word-exact, word_counts, left-at}
 
 -- as the code works them out: the left sum l, by the digits t of s
@@ -24,6 +24,12 @@ pub record Top (h s w t l : ℕ) : Type 0 where
 
 pub top : {h s w t l : ℕ} → exact (suc h) s (field 64 w) 0 ≡ true → reserve (suc h) s ≤ 57 → t ≡ digits s → l ≡ w / 2 ^ (64 - (0 + t)) % 2 ^ t → Top h s w t l
 top x r et el = record { code = x; whole = r; digits_are = et; left = el }
+
+pub top-of : {H h s w t l : ℕ} → H ≡ h + 1 → exact H s (field 64 w) 0 ≡ true → reserve H s ≤ 57 → t ≡ digits s → l ≡ w / 2 ^ (64 - (0 + t)) % 2 ^ t
+    → Top h s w t l
+top-of {H} {h} {s} {w} e x r =
+    let up : suc h ≡ H = omega (arith, e) in
+    top (ap (λ (k : ℕ). exact k s (field 64 w) 0) up ∙ x) (rw up r)
 
 module _ {h s w t l : ℕ} (q : Top h s w t l) where
   pub short : t ≤ 57
@@ -58,6 +64,10 @@ module _ {h s w t l : ℕ} (q : Top h s w t l) where
 
     pub right-exact : exact h (s - l) (field 64 ((w * 2 ^ (t + x)) % 2 ^ 64)) 0 ≡ true
     right-exact = word-exact right-held both.right
+
+    pub word-halves : counts (suc h) s (field 64 w) 0
+        ≡ counts h l (field 64 ((w * 2 ^ t) % 2 ^ 64)) 0 ++ counts h (s - l) (field 64 ((w * 2 ^ (t + x)) % 2 ^ 64)) 0
+    word-halves = counts-node h s l (field 64 w) 0 left_is ∙ ap₂ ◌++◌ (sym (word_counts left-held both.left)) (sym (word_counts right-held both.right))
 
     pub word-written : (o m r : List ℕ) (i half : ℕ) → half ≡ 2 ^ h → i + 2 ^ suc h ≤ length o
         → m ≡ splice o i (counts h l (field 64 ((w * 2 ^ t) % 2 ^ 64)) 0)

@@ -48,6 +48,14 @@ pub begin : {cs o : List ℕ} {at from s a b c : ℕ} → Lies o at 2 s → s �
     → b ≡ get_or cs (from + 1) 0 → c ≡ get_or cs (from + 2) 0 → Four cs o at from s a b c
 begin y t z ea eb ec = record { lies = y; total = t; blank = z; a-is = ea; b-is = eb; c-is = ec }
 
+-- their three fields, t, f and g bits wide: none is wider than the first, they lie in the bytes, and the left sum l, a and c fit them
+pub record Fields (o : List ℕ) (at t f g l a c : ℕ) : Type 0 where
+  pub narrow : (f ≤ t) × (g ≤ t) × (t ≤ 40)
+  pub inside : at + (t + f + g) ≤ 8 * length o
+  pub left-fits : l < 2 ^ t
+  pub a-fits : a < 2 ^ f
+  pub c-fits : c < 2 ^ g
+
 module _ {cs o : List ℕ} {at from s a b c : ℕ} (q : Four cs o at from s a b c) where
   left-sum : a + b ≡ sum (window cs from 2)
   left-sum = omega (arith, q.a-is, q.b-is, two-counts cs from)
@@ -74,28 +82,31 @@ module _ {cs o : List ℕ} {at from s a b c : ℕ} (q : Four cs o at from s a b 
       (e ∙ ap₂ (λ (x y : List ℕ). splice (bits o) at (field (digits s) (a + b) ++ (x ++ y))) (sym L) (sym R))
 
   module _ (t f g : ℕ) (et : t ≡ digits s) (ef : f ≡ digits (a + b)) (eg : g ≡ digits (s - (a + b))) where
-    pub owned : t + f + g ≤ reserve 2 s
+    owned : t + f + g ≤ reserve 2 s
     owned = omega (arith, fit_all 1 s (a + b) (s - (a + b)) (omega (arith, left_le)), reserve-pair (a + b), reserve-pair (s - (a + b)))
 
-    pub inside : at + (t + f + g) ≤ 8 * length o
+    inside : at + (t + f + g) ≤ 8 * length o
     inside = omega (arith, q.lies.inside, owned)
 
-    pub left-fits : a + b < 2 ^ t
+    left-fits : a + b < 2 ^ t
     left-fits = rw et (omega (arith, left_le, digits-is s))
 
-    pub a-fits : a < 2 ^ f
+    a-fits : a < 2 ^ f
     a-fits = rw ef (omega (arith, digits-is (a + b)))
 
-    pub c-fits : c < 2 ^ g
+    c-fits : c < 2 ^ g
     c-fits = rw eg (omega (arith, right_le, digits-is (s - (a + b))))
 
     -- no field is wider than the first
-    pub narrow : (f ≤ t) × (g ≤ t) × (t ≤ 40)
+    narrow : (f ≤ t) × (g ≤ t) × (t ≤ 40)
     narrow = (
       omega (arith, digits_le (a + b) t left-fits),
       omega (arith, digits_le (s - (a + b)) t (rw et (omega (arith, digits-is s)))),
       omega (arith, digits_le s 40 q.lies.total),
     )
+
+    pub fields : Fields o at t f g (a + b) a c
+    fields = record { narrow = narrow; inside = inside; left-fits = left-fits; a-fits = a-fits; c-fits = c-fits }
 
     -- one behind the other
     pub in-turn : (o₁ o₂ o₃ : List ℕ) → bits o₁ ≡ splice (bits o) at (field t (a + b)) → bits o₂ ≡ splice (bits o₁) (at + t) (field f a)

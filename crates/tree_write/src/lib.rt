@@ -1,5 +1,6 @@
 // The code of a tree of counts, written into bits. The bits are made 0 first and each field is then added to them, so that left-over bits
-// need no thought and no reserve but a left half's is worked out.
+// need no thought and no reserve but a left half's is worked out. Place, height and sum as numbers: see `tree`. The counts are those from
+// an index on, and not a slice from there: the index may be beyond the list's end, where zeros stand. A node's sum is worked out above it.
 #![tactic(auto)]
 
 ghost use Rattle.std.specs.Prelude.{◌≡◌, ◌+◌, ◌≤◌, ◌^◌, get_or};
@@ -24,7 +25,8 @@ fn count_at(counts: &[u32], i: usize) -> u64
 }
 
 // The lowest two levels: the tree of the four counts from index from on, whose sum s is not 0, into zero bits from bit at on. Its three
-// fields have three times the digits of s at most, and are one where 57 bits hold them.
+// fields have three times the digits of s at most, and are one where 57 bits hold them. Else each is put: one of the last two may have no
+// bits.
 fn four(out: &mut [u8], at: usize, counts: &[u32], from: usize, s: u64)
     requires lies { Lies out.old at 2 s × (s ≡ sum (window counts.now from 4)) × (from + 4 ≤ 2 ^ 62) × (1 ≤ s) }
     requires blank { Blank (bits out.old) at (reserved 2 s) }
@@ -47,7 +49,8 @@ fn four(out: &mut [u8], at: usize, counts: &[u32], from: usize, s: u64)
     put_field(out, next + (first as usize), second, c);
 }
 
-// Writes the tree of the 2^h counts from index from on, whose sum is s, into zero bits from bit at on; zeros stand beyond the end of counts.
+// Writes the tree of the 2^h counts from index from on, whose sum is s, into zero bits from bit at on; zeros stand beyond the end of
+// counts.
 pub fn nodes(out: &mut [u8], at: usize, h: u32, counts: &[u32], from: usize, s: u64)
     requires lies { Lies out.old at h s × (s ≡ sum (window counts.now from (2 ^ h))) × (from + 2 ^ h ≤ 2 ^ 62) }
     requires blank { Blank (bits out.old) at (reserved h s) }

@@ -7,10 +7,10 @@ use Rattle.tree_decode.proofs.decode.Goals as goal
 pub decode_word-requires : goal.decode_word-requires
 decode_word-requires c =
     let one = c.fits.ensures c.if-fits.true in
-    (one, word-exact (loaded _ c.requires.sums.0 one.bits c.load.ensures) c.requires.sums.1, c.requires.at_value.1)
+    (one, word-exact (loaded _ c.requires.code.lies one.bits c.load.ensures) c.requires.code.code, c.requires.room)
 
 pub returns-then-fits : goal.returns-then-fits
 returns-then-fits c =
     let one = c.fits.ensures c.if-fits.true in
     c.decode_word.ensures
-    ∙ ap (splice c.args.out.now c.args.from) (word_counts (loaded _ c.requires.sums.0 one.bits c.load.ensures) c.requires.sums.1)
+    ∙ ap (splice c.args.out.now c.args.from) (word_counts (loaded _ c.requires.code.lies one.bits c.load.ensures) c.requires.code.code)

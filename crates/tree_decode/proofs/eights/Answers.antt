@@ -2,22 +2,16 @@
 use mathlib.Core.Path.{◌≡◌, refl}
 use Prim.Native.Nat.{ℕ}
 use native.Mathlib.Omega.{arith}
-use Rattle.tree.proofs.OneWord.{few-digits}
+use Rattle.tree.proofs.OneWord.{few-digits, eight_fits}
 use Rattle.tree_word.proofs.Decoding.{both_halves}
-use Rattle.tree_decode.proofs.EightCounts.{eight-exact, eight-written}
 use Rattle.tree_decode.proofs.Halving.{read, root-some, first-half, second-half}
 use Rattle.tree_decode.proofs.eights.Goals as goal
 
 high : ◌≡◌ {A = ℕ} 3 0 → ⊥
 high e = omega arith
 
-pub eight-requires : goal.eight-requires
-eight-requires c =
-    (eight-exact c.requires.0 c.if-s-lt256.true _ c.load.ensures, c.if-s-lt256.true, c.requires.1)
-
-pub returns-then-s-lt256 : goal.returns-then-s-lt256
-returns-then-s-lt256 c =
-    eight-written c.requires.0 c.if-s-lt256.true _ c.load.ensures c.args.out.now _ c.args.from c.eight.ensures
+pub word-requires : goal.word-requires
+word-requires c = (omega arith, (c.requires.0, eight_fits c.args.s (omega (arith, c.if-s-lt256.true))))
 
 pub fours-requires : goal.fours-requires
 fours-requires c =

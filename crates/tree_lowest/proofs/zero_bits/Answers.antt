@@ -7,13 +7,6 @@ use Rattle.tree.specs.Code.Exact.{clear}
 use Rattle.tree.proofs.Clearing.{clear-on, clear-not, clear_none}
 use Rattle.tree_lowest.proofs.zero_bits.Goals as goal
 
-pub loop-done-init : goal.loop-done-init
-loop-done-init c =
-    let a = c.args in
-    let e : a.at ≡ a.at + 0 = omega arith in
-    let f : a.n ≡ a.n - 0 = omega arith in
-    (omega arith, ap₂ (clear (bits a.b.now)) e f)
-
 pub returns-then-get_field-ne0 : goal.returns-then-get_field-ne0
 returns-then-get_field-ne0 c =
     let l = c.loop-done in

@@ -1,9 +1,8 @@
--- How a search answers in one number. Assumes nothing.
-use Rattle.std.specs.Prelude.{ℕ, ◌+◌}
+-- How a search answers. Assumes nothing.
+use Rattle.std.specs.Prelude.{ℕ, ◌+◌, Option, None, Some}
 use Rattle.tree.specs.Read.{Sought, nowhere, at-index}
-use Rattle.tree_walk.specs.Code.Answers.{damage_word}
 
--- how a search answers: the index, and n counts before the tree
-unfoldable pub search_answer : ℕ → Sought → ℕ
-search_answer n nowhere = damage_word
-search_answer n (at-index i) = n + i
+-- the index, and n counts before the tree; or none for damage
+unfoldable pub search_answer : ℕ → Sought → Option ℕ
+search_answer n nowhere = None
+search_answer n (at-index i) = Some (n + i)

@@ -4,4 +4,4 @@ use Rattle.bits_field.proofs.front.load.Goals as goal
 
 pub returns : goal.returns
 returns c =
-    front-is c.args.s.now c.min-o.result c.args.at c.load8.result c.min-o.ensures c.requires.2 c.load8.ensures
+    front-is c.args.s.now c.place-o.result c.args.at c.load8.result c.place-o.ensures c.requires.2 c.load8.ensures

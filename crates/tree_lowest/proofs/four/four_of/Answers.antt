@@ -8,50 +8,52 @@ pub overflow_sub-high : goal.overflow_sub-high
 overflow_sub-high c =
     high_fits _ _ _ c.requires.0 c.digits_of.ensures
 
-pub returns-then-s-left : goal.returns-then-s-left
-returns-then-s-left c =
+pub returns-in_err-right : goal.returns-in_err-right
+returns-in_err-right c =
     let q = quad c.requires c.digits_of.ensures in
-    quad-above q c.if-s-left.true
+    rw c.from_residual.ensures (quad-above q c.in_err-right.ensures)
 
 pub overflow_sub-mid : goal.overflow_sub-mid
 overflow_sub-mid c =
     let q = quad c.requires c.digits_of.ensures in
-    omega (arith, widths q c.if-s-left.false _ _ c.digits_of-first.ensures refl)
+    omega (arith, widths q c.in_ok-right.ensures _ _ c.digits_of-first.ensures refl)
 
-pub low_bits-x-requires : goal.low_bits-x-requires
-low_bits-x-requires c =
+pub low_bits-a-requires : goal.low_bits-a-requires
+low_bits-a-requires c =
     let q = quad c.requires c.digits_of.ensures in
-    (widths q c.if-s-left.false _ _ c.digits_of-first.ensures refl).1
+    (widths q c.in_ok-right.ensures _ _ c.digits_of-first.ensures refl).1
 
-pub returns-then-left-x : goal.returns-then-left-x
-returns-then-left-x c =
+pub returns-in_err-b : goal.returns-in_err-b
+returns-in_err-b c =
     let q = quad c.requires c.digits_of.ensures in
-    quad-left q c.if-s-left.false _ _ c.digits_of-first.ensures refl _ c.low_bits-x.ensures c.if-left-x.true
+    rw c.from_residual-in_err-b.ensures
+    (quad-left q c.in_ok-right.ensures _ _ c.digits_of-first.ensures refl _ c.low_bits-a.ensures c.in_err-b.ensures)
 
 pub overflow_sub-low : goal.overflow_sub-low
 overflow_sub-low c =
     let q = quad c.requires c.digits_of.ensures in
-    omega (arith, widths q c.if-s-left.false _ _ c.digits_of-first.ensures c.digits_of-second.ensures)
+    omega (arith, widths q c.in_ok-right.ensures _ _ c.digits_of-first.ensures c.digits_of-second.ensures)
 
-pub low_bits-y-requires : goal.low_bits-y-requires
-low_bits-y-requires c =
+pub low_bits-c-requires : goal.low_bits-c-requires
+low_bits-c-requires c =
     let q = quad c.requires c.digits_of.ensures in
-    (widths q c.if-s-left.false _ _ c.digits_of-first.ensures c.digits_of-second.ensures).2
+    (widths q c.in_ok-right.ensures _ _ c.digits_of-first.ensures c.digits_of-second.ensures).2
 
-pub returns-then-right-y : goal.returns-then-right-y
-returns-then-right-y c =
+pub returns-in_err-d : goal.returns-in_err-d
+returns-in_err-d c =
     let q = quad c.requires c.digits_of.ensures in
-    quad-right q c.if-s-left.false _ _ c.digits_of-first.ensures c.digits_of-second.ensures
-    _ _ c.low_bits-x.ensures c.if-left-x.false c.low_bits-y.ensures c.if-right-y.true
+    rw c.from_residual-in_err-d.ensures
+    (quad-right q c.in_ok-right.ensures _ _ c.digits_of-first.ensures c.digits_of-second.ensures
+    _ _ c.low_bits-a.ensures c.in_ok-b.ensures c.low_bits-c.ensures c.in_err-d.ensures)
 
 pub returns-then-low_bits-ne0 : goal.returns-then-low_bits-ne0
 returns-then-low_bits-ne0 c =
     let q = quad c.requires c.digits_of.ensures in
-    quad-spare q c.if-s-left.false _ _ c.digits_of-first.ensures c.digits_of-second.ensures _ _
-    c.low_bits-x.ensures c.if-left-x.false c.low_bits-y.ensures _ c.if-right-y.false c.low_bits.ensures c.if-low_bits-ne0.true
+    quad-spare q c.in_ok-right.ensures _ _ c.digits_of-first.ensures c.digits_of-second.ensures _ _
+    c.low_bits-a.ensures c.in_ok-b.ensures c.low_bits-c.ensures _ c.in_ok-d.ensures c.low_bits.ensures c.if-low_bits-ne0.true
 
 pub returns : goal.returns
 returns c =
     let q = quad c.requires c.digits_of.ensures in
-    quad-last q c.if-s-left.false _ _ c.digits_of-first.ensures c.digits_of-second.ensures _ _
-    c.low_bits-x.ensures c.if-left-x.false c.low_bits-y.ensures _ c.if-right-y.false c.low_bits.ensures c.if-low_bits-ne0.false
+    quad-last q c.in_ok-right.ensures _ _ c.digits_of-first.ensures c.digits_of-second.ensures _ _
+    c.low_bits-a.ensures c.in_ok-b.ensures c.low_bits-c.ensures _ c.in_ok-d.ensures c.low_bits.ensures c.if-low_bits-ne0.false

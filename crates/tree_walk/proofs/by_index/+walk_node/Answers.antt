@@ -24,37 +24,37 @@ returns-then-one_word t c =
 pub returns-then-h-eq0 : goal.returns-then-h-eq0
 returns-then-h-eq0 t c = walk-leaf _ _ _ _ _ _ _ c.if-h-eq0.true
 
-pub returns-in_default : goal.returns-in_default
-returns-in_default t c = walk-bad _ _ _ _ _ _ _ c.if-h-eq0.false c.in_default.ensures
+pub returns-in_err-r : goal.returns-in_err-r
+returns-in_err-r t c = rw c.from_residual.ensures (walk-bad _ _ _ _ _ _ _ c.if-h-eq0.false c.in_err-r.ensures)
 
 pub walk_node-requires : goal.walk_node-requires
 walk_node-requires t c =
-    let i = inner c.if-h-eq0.false c.in-Some.ensures in
-    let k = kept c.args.keep c.in-Some.r.left c.requires.2 in (
+    let i = inner c.if-h-eq0.false c.in_ok-r.ensures in
+    let k = kept c.args.keep c.in_ok-r.r.left c.requires.2 in (
       omega (arith, i.high),
       (left-lies c.requires.0 i, omega (arith, c.requires, i.root.left_le, k), c.requires.2),
     )
 
 pub returns-then-j-half : goal.returns-then-j-half
 returns-then-j-half t c =
-    c.walk_node.ensures ∙ walk-low (inner c.if-h-eq0.false c.in-Some.ensures) _ _ _ c.power-half.ensures (omega (arith, c.if-j-half.true))
+    c.walk_node.ensures ∙ walk-low (inner c.if-h-eq0.false c.in_ok-r.ensures) _ _ _ c.power-half.ensures (omega (arith, c.if-j-half.true))
 
 pub overflow_mul-keep : goal.overflow_mul-keep
 overflow_mul-keep t c =
-    let i = inner c.if-h-eq0.false c.in-Some.ensures in
-    let k = kept c.args.keep c.in-Some.r.left c.requires.2 in
+    let i = inner c.if-h-eq0.false c.in_ok-r.ensures in
+    let k = kept c.args.keep c.in_ok-r.r.left c.requires.2 in
     omega (arith, c.requires, i.root.left_le, k)
 
 pub overflow_add-acc : goal.overflow_add-acc
 overflow_add-acc t c =
-    let i = inner c.if-h-eq0.false c.in-Some.ensures in
-    let k = kept c.args.keep c.in-Some.r.left c.requires.2 in
+    let i = inner c.if-h-eq0.false c.in_ok-r.ensures in
+    let k = kept c.args.keep c.in_ok-r.r.left c.requires.2 in
     omega (arith, c.requires, i.root.left_le, k)
 
 pub walk_node-requires-2 : goal.walk_node-requires-2
 walk_node-requires-2 t c =
-    let i = inner c.if-h-eq0.false c.in-Some.ensures in
-    let k = kept c.args.keep c.in-Some.r.left c.requires.2 in (
+    let i = inner c.if-h-eq0.false c.in_ok-r.ensures in
+    let k = kept c.args.keep c.in_ok-r.r.left c.requires.2 in (
       omega (arith, i.high),
       (right-lies c.requires.0 i, omega (arith, c.requires, i.root.left_le, k), c.requires.2),
     )
@@ -62,4 +62,4 @@ walk_node-requires-2 t c =
 pub returns : goal.returns
 returns t c =
     c.walk_node-2.ensures
-    ∙ walk-high (inner c.if-h-eq0.false c.in-Some.ensures) _ _ _ c.power-half.ensures (omega (arith, c.if-j-half.false))
+    ∙ walk-high (inner c.if-h-eq0.false c.in_ok-r.ensures) _ _ _ c.power-half.ensures (omega (arith, c.if-j-half.false))

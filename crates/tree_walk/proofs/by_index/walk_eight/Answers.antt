@@ -11,17 +11,17 @@ pub part-left-requires : goal.part-left-requires
 part-left-requires c =
     omega (arith, fit_all 2 c.args.s 0 c.args.s (omega arith), eight_fits c.args.s c.requires.1, c.digits_of-t.ensures)
 
-pub returns-then-s-left : goal.returns-then-s-left
-returns-then-s-left c =
+pub returns-in_err-right : goal.returns-in_err-right
+returns-in_err-right c =
     let word = loaded c.requires.0 (eight_fits c.args.s c.requires.1) c.load-w.ensures in
     let left_is = left-read word _ _ c.digits_of-t.ensures c.part-left.ensures in
-    walk-above 2 _ _ _ _ left_is c.if-s-left.true _ _ _
+    rw c.from_residual.ensures (walk-above 2 _ _ _ _ left_is (omega (arith, c.in_err-right.ensures)) _ _ _)
 
 pub walk_four-requires : goal.walk_four-requires
 walk_four-requires c =
-    let room = eight-room c.requires.1 c.if-s-left.false in (
+    let room = eight-room c.requires.1 c.in_ok-right.ensures.0 in (
       omega (arith, room, c.digits_of-t.ensures),
-      omega (arith, c.requires.2, c.if-s-left.false),
+      omega (arith, c.requires.2, c.in_ok-right.ensures.0),
       c.requires.3,
     )
 
@@ -29,24 +29,25 @@ pub returns-then-j-lt4 : goal.returns-then-j-lt4
 returns-then-j-lt4 c =
     let word = loaded c.requires.0 (eight_fits c.args.s c.requires.1) c.load-w.ensures in
     let left_is = left-read word _ _ c.digits_of-t.ensures c.part-left.ensures in
-    c.walk_four.ensures _ _ (left_word word _ c.if-s-left.false _ (omega (arith, c.digits_of-t.ensures)))
-    ∙ walk-low (inner 2 _ _ _ _ left_is c.if-s-left.false) _ _ _ {m = 4} refl c.if-j-lt4.true
+    c.walk_four.ensures _ _ (left_word word _ c.in_ok-right.ensures.0 _ (omega (arith, c.digits_of-t.ensures)))
+    ∙ walk-low (inner 2 _ _ _ _ left_is c.in_ok-right.ensures.0) _ _ _ {m = 4} refl c.if-j-lt4.true
 
 pub overflow_cast-k : goal.overflow_cast-k
 overflow_cast-k c =
-    let room = eight-room c.requires.1 c.if-s-left.false in
+    let room = eight-room c.requires.1 c.in_ok-right.ensures.0 in
     omega (arith, room, c.reserve_of.ensures)
 
 pub overflow_add-k : goal.overflow_add-k
 overflow_add-k c =
-    let room = eight-room c.requires.1 c.if-s-left.false in
+    let room = eight-room c.requires.1 c.in_ok-right.ensures.0 in
     omega (arith, room, c.reserve_of.ensures, c.digits_of-t.ensures)
 
 pub walk_four-requires-2 : goal.walk_four-requires-2
 walk_four-requires-2 c =
-    let room = eight-room c.requires.1 c.if-s-left.false in (
+    let room = eight-room c.requires.1 c.in_ok-right.ensures.0 in
+    rw c.in_ok-right.ensures.1 (
       omega (arith, room, c.reserve_of.ensures, c.digits_of-t.ensures),
-      omega (arith, kept _ c.part-left.result c.requires.3, c.if-s-left.false, c.requires.2),
+      omega (arith, kept _ c.part-left.result c.requires.3, c.in_ok-right.ensures.0, c.requires.2),
       c.requires.3,
     )
 
@@ -54,5 +55,5 @@ pub returns : goal.returns
 returns c =
     let word = loaded c.requires.0 (eight_fits c.args.s c.requires.1) c.load-w.ensures in
     let left_is = left-read word _ _ c.digits_of-t.ensures c.part-left.ensures in
-    c.walk_four-2.ensures _ _ (right-word word _ c.if-s-left.false _ (omega (arith, c.reserve_of.ensures, c.digits_of-t.ensures)))
-    ∙ walk-high (inner 2 _ _ _ _ left_is c.if-s-left.false) _ _ _ {m = 4} refl c.if-j-lt4.false
+    (rw c.in_ok-right.ensures.1 at c.walk_four-2.ensures) _ _ (right-word word _ c.in_ok-right.ensures.0 _ (omega (arith, c.reserve_of.ensures, c.digits_of-t.ensures)))
+    ∙ walk-high (inner 2 _ _ _ _ left_is c.in_ok-right.ensures.0) _ _ _ {m = 4} refl c.if-j-lt4.false
