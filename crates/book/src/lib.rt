@@ -58,7 +58,8 @@ fn within(book: &[u8], from: usize, n: usize) -> usize
     n.min((book.len() / 2).saturating_sub(from))
 }
 
-// Puts the counts of the hours from hour from on into counts, zeros behind the last hour.
+// Puts the counts of the hours from hour from on into counts, zeros behind the last hour. By an index, for behind a zip with iter_mut a
+// proof knows no element.
 pub fn hours(book: &[u8], from: usize, counts: &mut [u32])
     requires { from + length counts.old < 4294967296 }
     ensures { counts.new ≡ window (list_of_book book.now) from (length counts.old) }
@@ -70,7 +71,8 @@ pub fn hours(book: &[u8], from: usize, counts: &mut [u32])
     counts[own..].fill(0);
 }
 
-// The sum of the counts of n hours from hour from on, none behind the last hour.
+// The sum of the counts of n hours from hour from on, none behind the last hour. By an index, as in hours: as pairs of as_chunks the hours
+// would first have to be cut out of the book.
 pub fn sum_at(book: &[u8], from: usize, n: usize) -> u64
     requires { (from + n < 4294967296) × (n ≤ 65536) }
     ensures { (result ≡ sum (window (list_of_book book.now) from n)) × (result ≤ 16665 * n) }

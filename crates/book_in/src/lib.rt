@@ -26,7 +26,8 @@ fn write_list(book: &[u8], e: u32, out: &mut [u8]) -> Result<u64, Refusal>
     Ok(n)
 }
 
-// Writes the image of a book to the start of out, and no byte beyond it.
+// Writes the image of a book to the start of out, and no byte beyond it. The page size is tested before the digits are, and again by the
+// plan, which has other callers.
 pub fn from_bcd(book: &[u8], e: u32, out: &mut [u8]) -> Result<u64, Refusal>
     ensures { result_of result out.new ≡ from_call e book.now out.old }
 {

@@ -7,12 +7,13 @@ use answers::refusal::Refusal;
 use book::sum_at;
 use image_plan::{Layout, Plan, add_page, finish, start};
 
-// Adds the pages that a plan of a book's list lacks.
-fn add_pages(book: &[u8], e: u32, plan: Plan) -> Plan
-    requires { Drafted e (list_of_book book.now) plan }
-    ensures { Drafted e (list_of_book book.now) result × (result.pages ≤ result.done) }
+// Adds the pages that a plan of a book's list lacks. An own loop, as image_write has: what a closure for the sums would ask is longer than
+// it.
+fn add_pages(book: &[u8], plan: Plan) -> Plan
+    requires { Drafted plan.e (list_of_book book.now) plan }
+    ensures { Drafted plan.e (list_of_book book.now) result × (result.pages ≤ result.done) }
 {
-    let m = reserve::power(e) as usize;
+    let m = reserve::power(plan.e) as usize;
     let mut next = plan;
     for page in plan.done..plan.pages {
         let s = sum_at(book, m * page, m);
@@ -26,5 +27,5 @@ pub(crate) fn layout_of(book: &[u8], e: u32) -> Result<Layout, Refusal>
     ensures { Planned e (list_of_book book.now) result }
 {
     let plan = start(e, (book.len() / 2) as u64)?;
-    finish(add_pages(book, e, plan))
+    finish(add_pages(book, plan))
 }

@@ -9,7 +9,8 @@ use book::hours;
 use image_plan::Layout;
 use image_put::{begin, end, put_page};
 
-// Writes the image of a book's list: page after page, each unpacked into one array.
+// Writes the image of a book's list: page after page, each unpacked into one array. An own loop beside image_write's, whose pages lie in
+// its list already: what a closure for the counts would ask is longer than it.
 pub(crate) fn put_image(out: &mut [u8], book: &[u8], r: Layout)
     requires { Room (list_of_book book.now) r out.old }
     ensures { out.new ≡ splice out.old 0 (image r.e (list_of_book book.now)) }

@@ -19,7 +19,8 @@ use image_check::passes;
 // The greatest count that four digits hold.
 const WIDEST: u64 = 9999;
 
-// Writes the book of an accepted image with no count above it.
+// Writes the book of an accepted image with no count above it. It tests the buffer itself: image_plan::room takes a layout, which no book
+// has.
 fn write_book(image: &Accepted, book: &mut [u8]) -> Result<u64, Refusal>
     requires { four_digits (list_of image.now.bytes.now) ≡ true }
     ensures { result_of result book.new ≡ book_put (list_of image.now.bytes.now) book.old }
@@ -32,8 +33,9 @@ fn write_book(image: &Accepted, book: &mut [u8]) -> Result<u64, Refusal>
     Ok(n)
 }
 
-// Writes the book of an image to the start of book, and no byte beyond it. Only an image that is turned down is checked twice: by the second
-// check, with no limit for the counts, it is known for which of two reasons.
+// Writes the book of an image to the start of book, and no byte beyond it. Only an image that is turned down is checked twice: by the
+// second check, with no limit for the counts, it is known for which of two reasons. What makes the image an Accepted is the check with the
+// book's limit: open_accepted checks with another.
 pub fn to_bcd(s: &[u8], book: &mut [u8]) -> Result<u64, Refusal>
     ensures { result_of result book.new ≡ to_call s.now book.old }
 {

@@ -23,7 +23,7 @@ fn put_hour(book: &mut [u8], at: usize, count: u32)
     book[at + 1] = packed(c % 100);
 }
 
-// Puts the counts into a book, from hour from on.
+// Puts the counts into a book, from hour from on. By an index, for behind a zip with chunks_mut a proof knows no element.
 pub fn put_hours(book: &mut [u8], from: usize, counts: &[u32])
     requires { (2 * (from + length counts.now) ≤ length book.old) × (four_digits counts.now ≡ true) }
     ensures { book.new ≡ splice book.old (2 * from) (book_of counts.now) }

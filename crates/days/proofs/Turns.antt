@@ -1,14 +1,17 @@
 -- What one turn of each loop over the list does. Assumes nothing.
-use mathlib.Core.Path.{◌≡◌, sym, ap, ap₂, ◌∙◌}
-use mathlib.Core.Bool.{Bool, true, false, ◌&&◌, and-false}
+use mathlib.Core.Path.{◌≡◌, refl, sym, ap, ap₂, ◌∙◌}
+use mathlib.Core.Bool.{Bool, true, false, cond, ◌&&◌, and-false}
 use mathlib.Core.List.{List, [], ◌∷◌}
-use Prim.Native.Nat.{ℕ, suc, ◌+◌, ◌-◌, ◌*◌, ◌/◌, ◌%◌, ◌≤◌, ◌<◌}
+use Prim.Native.Nat.{ℕ, zero, suc, ◌+◌, ◌-◌, ◌*◌, ◌/◌, ◌%◌, ◌≤◌, ◌<◌}
 use native.Mathlib.Numerals.{add-one}
 use native.Mathlib.Omega.{arith}
 use lib.ListN.{length, drop, drop_of_length-le, get_or, take}
-use lib.Dec.{leb}
+use lib.Dec.{leb, eqb}
 use lib.Seq.{drop-cons}
-use borrow.Author.Tests.{eq-eqb, le-leb, lt-leb, ne_eqb}
+use borrow.Author.Tests.{le-leb, lt-leb}
+use Rattle.std.specs.List.{find}
+use Rattle.std.specs.Option.{option_map_or}
+use Rattle.std.specs.Prelude.{Some}
 use Rattle.std.specs.Simd.{first_chunks}
 use Rattle.lists.specs.Lists.{pick}
 use Rattle.lists.proofs.Parts.{chunk-at, length-chunks}
@@ -72,18 +75,6 @@ module _ (cs : List ℕ) (ps : List (List ℕ)) (i : ℕ) (all : ps ≡ first_ch
         ∙ ap (λ (b : Bool). b && fit_from (day + 1) rest) h
 
   module _ (d : ℕ) where
-    -- the hours of day d: what is still to search
-    found_in : day_hours (drop (2 * i) cs) d ≡ day_hours (day ∷ hours ∷ rest) d
-    found_in = ap (λ (z : List ℕ). day_hours z d) at_pair
-
-    pub found : day ≡ d → hours ≡ day_hours (drop (2 * i) cs) d
-    unfolding day_hours pick
-    found e = sym (found_in ∙ ap (λ (b : Bool). pick b hours (day_hours rest d)) (eq-eqb day d e))
-
-    pub passed : (day ≡ d → ⊥) → day_hours (drop (2 * i) cs) d ≡ day_hours rest d
-    unfolding day_hours pick
-    passed n = found_in ∙ ap (λ (b : Bool). pick b hours (day_hours rest d)) (ne_eqb day d n)
-
     -- its start: by how much the pair moves it
     moved : changes_fit cs ≡ true → day < d → day_start (drop (2 * i) cs) d + 24 ≡ day_start rest d + hours
     moved e k =
@@ -112,9 +103,24 @@ module _ (cs : List ℕ) (ps : List (List ℕ)) (i : ℕ) (all : ps ≡ first_ch
   unfolding fit_from
   all-fits from = ap (fit_from from) ended
 
-  pub not_named : (d : ℕ) → day_hours (drop (2 * i) cs) d ≡ 24
-  unfolding day_hours
-  not_named d = ap (λ (z : List ℕ). day_hours z d) ended
-
   pub none-left : (d : ℕ) → day_start (drop (2 * i) cs) d ≡ 24 * d
   none-left d = ap (λ (z : List ℕ). day_start z d) ended ∙ old-start d
+
+-- the pair of day d, if the list has it, says its hours
+pub named : (d k : ℕ) (cs : List ℕ) → length cs ≡ 2 * k
+    → option_map_or (λ (p : List ℕ). get_or p 1 0) (find (λ (p : List ℕ). eqb (get_or p 0 0) d) (first_chunks 2 k cs)) 24 ≡ day_hours cs d
+unfolding day_hours pick
+named d zero [] q = refl
+named d zero (x ∷ cs) q = absurd (omega arith)
+named d (suc k) [] q = absurd (omega arith)
+named d (suc k) (x ∷ []) q = absurd (omega arith)
+named d (suc k) (x ∷ h ∷ more) q = go (eqb x d) (named d k more (omega (arith, q)))
+  where
+    later : ℕ
+    later = option_map_or (λ (p : List ℕ). get_or p 1 0) (find (λ (p : List ℕ). eqb (get_or p 0 0) d) (first_chunks 2 k more)) 24
+
+    go : (b : Bool) → later ≡ day_hours more d
+        → option_map_or (λ (p : List ℕ). get_or p 1 0) (cond b (Some (x ∷ h ∷ [])) (find (λ (p : List ℕ). eqb (get_or p 0 0) d) (first_chunks 2 k more))) 24
+        ≡ pick b h (day_hours more d)
+    go true r = refl
+    go false r = r

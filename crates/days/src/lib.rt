@@ -30,17 +30,17 @@ pub fn fit(changes: &[u32]) -> bool
     true
 }
 
-// How many hours day d has.
+// How many hours day d has. Here and below the list fits, as fit has found: a struct that says so would serve two calls of one caller.
 pub fn hours_of(changes: &[u32], d: u32) -> u64
     requires { changes_fit changes.now ≡ true }
     ensures { result ≡ day_hours changes.now d }
 {
-    for [day, hours] in changes.as_chunks::<2>().0 {
-        if *day == d {
-            return u64::from(*hours);
-        }
-    }
-    24
+    changes
+        .as_chunks::<2>()
+        .0
+        .iter()
+        .find(|pair| pair[0] == d)
+        .map_or(24, |pair| u64::from(pair[1]))
 }
 
 // The hour at which day d begins: as if no day before it were changed, then moved by each that is. In 64 bits nothing wraps.

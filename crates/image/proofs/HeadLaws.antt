@@ -2,13 +2,14 @@
 use mathlib.Core.Path.{◌≡◌, refl, sym, ap, ◌∙◌}
 use mathlib.Core.Bool.{Bool, true, false}
 use mathlib.Core.List.{List, [], ◌∷◌}
-use Prim.Native.Nat.{ℕ, zero, suc, ◌+◌, ◌-◌, ◌*◌, ◌/◌, ◌^◌, ◌≤◌, ◌<◌}
-use native.Mathlib.Nat.{mul-le-mul_right}
+use Prim.Native.Nat.{ℕ, zero, suc, ◌+◌, ◌-◌, ◌*◌, ◌/◌, ◌%◌, ◌^◌, ◌≤◌, ◌<◌, min}
+use native.Mathlib.Nat.{mul-le-mul_right, mul_comm, mul-suc, div-mul-le_self, lt-div-mul-add, lt_of_mul-lt-mul_left}
 use native.Mathlib.Omega.{arith}
 use lib.ListN.{length, get_or}
 use lib.Pow.{pow_pos}
 use lib.Dec.{eqb, leb, ltb}
 use borrow.Author.Tests.{lt-leb, le-ltb, leb-true, eqb-true}
+use Rattle.std.proofs.lemmas.Grind.{div_ceil_times}
 use Rattle.lists.specs.Lists.{part}
 use Rattle.lists.proofs.Parts.{length_part}
 use Rattle.lists.proofs.Tests.{each, every-no}
@@ -32,11 +33,23 @@ pages-le e n = go (pages e n) (pages-tight e n)
     go zero h = omega arith
     go (suc k) h = omega (arith, h k (omega arith), mul-le-mul_right k (pow_pos e))
 
-pub pages-of-is : (e n m : ℕ) → m ≡ 2 ^ e → ((n + (m - 1)) / m ≡ pages e n) × ((n + (m - 1)) / m ≤ n)
-unfolding pages
-pages-of-is e n m h = rw h (refl, pages-le e n)
+-- rounded up
+pub ceil-is : (n m : ℕ) → 1 ≤ m → n / m + min 1 (n % m) ≡ (n + (m - 1)) / m
+ceil-is n m h =
+    let q : ℕ = n / m + min 1 (n % m) in
+    let k : ℕ = (n + (m - 1)) / m in
+    let a = div_ceil_times n m h in
+    let low = div-mul-le_self (n + (m - 1)) m in
+    let high = lt-div-mul-add {a = n + (m - 1)} {b = m} h in
+    let x : m * q < m * suc k = omega (arith, a.0, a.1, high, mul_comm q m, mul_comm k m, mul-suc m k) in
+    let y : m * k < m * suc q = omega (arith, a.0, a.1, low, mul_comm q m, mul_comm k m, mul-suc m q) in
+    omega (arith, lt_of_mul-lt-mul_left m x, lt_of_mul-lt-mul_left m y)
 
-pub size-of-is : (e n l a p t : ℕ) → p ≡ pages e n → a ≡ t + 4 * p → (b : Bool) → t ≡ header_length b → a + (l + 7) / 8 ≡ size b e n l
+pub pages-of-is : (e n m : ℕ) → m ≡ 2 ^ e → (n / m + min 1 (n % m) ≡ pages e n) × (n / m + min 1 (n % m) ≤ n)
+unfolding pages
+pages-of-is e n m h = rw h (let q = ceil-is n (2 ^ e) (pow_pos e) in (q, omega (arith, q, pages-le e n)))
+
+pub size-of-is : (e n l a p t : ℕ) → p ≡ pages e n → a ≡ t + 4 * p → (b : Bool) → t ≡ header_length b → a + (l / 8 + min 1 (l % 8)) ≡ size b e n l
 unfolding size bytes_for
 size-of-is e n l a p t h g b q = omega (arith, g, ap (λ (k : ℕ). 4 * k) h)
 

@@ -8,7 +8,7 @@ use lib.ListN.{get_or, length, take, drop, length-take}
 use lib.Pow.{pow_mono}
 use lib.Dec.{ltb}
 use borrow.Author.Tests.{lt-ltb, le-ltb}
-use Rattle.std.specs.Prelude.{Option, Some, None}
+use Rattle.std.specs.Prelude.{Some, None}
 use Rattle.lists.specs.Lists.{part}
 use Rattle.lists.proofs.Tests.{every-no, every_of}
 use Rattle.bits.specs.Bits.{bits, value}
@@ -60,39 +60,35 @@ unfolding before_passing before_of
 before-first s zero e = (refl, refl)
 before-first s (suc p) e = absurd (omega (arith, e))
 
-pub before-next : (s : List ℕ) (p : ℕ) (r : Option Root) → 1 ≤ p → RootAt s (p - 1) r → BeforeAt s p r
+pub before-next : (s : List ℕ) (p : ℕ) (r : Root) → 1 ≤ p → RootAt s (p - 1) (Some r) → BeforeAt s p (Some r.value)
 unfolding before_passing before_of
 before-next s zero r l m = absurd (omega arith)
-before-next s (suc p) r l m = go r (rw e at m)
-  where
-    e : suc p - 1 ≡ p
-    e = omega arith
+before-next s (suc p) r l m =
+    let n : RootOf s p r = let e : suc p - 1 ≡ p = omega arith in rw e at m in
+    (n.inside, n.value-is)
 
-    go : (r : Option Root) → RootAt s p r → BeforeAt s (suc p) r
-    go None n = n
-    go (Some r) n = (n.inside, n.value-is)
+pub before-bad : (s : List ℕ) (p : ℕ) → 1 ≤ p → RootAt s (p - 1) None → BeforeAt s p None
+unfolding before_passing
+before-bad s zero l m = absurd (omega arith)
+before-bad s (suc p) l m = let e : suc p - 1 ≡ p = omega arith in rw e at m
 
 -- ---- a page's tests
 pub page-bad : (s : List ℕ) (p k : ℕ) → get_or (page_tests s p) k true ≡ false → page_fine s p ≡ false
 unfolding page_fine
 page-bad s p k f = every-no (page_tests s p) k f
 
--- past the reading of both roots: the page's own, t, and the one before, x
-pub record Roots (s : List ℕ) (h : Head) (p : ℕ) (t x : Root) : Type 0 where
+-- past the reading of both roots: the page's own, t, and the number of the one before, x
+pub record Roots (s : List ℕ) (h : Head) (p : ℕ) (t : Root) (x : ℕ) : Type 0 where
   pub opened : Opened s h
   pub own : RootOf s p t
   pub last : BeforeAt s p (Some x)
 
-module _ {s : List ℕ} {h : Head} {p : ℕ} {t x : Root} (g : Roots s h p t x) where
+module _ {s : List ℕ} {h : Head} {p : ℕ} {t : Root} {x : ℕ} (g : Roots s h p t x) where
   abbrev o : Opened s h
   o = g.opened
 
-  last : x.value ≡ before_of s p
+  last : x ≡ before_of s p
   last = g.last.1
-
-  sums : t.value - x.value ≡ sum_of s p
-  unfolding sum_of
-  sums = ap₂ ◌-◌ g.own.value-is last
 
   pub own-within : t.end ≤ h.bits
   own-within = omega (arith, g.own.end-le, o.head.bits_is)
@@ -100,54 +96,60 @@ module _ {s : List ℕ} {h : Head} {p : ℕ} {t x : Root} (g : Roots s h p t x) 
   pub above-total : h.total < t.value → not (ltb (s_of s) (root_at s p)) ≡ false
   above-total l = beyond (root_at s p) (s_of s) (omega (arith, g.own.value-is, o.head.total-is))
 
-  pub below-before : t.value < x.value → not (ltb (root_at s p) (before_of s p)) ≡ false
+  pub below-before : t.value < x → not (ltb (root_at s p) (before_of s p)) ≡ false
   below-before l = beyond (before_of s p) (root_at s p) (omega (arith, g.own.value-is, last))
 
-  reserves : (v : ℕ) → v ≡ reserve h.e (t.value - x.value) → v ≡ reserve (e_of s) (sum_of s p)
-  reserves v e = e ∙ ap₂ reserve o.head.e-is sums
+  -- its sum
+  module _ {m : ℕ} (em : m ≡ t.value - x) where
+    sums : m ≡ sum_of s p
+    unfolding sum_of
+    sums = em ∙ ap₂ ◌-◌ g.own.value-is last
 
-  pub tree-most : t.value ≤ h.total → reserve h.e (t.value - x.value) ≤ 8960
-  tree-most l = reserve-most h.e (t.value - x.value) (bounds s h o).e-high (omega (arith, o.head.total-small))
+    reserves : (v : ℕ) → v ≡ reserve h.e m → v ≡ reserve (e_of s) (sum_of s p)
+    reserves v e = e ∙ ap₂ reserve o.head.e-is sums
 
-  pub tree-passes : {v : ℕ} → v ≡ reserve h.e (t.value - x.value) → h.bits < t.end + v
-      → not (passing s (start_of s p + width_of s) (reserve (e_of s) (sum_of s p))) ≡ false
-  tree-passes {v} e l =
-      beyond (start_of s p + width_of s + reserve (e_of s) (sum_of s p)) (l_of s) (omega (arith, reserves v e, g.own.end_is, o.head.bits_is))
+    pub tree-most : t.value ≤ h.total → reserve h.e m ≤ 8960
+    tree-most l = reserve-most h.e m (bounds s h o).e-high (omega (arith, o.head.total-small, em))
 
-  pub page-good : {v : ℕ} → v ≡ reserve h.e (t.value - x.value) → t.value ≤ h.total → x.value ≤ t.value → t.end + v ≤ h.bits
-      → PageOf s p (record { before = x.value; sum = t.value - x.value; at = h.code + t.end })
-  unfolding page_fine tree_at
-  page-good {v} ev l m n =
-      let f = bounds s h o in
-      let q = o.head in
-      let r : v ≡ reserve (e_of s) (t.value - x.value) = ev ∙ ap (λ (k : ℕ). reserve k (t.value - x.value)) q.e-is in
-      record {
-        fine =
-            every_of (page_tests s p) (
-              ap not g.own.inside,
-              (
-                ap not g.last.0,
+    pub tree-passes : {v : ℕ} → v ≡ reserve h.e m → h.bits < t.end + v
+        → not (passing s (start_of s p + width_of s) (reserve (e_of s) (sum_of s p))) ≡ false
+    tree-passes {v} e l =
+        beyond (start_of s p + width_of s + reserve (e_of s) (sum_of s p)) (l_of s) (omega (arith, reserves v e, g.own.end_is, o.head.bits_is))
+
+    pub page-good : {v : ℕ} → v ≡ reserve h.e m → t.value ≤ h.total → x ≤ t.value → t.end + v ≤ h.bits
+        → PageOf s p (record { before = x; sum = m; at = h.code + t.end })
+    unfolding page_fine tree_at
+    page-good {v} ev l k n =
+        let f = bounds s h o in
+        let q = o.head in
+        let r : v ≡ reserve (e_of s) m = ev ∙ ap (λ (k : ℕ). reserve k m) q.e-is in
+        record {
+          fine =
+              every_of (page_tests s p) (
+                ap not g.own.inside,
                 (
-                  within (root_at s p) (s_of s) (omega (arith, g.own.value-is, q.total-is)),
+                  ap not g.last.0,
                   (
-                    within (before_of s p) (s_of s) (omega (arith, g.own.value-is, last, q.total-is)),
+                    within (root_at s p) (s_of s) (omega (arith, g.own.value-is, q.total-is)),
                     (
-                      within (before_of s p) (root_at s p) (omega (arith, g.own.value-is, last)),
-                      (within (start_of s p + width_of s + reserve (e_of s) (sum_of s p)) (l_of s) (omega (arith, reserves v ev, g.own.end_is, q.bits_is)), tt),
+                      within (before_of s p) (s_of s) (omega (arith, g.own.value-is, last, q.total-is)),
+                      (
+                        within (before_of s p) (root_at s p) (omega (arith, g.own.value-is, last)),
+                        (within (start_of s p + width_of s + reserve (e_of s) (sum_of s p)) (l_of s) (omega (arith, reserves v ev, g.own.end_is, q.bits_is)), tt),
+                      ),
                     ),
                   ),
                 ),
-              ),
-            );
-        before-is = last;
-        sum_is = sums;
-        at-is = omega (arith, q.code_is, g.own.end_is);
-        total = omega (arith, q.total-is);
-        lies = record {
-          height = omega (arith, f.e-high, q.e-is);
-          total = omega (arith, q.total-small);
-          long = omega (arith, f.long, f.head-low);
-          inside = omega (arith, r, q.code_is, f.code-at, f.long);
-          small = omega (arith, r, q.code_is, f.code-at, f.few, f.head-high, q.bits_small);
-        };
-      }
+              );
+          before-is = last;
+          sum_is = sums;
+          at-is = omega (arith, q.code_is, g.own.end_is);
+          total = omega (arith, q.total-is, em);
+          lies = record {
+            height = omega (arith, f.e-high, q.e-is);
+            total = omega (arith, q.total-small, em);
+            long = omega (arith, f.long, f.head-low);
+            inside = omega (arith, r, q.code_is, f.code-at, f.long);
+            small = omega (arith, r, q.code_is, f.code-at, f.few, f.head-high, q.bits_small);
+          };
+        }

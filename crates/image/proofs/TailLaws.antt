@@ -1,15 +1,12 @@
 -- The header's tail of either edition, and the whole header with it. Assumes nothing.
 use mathlib.Core.Path.{◌≡◌, refl, sym, ap, ap₂, ◌∙◌}
 use mathlib.Core.Bool.{Bool, true, false}
-use mathlib.Core.List.{List, [], ◌∷◌, ◌++◌}
-use Prim.Native.Nat.{ℕ, ◌+◌, ◌*◌, ◌/◌, ◌%◌, ◌^◌, ◌≤◌, ◌<◌}
-use native.Mathlib.Nat.{pow-succ'}
+use mathlib.Core.List.{List, [], ◌∷◌}
+use Prim.Native.Nat.{ℕ, ◌+◌, ◌*◌, ◌/◌, ◌%◌, ◌≤◌, ◌<◌}
 use native.Mathlib.Omega.{arith}
 use lib.ListN.{length, get_or}
 use lib.Dec.{eqb, leb, ltb}
 use borrow.Author.Tests.{le-leb, lt-ltb, leb-true, ltb-true, eq-eqb, ne_eqb, eqb-true}
-use Rattle.lists.specs.Lists.{part}
-use Rattle.lists.proofs.Parts.{length_part, part-more}
 use Rattle.lists.proofs.Tests.{each, every-no, every_of}
 use Rattle.bits.specs.Numbers.{Number, number, number_at}
 use Rattle.image.specs.Check.{head_tests, headed, wide_right}
@@ -52,51 +49,34 @@ module _ (s : List ℕ) (two : get_or s 0 0 ≡ 2) where
   pub wide_short : length s < 24 → headed s ≡ false
   wide_short l = too_short s 24 (omega (arith, ap header_length is_wide)) l
 
--- S of eight bytes
-number-two : (bs cs : List ℕ) → number (bs ++ cs) ≡ number bs + 256 ^ length bs * number cs
-unfolding number
-number-two [] cs = omega arith
-number-two (b ∷ bs) cs = omega (arith, number-two bs cs, ap (λ (k : ℕ). k * number cs) (pow-succ' 256 (length bs)))
-
-module _ (s : List ℕ) {t u z : ℕ} (two : get_or s 0 0 ≡ 2) (long : 24 ≤ length s) (g : Number s 8 4 t) (h : Number s 12 4 u) (k : Number s 20 4 z) where
-  total-is : t + 4294967296 * u ≡ s_of s
+module _ (s : List ℕ) {t z : ℕ} (two : get_or s 0 0 ≡ 2) (long : 24 ≤ length s) (g : Number s 8 8 t) (k : Number s 20 4 z) where
+  total-is : t ≡ s_of s
   unfolding s_of
-  total-is =
-      sym (ap number (part-more s 8 4 4) ∙ number-two (part s 8 4) (part s 12 4)
-      ∙ ap₂ (λ (x y : ℕ). x + 256 ^ length (part s 8 4) * y) (sym g.is) (sym h.is)
-      ∙ ap (λ (k : ℕ). t + 256 ^ k * u) (length_part s 8 4 (omega arith)))
-      ∙ ap (λ (b : Bool). number_at s 8 (total_width b)) (sym (is_wide s two))
+  total-is = g.is ∙ ap (λ (b : Bool). number_at s 8 (total_width b)) (sym (is_wide s two))
 
-  -- the upper four bytes say whether S is in its range
-  right_then : wide_right (wide_of s) s ≡ true → (1 ≤ u) × (u ≤ 255) × (z ≡ 0)
+  right_then : wide_right (wide_of s) s ≡ true → (narrow_total < t) × (t ≤ max_total) × (z ≡ 0)
   unfolding wide_right
   right_then q =
-      let w = each (ltb narrow_total (s_of s) ∷ leb (s_of s) max_total ∷ eqb (number_at s 20 4) 0 ∷ []) (ap (λ (b : Bool). wide_right b s) (sym (is_wide s two)) ∙ q) in
-      let low = ltb-true narrow_total (s_of s) w.0 in
-      let high = leb-true (s_of s) max_total w.1.0 in
-      (omega (arith, low, total-is, g.small), omega (arith, high, total-is), k.is ∙ eqb-true (number_at s 20 4) 0 w.1.1.0)
+      let w = each (ltb narrow_total (s_of s) ∷ leb (s_of s) max_total ∷ eqb (number_at s 20 4) 0 ∷ []) (ap (λ (b : Bool). wide_right b s) (sym (is_wide s two)) ∙ q) in (
+        omega (arith, ltb-true narrow_total (s_of s) w.0, total-is),
+        omega (arith, leb-true (s_of s) max_total w.1.0, total-is),
+        k.is ∙ eqb-true (number_at s 20 4) 0 w.1.1.0,
+      )
 
-  then_right : 1 ≤ u → u ≤ 255 → z ≡ 0 → wide_right (wide_of s) s ≡ true
+  then_right : narrow_total < t → t ≤ max_total → z ≡ 0 → wide_right (wide_of s) s ≡ true
   unfolding wide_right
   then_right low high zero =
       ap (λ (b : Bool). wide_right b s) (is_wide s two)
       ∙ every_of (ltb narrow_total (s_of s) ∷ leb (s_of s) max_total ∷ eqb (number_at s 20 4) 0 ∷ []) (
         lt-ltb narrow_total (s_of s) (omega (arith, low, total-is)),
-        (
-          le-leb (s_of s) max_total (omega (arith, high, total-is, g.small)),
-          (
-            eq-eqb (number_at s 20 4) 0 (sym k.is ∙ zero),
-            tt,
-          ),
-        ),
+        (le-leb (s_of s) max_total (omega (arith, high, total-is)), (eq-eqb (number_at s 20 4) 0 (sym k.is ∙ zero), tt)),
       )
 
-  pub wide-wrong : ((1 ≤ u) × (u ≤ 255) × (z ≡ 0) → ⊥) → headed s ≡ false
+  pub wide-wrong : ((narrow_total < t) × (t ≤ max_total) × (z ≡ 0) → ⊥) → headed s ≡ false
   unfolding headed
   wide-wrong q = every-no (head_tests s) 7 (refuted (wide_right (wide_of s) s) (λ r. q (right_then r)))
 
-  pub wide_read : {l : ℕ} → 1 ≤ u → u ≤ 255 → z ≡ 0 → Number s 16 4 l
-      → TailOf s (record { total = t + 4294967296 * u; bits = l; table = 24 })
+  pub wide_read : {l : ℕ} → narrow_total < t → t ≤ max_total → z ≡ 0 → Number s 16 4 l → TailOf s (record { total = t; bits = l; table = 24 })
   unfolding l_of
   wide_read {l} low high zero b =
       let w : wide_of s ≡ true = is_wide s two in
@@ -107,19 +87,14 @@ module _ (s : List ℕ) {t u z : ℕ} (two : get_or s 0 0 ≡ 2) (long : 24 ≤ 
         total-is = total-is;
         bits_is = b.is ∙ ap (λ (c : Bool). number_at s (bits_place c) 4) (sym w);
         table_is = ap header_length (sym w);
-        total-small = omega (arith, high, g.small);
+        total-small = high;
         bits_small = omega (arith, b.small);
       }
 
 -- ---- neither
-edition-is-one-of : (b : Bool) → (edition b ≡ 1 → ⊥) → (edition b ≡ 2 → ⊥) → ⊥
-edition-is-one-of false p q = p refl
-edition-is-one-of true p q = q refl
-
-pub no-edition : (s : List ℕ) → (get_or s 0 0 ≡ 1 → ⊥) → (get_or s 0 0 ≡ 2 → ⊥) → headed s ≡ false
+pub no-edition : (s : List ℕ) → ((b : Bool) → get_or s 0 0 ≡ edition b → ⊥) → headed s ≡ false
 unfolding headed
-no-edition s p q =
-    every-no (head_tests s) 1 (ne_eqb (get_or s 0 0) (edition (wide_of s)) (λ e. edition-is-one-of (wide_of s) (λ r. p (e ∙ r)) (λ r. q (e ∙ r))))
+no-edition s f = every-no (head_tests s) 1 (ne_eqb (get_or s 0 0) (edition (wide_of s)) (f (wide_of s)))
 
 -- ---- the whole header. Bytes 1 to 3 are one number
 pub record First (s : List ℕ) (w : ℕ) : Type 0 where
@@ -196,10 +171,9 @@ module _ {s : List ℕ} {w n : ℕ} (f : First s w) (m : Number s 4 4 n) where
       length-wrong e g =
           every-no (head_tests s) 8 (ne_eqb (length s) (size (wide_of s) (e_of s) (n_of s) (l_of s)) (λ y. g (y ∙ sym (e ∙ head-end))))
 
-      pub opened : {z : ℕ} → ((i : ℕ) → get_or s i 0 < 256) → z ≡ h.code / 8 + (h.bits + 7) / 8 → length s ≡ z → Opened s h
+      pub opened : {z : ℕ} → z ≡ h.code / 8 + (h.bits + 7) / 8 → length s ≡ z → Opened s h
       unfolding headed e_of n_of
-      opened b e y = record {
-        bytes = b;
+      opened e y = record {
         head = head-is;
         passed =
             every_of (head_tests s) (

@@ -1,15 +1,16 @@
 // The header of an image of either edition, read and tested once, and what it says of the image's parts.
 ghost use Rattle.std.specs.Prelude.{Bool, ◌≡◌, ◌+◌, ◌*◌, ◌≤◌, ◌<◌, length, get_or};
-ghost use Rattle.image.specs.Image.{header_length, max_hours, pages, size};
-ghost use Rattle.image.specs.Code.Head.{HeadWith, TailOf, Tailed};
+ghost use Rattle.reserve.specs.Reserve.{digits};
+ghost use Rattle.image.specs.Image.{edition, header_length, max_hours, pages, size, wide};
+ghost use Rattle.image.specs.Code.Head.{HeadWith, Numbered, TailOf, Tailed, is_wide};
 ghost use Rattle.image.specs.Code.Opened.{Opens};
 
 use crate::opened::Image;
 use answers::refusal::Refusal;
 use bits::numbers::get;
 
-// The header's fields e, N, S and L; how many pages there are, at which byte the table of their start bits stands, and where the code starts
-// among the bits of all the bytes.
+// The header's fields e, N, S and L; how many pages there are, at which byte the table of their start bits stands, and where the code
+// starts among the bits of all the bytes.
 #[derive(Clone, Copy)]
 pub struct Head {
     pub e: u32,
@@ -22,9 +23,9 @@ pub struct Head {
 }
 
 impl Head {
-    // The bytes of the header of edition 1, and of edition 2.
+    // The bytes of the header of edition 1.
     pub const SIZE: usize = 16;
-
+    // The bytes of the header of edition 2.
     pub const WIDE_SIZE: usize = 24;
     // The limits of an image.
     pub const MAX_HOURS: u64 = 65536;
@@ -34,15 +35,73 @@ impl Head {
     pub const MAX_TOTAL: u64 = 1099511627775;
     // The largest total of edition 1.
     pub const NARROW_TOTAL: u64 = 4294967295;
+
+    // The width of a root in bits, the binary digits of S. The counts of a page need no such method: `power(e)` as an index is as short.
+    pub fn root_width(&self) -> u32
+        ensures { result ≡ digits self.now.total }
+    {
+        reserve::digits_of(self.total)
+    }
 }
 
-// How many pages of 2^e counts n counts have.
+// The two editions. The wide one has eight bytes for S and a longer header.
+#[derive(Clone, Copy)]
+pub enum Edition {
+    Narrow,
+    Wide,
+}
+
+impl Edition {
+    // The edition that byte 0 gives; there is no other.
+    fn numbered(byte: u64) -> Option<Edition>
+        ensures { Numbered byte result }
+    {
+        match byte {
+            1 => Some(Edition::Narrow),
+            2 => Some(Edition::Wide),
+            _ => None,
+        }
+    }
+
+    // The edition that the writer uses for a total.
+    pub fn for_total(total: u64) -> Edition
+        ensures { is_wide result ≡ wide total }
+    {
+        if Head::NARROW_TOTAL < total {
+            Edition::Wide
+        } else {
+            Edition::Narrow
+        }
+    }
+
+    // Its number, byte 0.
+    pub fn number(self) -> u8
+        ensures { result ≡ edition (is_wide self) }
+    {
+        match self {
+            Edition::Narrow => 1,
+            Edition::Wide => 2,
+        }
+    }
+
+    // How long its header is.
+    pub fn header_size(self) -> usize
+        ensures { (result ≡ header_length (is_wide self)) × (result ≤ 24) }
+    {
+        match self {
+            Edition::Narrow => Head::SIZE,
+            Edition::Wide => Head::WIDE_SIZE,
+        }
+    }
+}
+
+// How many pages of 2^e counts n counts have. The bounds of e and table here and below are asked: a plan, a layout and a header know them,
+// and have no type in common.
 pub fn pages_of(e: u32, n: u64) -> u64
     requires { (e ≤ 8) × (n < 4294967296) }
     ensures { (result ≡ pages e n) × (result ≤ n) }
 {
-    let m = reserve::power(e);
-    (n + (m - 1)) / m
+    n.div_ceil(reserve::power(e))
 }
 
 // The byte where page p's start bit stands in the table, which starts at byte table, behind the header.
@@ -58,14 +117,7 @@ pub fn size_of(table: usize, e: u32, n: u64, l: u64) -> u64
     requires { (table ≤ 24) × (e ≤ 8) × (n ≤ max_hours) × (l < 4294967296) }
     ensures { (b : Bool) → table ≡ header_length b → result ≡ size b e n l }
 {
-    (table_at(table, pages_of(e, n)) as u64) + (l + 7) / 8
-}
-
-// How long an edition's header is. Edition 2 is wide.
-pub fn header_size(wide: bool) -> usize
-    ensures { (result ≡ header_length wide) × (result ≤ 24) }
-{
-    if wide { Head::WIDE_SIZE } else { Head::SIZE }
+    (table_at(table, pages_of(e, n)) as u64) + l.div_ceil(8)
 }
 
 // What stands behind N in the header, where the editions differ: S, L, and the byte where the header ends and the table starts.
@@ -76,7 +128,7 @@ struct Tail {
     table: usize,
 }
 
-// Edition 1 has four bytes for S.
+// Edition 1 has four bytes for S, and nothing of it to test: one function for both editions would be no shorter.
 fn narrow_tail(s: &[u8]) -> Tail
     requires { (16 ≤ length s.now) × (get_or s.now 0 0 ≡ 1) }
     ensures { TailOf s.now result }
@@ -90,7 +142,7 @@ fn narrow_tail(s: &[u8]) -> Tail
     }
 }
 
-// Edition 2 has eight for S, which is from 2^32 to 2^40 - 1, so that the upper four say 1 to 255, and four zero bytes behind L.
+// Edition 2 has eight for S, which is from 2^32 to 2^40 - 1, and four zero bytes behind L.
 fn wide_tail(s: &[u8]) -> Option<Tail>
     requires { get_or s.now 0 0 ≡ 2 }
     ensures { Tailed s.now result }
@@ -98,29 +150,27 @@ fn wide_tail(s: &[u8]) -> Option<Tail>
     if s.len() < Head::WIDE_SIZE {
         return None;
     }
-    let low = get::<4>(s, 8);
-    let high = get::<4>(s, 12);
+    let total = get::<8>(s, 8);
+    let bits = get::<4>(s, 16);
     let zeros = get::<4>(s, 20);
-    if high < 1 || 255 < high || zeros != 0 {
+    if total <= Head::NARROW_TOTAL || Head::MAX_TOTAL < total || zeros != 0 {
         return None;
     }
-    let bits = get::<4>(s, 16);
     Some(Tail {
-        total: low + 4294967296 * high,
+        total,
         bits,
         table: Head::WIDE_SIZE,
     })
 }
 
-// The tail as the edition has it; there is no other edition.
-fn tail_of(s: &[u8], edition: u64) -> Option<Tail>
-    requires { (16 ≤ length s.now) × (edition ≡ get_or s.now 0 0) }
+// The tail as the edition that byte 0 gives has it.
+fn tail_of(s: &[u8], byte: u64) -> Option<Tail>
+    requires { (16 ≤ length s.now) × (byte ≡ get_or s.now 0 0) }
     ensures { Tailed s.now result }
 {
-    match edition {
-        1 => Some(narrow_tail(s)),
-        2 => wide_tail(s),
-        _ => None,
+    match Edition::numbered(byte)? {
+        Edition::Narrow => Some(narrow_tail(s)),
+        Edition::Wide => wide_tail(s),
     }
 }
 
@@ -142,8 +192,8 @@ fn head_of(e: u32, hours: u64, tail: Tail) -> Head
     }
 }
 
-// Reads the header of bytes and tests it and their length: refusal 5. Bytes 1 to 3, e and two zeros, are one number: e, if it is 8 at most. It
-// is kept small, so that the compiler joins it with every call.
+// Reads the header of bytes and tests it and their length: Refusal::Header. Bytes 1 to 3, e and two zeros, are one number: e, if it is 8 at
+// most. It is kept small, so that the compiler joins it with every call.
 pub fn open_image(s: &[u8]) -> Result<Image, Refusal>
     ensures { Opens s.now result }
 {
@@ -158,7 +208,7 @@ pub fn open_image(s: &[u8]) -> Result<Image, Refusal>
         return Err(Refusal::Header);
     }
     let head = head_of(e as u32, hours, tail);
-    let end = head.code / 8 + ((head.bits + 7) / 8) as usize;
+    let end = head.code / 8 + head.bits.div_ceil(8) as usize;
     if s.len() != end {
         return Err(Refusal::Header);
     }

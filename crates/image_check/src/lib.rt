@@ -21,7 +21,8 @@ use image_test::page_test;
 use reserve_table::ReserveTable;
 use tree_lowest::zero_bits;
 
-// Whether each page passes with no count above widest, all L bits are used, and the last root is S.
+// Whether each page passes with no count above widest, all L bits are used, and the last root is S. A loop: a fold over end and root is no
+// plainer.
 fn pages_pass(image: &Image, table: &ReserveTable, widest: u64) -> bool
     ensures { result ≡ pages_from widest image.now.bytes.now (page_count_of image.now.bytes.now) 0 0 0 }
 {
@@ -45,7 +46,7 @@ fn rest_zero(image: &Image) -> bool
     if head.hours == 0 {
         return head.total == 0;
     }
-    look(image, head.hours - 1, 1) == head.total
+    look(image, head.hours - 1, true).is_some_and(|r| r == head.total)
 }
 
 // Whether the last byte's other bits are 0.
@@ -66,8 +67,8 @@ pub fn passes(image: &Image, widest: u64) -> bool
     pages_pass(image, &table, widest) && rest_zero(image) && fill_zero(image)
 }
 
-// Opens an image and checks it: 5 for a wrong header or length, 6 for bytes that are not the writer's. Its limit is one that no count is
-// above.
+// Opens an image and checks it: Refusal::Header for a wrong header or length, Refusal::Body for bytes that are not the writer's. passes is
+// given a limit that no count is above.
 pub fn open_accepted(s: &[u8]) -> Result<Accepted, Refusal>
     ensures { Accesses s.now result }
 {
@@ -81,7 +82,7 @@ pub fn open_accepted(s: &[u8]) -> Result<Accepted, Refusal>
     })
 }
 
-// The check: N and S of an image, or a refusal.
+// The check: N and S of an image, or a refusal. A From<Head> for Contents would serve this place alone, and be longer.
 pub fn check(s: &[u8]) -> Result<Contents, Refusal>
     ensures { ruled result ≡ check_of s.now }
 {

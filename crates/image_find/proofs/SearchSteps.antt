@@ -8,7 +8,7 @@ use native.Mathlib.Numerals.{add-one}
 use native.Mathlib.Omega.{arith}
 use native.Mathlib.Decide.{dec_le}
 use lib.ListN.{length}
-use Rattle.std.specs.Prelude.{Some, None}
+use Rattle.std.specs.Prelude.{Option, Some, None}
 use lib.Pow.{pow_mono}
 use borrow.Author.Tests.{le-leb, lt-leb}
 use Rattle.lists.specs.Lists.{pick}
@@ -24,7 +24,7 @@ use Rattle.image.specs.Query.{page_fine, page_tests}
 use Rattle.image.specs.Reach.{Reach, above-total, damage, header-wrong}
 use Rattle.image.specs.Read.{before_of, e_of, list_of, n_of, page_count_of, root_at, s_of, sum_of, tree_at}
 use Rattle.answers.specs.Image.{given, refused}
-use Rattle.image_find.specs.Code.Span.{Between, HitAt, Narrowable, Narrowed}
+use Rattle.image_find.specs.Code.Span.{Between, HitAt, Narrowable, Narrowed, PageHit}
 use Rattle.image_find.specs.Code.Step.{placed, reach_from}
 use Rattle.image.proofs.DamageLaws.{is_within}
 use Rattle.image.proofs.HeadLaws.{bounds, never}
@@ -133,39 +133,41 @@ before_small e p m l k em =
     omega (arith, em, mul-le-mul_right {m = m} {n = 256} p (omega (arith, em)))
 
 -- the index that a search tells
-spot : (f n i : ℕ) (d : Sought) → n < 2 ^ 63 → i ≡ search_answer f d → (i ≤ n → placed f n d ≡ given i) × (n < i → placed f n d ≡ refused 6)
+abbrev Spot : ℕ → ℕ → Sought → Option ℕ → Type 0
+Spot f n d None = placed f n d ≡ refused 6
+Spot f n d (Some i) = (i ≤ n → placed f n d ≡ given i) × (n < i → placed f n d ≡ refused 6)
+
+spot : (f n : ℕ) (d : Sought) → Spot f n d (search_answer f d)
 unfolding search_answer placed pick
-spot f n i nowhere l e = ((λ (k : i ≤ n). absurd (omega (arith, e))), (λ _. refl))
-spot f n i (at-index j) l e = (
-  (λ (k : i ≤ n). rw (le-leb (f + j) n (omega (arith, e))) (ap given (sym e))),
-  (λ (k : n < i). rw (lt-leb (f + j) n (omega (arith, e)))),
-)
+spot f n nowhere = refl
+spot f n (at-index j) = ((λ (k : f + j ≤ n). rw (le-leb (f + j) n k) refl), (λ (k : n < f + j). rw (lt-leb (f + j) n k) refl))
 
 pub found-six : (s : List ℕ) (h : Head) → Opened s h → (q : ℕ) → q ≤ h.total → accepted s ≡ false → Reach s q (refused 6)
 found-six s h o q w a = damage o.passed (omega (arith, o.head.total-is)) a
 
-pub page-in : {s : List ℕ} {q : ℕ} {at : Span} → Between s q at → at.lo < page_count_of s
-page-in b = omega (arith, b.inside, b.ordered)
+-- a span of one is a page
+pub page-hit : {s : List ℕ} {q : ℕ} {at : Span} → HitAt s q at → PageHit s q at.lo
+page-hit {at = at} h =
+    let e : at.lo ≡ at.hi = omega (arith, h.between.ordered, h.one) in
+    record {
+      inside = omega (arith, h.between.inside, h.between.ordered);
+      before = h.between.before;
+      reaches = rw e h.between.reaches;
+    }
 
 -- the image and the page of it that was found
-pub record Found (s : List ℕ) (h : Head) (q : ℕ) (at : Span) : Type 0 where
+pub record Found (s : List ℕ) (h : Head) (q p : ℕ) : Type 0 where
   pub opened : Opened s h
   pub within : q ≤ h.total
-  pub hit : HitAt s q at
+  pub hit : PageHit s q p
 
 -- a page of it has damage
-pub page-six : {s : List ℕ} {h : Head} {q : ℕ} {at : Span} → Found s h q at → page_fine s at.lo ≡ false → Reach s q (refused 6)
-page-six {s} {h} {q} {at} g e = found-six s h g.opened q g.within (not-accepted s (λ a. never (sym e ∙ fine s a at.lo (page-in g.hit.between))))
+pub page-six : {s : List ℕ} {h : Head} {q p : ℕ} → Found s h q p → page_fine s p ≡ false → Reach s q (refused 6)
+page-six {s} {h} {q} {p} g e = found-six s h g.opened q g.within (not-accepted s (λ a. never (sym e ∙ fine s a p g.hit.inside)))
 
-module _ {s : List ℕ} {h : Head} {q : ℕ} {at : Span} {r : Page} (g : Found s h q at) (pr : PageOf s at.lo r) where
+module _ {s : List ℕ} {h : Head} {q p : ℕ} {r : Page} (g : Found s h q p) (pr : PageOf s p r) where
   abbrev o : Opened s h
   o = g.opened
-
-  abbrev b : Between s q at
-  b = g.hit.between
-
-  abbrev p : ℕ
-  p = at.lo
 
   six : accepted s ≡ false → Reach s q (refused 6)
   six = found-six s h o q g.within
@@ -181,18 +183,15 @@ module _ {s : List ℕ} {h : Head} {q : ℕ} {at : Span} {r : Page} (g : Found s
       )
 
   pub above : r.before < q
-  above = omega (arith, pr.before-is, b.before)
+  above = omega (arith, pr.before-is, g.hit.before)
 
   -- only the image's last page can have a root below q, and then it is not S
   pub last-six : r.before + r.sum < q → Reach s q (refused 6)
   unfolding before_of
   last-six k = six (not-accepted s (λ a. go a (dec_le (p + 2) (page_count_of s))))
     where
-      same : at.hi ≡ p
-      same = omega (arith, b.ordered, g.hit.one)
-
       go : accepted s ≡ true → Dec (p + 2 ≤ page_count_of s) → ⊥
-      go a (yes i) = omega (arith, root_is, b.reaches (omega (arith, i, same)), ap (root_at s) same)
+      go a (yes i) = omega (arith, root_is, g.hit.reaches (omega (arith, i)))
       go a (no i) =
           omega (
             arith,
@@ -200,17 +199,17 @@ module _ {s : List ℕ} {h : Head} {q : ℕ} {at : Span} {r : Page} (g : Found s
             o.head.total-is,
             last-root s a,
             g.within,
-            ap (before_of s) {x = page_count_of s} {y = suc p} (omega (arith, page-in b)),
+            ap (before_of s) {x = page_count_of s} {y = suc p} (omega (arith, g.hit.inside)),
           )
 
-  module _ {i m : ℕ} (em : m ≡ 2 ^ h.e) (ei : i ≡ search_answer (m * p) (seek h.e r.sum (bits s) r.at (q - r.before)))
+  module _ {m : ℕ} {w : Option ℕ} (em : m ≡ 2 ^ h.e) (ew : w ≡ search_answer (m * p) (seek h.e r.sum (bits s) r.at (q - r.before)))
       (k : q ≤ r.before + r.sum) where
     abbrev P : Sought
     P = seek (e_of s) (sum_of s p) (bits s) (tree_at s p) (q - before_of s p)
 
-    found-is : i ≡ search_answer (2 ^ e_of s * p) P
+    found-is : w ≡ search_answer (2 ^ e_of s * p) P
     found-is =
-        ei ∙ ap₂ (λ (z e : ℕ). search_answer (z * p) (seek e r.sum (bits s) r.at (q - r.before))) (em ∙ ap (λ (z : ℕ). 2 ^ z) o.head.e-is)
+        ew ∙ ap₂ (λ (z e : ℕ). search_answer (z * p) (seek e r.sum (bits s) r.at (q - r.before))) (em ∙ ap (λ (z : ℕ). 2 ^ z) o.head.e-is)
         o.head.e-is
         ∙ (λ j. search_answer (2 ^ e_of s * p) (seek (e_of s) (pr.sum_is j) (bits s) (pr.at-is j) (q - pr.before-is j)))
 
@@ -219,17 +218,22 @@ module _ {s : List ℕ} {h : Head} {q : ℕ} {at : Span} {r : Page} (g : Found s
     from_is = rw pr.fine
 
     answers : Reach s q (reach_from s q p)
-    answers = reach-found s q p o.passed (omega (arith, o.head.total-is, g.within)) (page-in b) b.before (omega (arith, root_is))
+    answers = reach-found s q p o.passed (omega (arith, o.head.total-is, g.within)) g.hit.inside g.hit.before (omega (arith, root_is))
 
-    spots : (i ≤ n_of s → placed (2 ^ e_of s * p) (n_of s) P ≡ given i) × (n_of s < i → placed (2 ^ e_of s * p) (n_of s) P ≡ refused 6)
-    spots = spot (2 ^ e_of s * p) (n_of s) i P (omega (arith, o.head.hours-is, o.head.hours-small)) found-is
+    spots : Spot (2 ^ e_of s * p) (n_of s) P w
+    spots = subst (Spot (2 ^ e_of s * p) (n_of s) P) (sym found-is) (spot (2 ^ e_of s * p) (n_of s) P)
+
+    -- none is damage
+    pub no-index : w ≡ None → Reach s q (refused 6)
+    no-index e = subst (Reach s q) (from_is ∙ (rw e at spots)) answers
 
     -- the index that the search tells, or damage if it is past the hours
-    pub index : (i ≤ h.hours → Reach s q (given i)) × (h.hours < i → Reach s q (refused 6))
-    index = (
-      (λ (n : i ≤ h.hours). subst (Reach s q) (from_is ∙ spots.0 (omega (arith, o.head.hours-is))) answers),
-      (λ (n : h.hours < i). subst (Reach s q) (from_is ∙ spots.1 (omega (arith, o.head.hours-is))) answers),
-    )
+    pub index : {i : ℕ} → w ≡ Some i → (i ≤ h.hours → Reach s q (given i)) × (h.hours < i → Reach s q (refused 6))
+    index {i} e =
+        let at : Spot (2 ^ e_of s * p) (n_of s) P (Some i) = rw e at spots in (
+          (λ (n : i ≤ h.hours). subst (Reach s q) (from_is ∙ at.0 (omega (arith, o.head.hours-is))) answers),
+          (λ (n : h.hours < i). subst (Reach s q) (from_is ∙ at.1 (omega (arith, o.head.hours-is))) answers),
+        )
 
 -- ---- the refusals before
 pub reach-five : (s : List ℕ) (q : ℕ) → headed s ≡ false → Reach s q (refused 5)

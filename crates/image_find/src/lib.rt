@@ -7,7 +7,8 @@ ghost use Rattle.image_find.specs.Code.Span.{Narrowable, Between, Narrowed, Hit}
 use image::opened::Image;
 use image::page::root_of;
 
-// Pages among which a figure is reached, lo to hi, with the root before the first and the root of the last.
+// Pages among which a figure is reached, lo to hi, with the root before the first and the root of the last. The figure goes beside it: it
+// is the same in all of a search.
 #[derive(Clone, Copy)]
 pub struct Span {
     pub lo: u64,
@@ -25,8 +26,9 @@ fn guess(q: u64, at: Span) -> u64
     at.lo + k.min(at.hi - at.lo - 1)
 }
 
-// The page to look at next. Where counts are spread evenly the guess finds the page or a near one, and then the next page on the side that it
-// missed, up or down, is the best to look at; halving bounds the search where they are not.
+// The page to look at next. Where counts are spread evenly the guess finds the page or a near one, and then the next page on the side that
+// it missed, up or down, is the best to look at; halving bounds the search where they are not. The first turn is the guess: with a look
+// before the loop, `narrow` and the test for one page alone would stand twice.
 fn probe(q: u64, at: Span, turn: u64, up: bool) -> u64
     requires { Narrowable q at }
     ensures { (at.lo ≤ result) × (result < at.hi) }
@@ -40,8 +42,8 @@ fn probe(q: u64, at: Span, turn: u64, up: bool) -> u64
     at.lo + (at.hi - at.lo) / 2
 }
 
-// Whether the guess missed the figure upwards, once it was looked at; risen says so of the last look. Kept from then on: a side that followed
-// each look would make the next load wait for it.
+// Whether the guess missed the figure upwards, once it was looked at; risen says so of the last look. Kept from then on: a side that
+// followed each look would make the next load wait for it.
 fn side(turn: u64, up: bool, risen: bool) -> bool {
     if turn == 0 { risen } else { up }
 }
@@ -54,21 +56,20 @@ fn narrow(image: &Image, q: u64, at: Span, mid: u64) -> Option<Span>
     let r = root_of(image, mid)?;
     if q <= r.value {
         return Some(Span {
-            lo: at.lo,
             hi: mid,
-            below: at.below,
             above: r.value,
+            ..at
         });
     }
     Some(Span {
         lo: mid + 1,
-        hi: at.hi,
         below: r.value,
-        above: at.above,
+        ..at
     })
 }
 
-// The page where figure q is reached: none for damage. The last page's root is taken to be S.
+// The page where figure q is reached, as a span of one, for its promise, `HitAt`, is of a span: none for damage. The last page's root is
+// taken to be S.
 pub fn find(image: &Image, q: u64) -> Option<Span>
     requires { (1 ≤ q) × (q ≤ image.now.head.total) }
     ensures { Hit image.now.bytes.now q result }

@@ -1,5 +1,5 @@
 -- Blocks of the sums, and plans of them. Assumes nothing.
-use mathlib.Core.Bool.{Bool, true, false}
+use mathlib.Core.Bool.{true, true≢false}
 use mathlib.Core.List.{List}
 use mathlib.Core.Path.{◌≡◌, refl, sym, ap, ◌∙◌}
 use Prim.Native.Nat.{ℕ, ◌+◌, ◌-◌, ◌*◌, ◌^◌, ◌≤◌, ◌<◌}
@@ -8,6 +8,8 @@ use native.Mathlib.Omega.{arith}
 use lib.ListN.{length, get_or, get_or-eq_default}
 use lib.Seq.{ext_get_or}
 use lib.Pow.{pow_mono}
+use Rattle.std.specs.Prelude.{Result, Ok, Err}
+use Rattle.answers.specs.declared.refusal.Refusal.{Refusal}
 use Rattle.lists.specs.Counts.{max_count, within}
 use Rattle.lists.proofs.CountLaws.{not_within, within-each}
 use Rattle.lists.specs.Lists.{sum, window}
@@ -27,33 +29,30 @@ pub record Adding (cs ds rs : List ℕ) (i : ℕ) : Type 0 where
   pub rest : (j : ℕ) → i ≤ j → get_or rs j 0 ≡ get_or cs j 0
 
 -- ---- a block of the sums
-module _ (xs ys cs ds rs : List ℕ) (k : ℕ) (r : Bool) (ec : cs ≡ window xs (256 * k) 256) (ed : ds ≡ window ys (256 * k) 256) (a : Added cs ds rs r) where
+module _ (xs ys cs ds rs : List ℕ) (k : ℕ) (long : length rs ≡ 256) (ec : cs ≡ window xs (256 * k) 256) (ed : ds ≡ window ys (256 * k) 256) where
   sum-at : (i : ℕ) → i < 256 → get_or cs i 0 + get_or ds i 0 ≡ get_or (sums xs ys) (256 * k + i) 0
   sum-at i l =
       let u : get_or cs i 0 ≡ get_or xs (256 * k + i) 0 = ap (λ (z : List ℕ). get_or z i 0) ec ∙ window-get xs (256 * k) 256 i l in
       let v : get_or ds i 0 ≡ get_or ys (256 * k + i) 0 = ap (λ (z : List ℕ). get_or z i 0) ed ∙ window-get ys (256 * k) 256 i l in
       omega (arith, get-sums xs ys (256 * k + i))
 
-  all : r ≡ true → rs ≡ window (sums xs ys) (256 * k) 256
-  all q =
-      ext_get_or 0 rs (window (sums xs ys) (256 * k) 256) (a.long ∙ sym (window-long (sums xs ys) (256 * k) 256))
+  all : Added cs ds rs (Ok tt) → rs ≡ window (sums xs ys) (256 * k) 256
+  all a =
+      ext_get_or 0 rs (window (sums xs ys) (256 * k) 256) (long ∙ sym (window-long (sums xs ys) (256 * k) 256))
       (λ i l.
-      let h : i < 256 = omega (arith, a.long) in
-      (a.yes q i h).0 ∙ sum-at i h ∙ sym (window-get (sums xs ys) (256 * k) 256 i h))
+      let h : i < 256 = omega (arith, long) in
+      (a i h).0 ∙ sum-at i h ∙ sym (window-get (sums xs ys) (256 * k) 256 i h))
 
-  small : r ≡ true → (i : ℕ) → get_or rs i 0 ≤ max_count
-  small q i = go (dec_le 256 i)
+  small : Added cs ds rs (Ok tt) → (i : ℕ) → get_or rs i 0 ≤ max_count
+  small a i = go (dec_le 256 i)
     where
       go : Dec (256 ≤ i) → get_or rs i 0 ≤ max_count
-      go (yes l) = omega (arith, get_or-eq_default rs 0 {n = i} (omega (arith, a.long)))
-      go (no l) = (a.yes q i (omega arith)).1
+      go (yes l) = omega (arith, get_or-eq_default rs 0 {n = i} (omega (arith, long)))
+      go (no l) = (a i (omega arith)).1
 
-  pub summed : Summed (sums xs ys) rs k r
-  summed = record {
-    long = a.long;
-    yes = λ q. (all q, small q);
-    no = λ q. let n = a.no q in not_within max_count (sums xs ys) (256 * k + n.0) (omega (arith, n.2, sum-at n.0 n.1));
-  }
+  pub summed : (r : Result (Unit {0}) Refusal) → Added cs ds rs r → Summed (sums xs ys) rs k r
+  summed (Ok u) a = (all a, small a)
+  summed (Err j) a = let n = a.1 in (a.0, not_within max_count (sums xs ys) (256 * k + n.0) (omega (arith, n.2, sum-at n.0 n.1)))
 
 -- ---- the sum of a page in a block
 pub block-sum : (e m k q : ℕ) (zs cs : List ℕ) (s : ℕ) → e ≤ 8 → m ≡ 2 ^ e → In m k q → cs ≡ window zs (256 * k) 256 → ((i : ℕ) → get_or cs i 0 ≤ max_count)
@@ -91,9 +90,6 @@ all-within zs k l f = within-each max_count zs each
         go (yes q) = omega (arith, get_or-eq_default zs 0 {n = i} (omega arith))
 
 -- where all are counts, those of a block are
-pub all-counts : (zs rs : List ℕ) (k : ℕ) (r : Bool) → Summed zs rs k r → within max_count zs ≡ true → r ≡ true
-all-counts zs rs k true s w = refl
-all-counts zs rs k false s w = absurd (let q : within max_count zs ≡ false = s.no refl in let z : ◌≡◌ {A = ℕ} 0 1 = apart (sym w ∙ q) in omega arith)
-  where
-    apart : true ≡ false → ◌≡◌ {A = ℕ} 0 1
-    apart e = cc
+pub all-counts : (zs rs : List ℕ) (k : ℕ) (r : Result (Unit {0}) Refusal) → Summed zs rs k r → within max_count zs ≡ true → r ≡ Ok tt
+all-counts zs rs k (Ok u) s w = refl
+all-counts zs rs k (Err j) s w = absurd (true≢false (sym w ∙ s.1))

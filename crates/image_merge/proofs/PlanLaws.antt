@@ -1,7 +1,7 @@
 -- The plan of the sums, and what it comes to. Assumes nothing.
 use mathlib.Core.Bool.{true}
 use mathlib.Core.List.{List}
-use mathlib.Core.Path.{◌≡◌, refl, sym, ◌∙◌}
+use mathlib.Core.Path.{◌≡◌, refl, sym, subst, ◌∙◌}
 use Prim.Native.Nat.{ℕ, ◌≤◌, max}
 use native.Mathlib.Omega.{arith}
 use lib.ListN.{length}
@@ -19,19 +19,22 @@ use Rattle.image.specs.Read.{list_of}
 use Rattle.image.specs.declared.opened.Accepted.{Accepted}
 use Rattle.image.proofs.Accepted.{accepted-only, length-list}
 use Rattle.image.proofs.CallLaws.{length-within}
-use Rattle.image_plan.specs.Code.Planning.{Begun, Planned}
+use Rattle.image_plan.specs.Code.Planning.{Begun, Drafted, Planned}
+use Rattle.image_plan.specs.declared.Plan.{Plan}
 use Rattle.image_put.proofs.Answering.{write-no}
-use Rattle.image_merge.specs.Code.{Merging, sums_of}
-use Rattle.image_merge.specs.Merge.{merge_lists, sums}
+use Rattle.image_merge.specs.Code.{Merging, merged, sums_of}
+use Rattle.image_merge.specs.declared.block.Pair.{Pair}
 use Rattle.image_merge.proofs.MergeLaws.{counts-yes}
 use Rattle.image_merge.proofs.SumLaws.{length-sums}
 
 -- N of the sums
-pub hours-are : (a b : Accepted) (n : ℕ) → n ≡ max a.head.hours b.head.hours → (length (sums_of a b) ≡ n) × (n ≤ 65536)
-hours-are a b n e =
+pub hours-are : (p : Pair) (n : ℕ) → n ≡ max p.a.now.head.hours p.b.now.head.hours → (length (sums_of p) ≡ n) × (n ≤ 65536)
+hours-are p n e =
+    let a : Accepted = p.a.now in
+    let b : Accepted = p.b.now in
     let xs : List ℕ = list_of a.bytes.now in
     let ys : List ℕ = list_of b.bytes.now in
-    let q : length (sums_of a b) ≡ n = omega (arith, length-sums xs ys, length-list a.bytes.now, length-list b.bytes.now, a.head_of.hours-is, b.head_of.hours-is) in
+    let q : length (sums_of p) ≡ n = omega (arith, length-sums xs ys, length-list a.bytes.now, length-list b.bytes.now, a.head_of.hours-is, b.head_of.hours-is) in
     (q, omega (arith, length-sums xs ys, (accepted-only a.bytes.now a.accepted).limits.hours, (accepted-only b.bytes.now b.accepted).limits.hours))
 
 -- a plan of so many hours is not refused: a list of zeros has an image
@@ -50,13 +53,18 @@ not-refused e n k l u h b =
     let z : ◌≡◌ {A = ℕ} 0 1 = cc in
     omega arith
 
+-- its e is that of the list
+pub own-e : {e : ℕ} {xs : List ℕ} {r : Plan} → Drafted e xs r → Drafted r.e xs r
+own-e {xs = xs} {r} d = subst (λ (z : ℕ). Drafted z xs r) (sym d.e-is) d
+
 -- what the plan comes to
-pub merging_of : (e : ℕ) (xs ys : List ℕ) (p : Result Layout Refusal) → within max_count (sums xs ys) ≡ true → Planned e (sums xs ys) p → Merging e xs ys p
+pub merging_of : (e : ℕ) (q : Pair) (p : Result Layout Refusal) → within max_count (sums_of q) ≡ true → Planned e (sums_of q) p → Merging e q p
 unfolding told unwritten
-merging_of e xs ys (Ok r) w h = (w, h.0, h.1)
-merging_of e xs ys (Err k) w h = λ out. counts-yes e xs ys out w ∙ sym (write-no e (sums xs ys) out k h)
+merging_of e q (Ok r) w h = (w, h.0, h.1)
+merging_of e q (Err k) w h =
+    λ out. counts-yes e (list_of q.a.now.bytes.now) (list_of q.b.now.bytes.now) out w ∙ sym (write-no e (sums_of q) out k h)
 
 -- no layout
-pub no-layout : (e : ℕ) (xs ys out : List ℕ) (k : Refusal) → Merging e xs ys (Err k) → result_of (Err k) out ≡ merge_lists e xs ys out
+pub no-layout : (e : ℕ) (q : Pair) (out : List ℕ) (k : Refusal) → Merging e q (Err k) → result_of (Err k) out ≡ merged e q out
 unfolding told unwritten
-no-layout e xs ys out k h = sym (h out)
+no-layout e q out k h = sym (h out)

@@ -138,9 +138,8 @@ pub record Numbers (s : List ℕ) (e p t a : ℕ) : Type 0 where
   pub sum_is : t ≡ sum_of s p
   pub tree_is : a ≡ tree_at s p
 
-pub numbers : {s : List ℕ} {h : Head} {p t a : ℕ} → accepted s ≡ true → HeadOf s h → p < page_count_of s → t ≡ sum_of s p → a ≡ tree_at s p
-    → Numbers s h.e p t a
-numbers {s} {p = p} a q l m t = record { page = accepted-page s a p l; e-is = q.e-is; sum_is = m; tree_is = t }
+pub numbers : {s : List ℕ} {e p t a : ℕ} → accepted s ≡ true → e ≡ e_of s → p < page_count_of s → t ≡ sum_of s p → a ≡ tree_at s p → Numbers s e p t a
+numbers {s} {p = p} a q l m t = record { page = accepted-page s a p l; e-is = q; sum_is = m; tree_is = t }
 
 -- what decoding asks, and what it gives
 module _ {s : List ℕ} {e p t a : ℕ} (n : Numbers s e p t a) where

@@ -8,13 +8,12 @@ use native.Mathlib.Numerals.{add-one}
 use native.Mathlib.Omega.{arith}
 use lib.ListN.{length, take}
 use lib.Seq.{take_all}
-use lib.Dec.{ltb}
 use borrow.Author.Tests.{le-leb, lt-leb}
 use Rattle.lists.specs.Lists.{concat, pick, sum, tabulate}
 use Rattle.reserve.specs.Reserve.{digits, reserve}
 use Rattle.reserve.proofs.Exact.{digits_le}
 use Rattle.image.specs.Calls.{length_call}
-use Rattle.image.specs.Image.{code, header_length, image, max_hours, max_total, narrow_total, pages, root, size, start, wide}
+use Rattle.image.specs.Image.{code, header_length, image, max_hours, max_total, pages, root, size, start, wide}
 use Rattle.answers.specs.Image.{refused}
 use Rattle.std.specs.Prelude.{Ok}
 use Rattle.image.proofs.Editions.{header-most}
@@ -134,9 +133,9 @@ module _ {e : ℕ} {xs : List ℕ} {r : Plan} (d : Drafted e xs r) (all : r.page
   pub too_much : max_total < r.total → length_call e xs ≡ refused 3
   too_much l = total-above e xs r.total d.e-low d.e-high d.short total-is l
 
-  pub finished : (t h : ℕ) → t ≡ digits r.total → h ≡ header_length (ltb narrow_total r.total) → r.total ≤ max_total
+  pub finished : (t h : ℕ) → t ≡ digits r.total → h ≡ header_length (wide r.total) → r.total ≤ max_total
       → Planned e xs (Ok (record { e = r.e; hours = r.hours; pages = r.pages; total = r.total; table = h; code = 8 * (h + 4 * r.pages); bits = r.pages * t + r.trees }))
-  unfolding code start wide
+  unfolding code start
   finished t h q eh l = (
     record { e-low = d.e-low; e-high = d.e-high; hours = d.short; total = omega (arith, total-is) },
     record {
@@ -144,8 +143,8 @@ module _ {e : ℕ} {xs : List ℕ} {r : Plan} (d : Drafted e xs r) (all : r.page
       hours-are = d.hours-are;
       pages-are = d.pages-are;
       total-is = total-is;
-      table_is = eh ∙ ap (λ (z : ℕ). header_length (ltb narrow_total z)) total-is;
-      code_is = ap₂ (λ (y z : ℕ). 8 * (y + 4 * z)) (eh ∙ ap (λ (z : ℕ). header_length (ltb narrow_total z)) total-is) d.pages-are;
+      table_is = eh ∙ ap (λ (z : ℕ). header_length (wide z)) total-is;
+      code_is = ap₂ (λ (y z : ℕ). 8 * (y + 4 * z)) (eh ∙ ap (λ (z : ℕ). header_length (wide z)) total-is) d.pages-are;
       bits_are =
           ap₂ (λ (y z : ℕ). y * z + r.trees) {x = r.pages} {y = r.done} (omega (arith, d.done-le)) (q ∙ ap digits total-is)
           ∙ d.passed.bits_are ∙ ap (start e xs) done-is;

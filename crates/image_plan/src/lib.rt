@@ -1,5 +1,5 @@
 // What an image will be, from the sums of its pages: a caller adds these to a plan, which gives the layout or a refusal before a byte is
-// written. `image_put` then takes the counts of one page after another.
+// written. `image_put` then takes the counts of one page after another. As methods of Plan and Layout these functions would save no fact.
 #![tactic(auto)]
 
 ghost use Rattle.std.specs.Prelude.{◌≡◌, ◌+◌, length};
@@ -7,9 +7,10 @@ ghost use Rattle.image.specs.Image.{image};
 ghost use Rattle.image_plan.specs.Code.Planning.{Awaits, Begun, Drafted, Fitting, Laying, Planned, Whole};
 
 use answers::refusal::Refusal;
-use image::head::{Head, header_size, pages_of, size_of};
+use image::head::{Edition, Head, pages_of, size_of, table_at};
 
-// A plan of an image of pages of 2^e counts: how many counts and pages it has; of the first done pages the total, and the bits of the trees.
+// A plan of an image of pages of 2^e counts: how many counts and pages it has; of the first done pages the total, and the bits of the
+// trees.
 #[derive(Clone, Copy)]
 pub struct Plan {
     pub e: u32,
@@ -20,7 +21,7 @@ pub struct Plan {
     pub trees: usize,
 }
 
-// The plan of an image of so many counts: refusals 1 and 2.
+// The plan of an image of so many counts: Refusal::PageSize, Refusal::List.
 pub fn start(e: u32, hours: u64) -> Result<Plan, Refusal>
     ensures { Begun e hours result }
 {
@@ -53,8 +54,9 @@ pub fn add_page(plan: Plan, sum: u64) -> Plan
     }
 }
 
-// An image of pages of 2^e counts: how many counts and pages it has, the total, at which byte the table of start bits stands, where the code
-// starts among the bits of all the bytes, and its bits.
+// An image of pages of 2^e counts: how many counts and pages it has, the total, at which byte the table of start bits stands, where the
+// code starts among the bits of all the bytes, and its bits. A Head has these fields, too, but its pages and bits are u64, as
+// what is read of an image is, and here both are indices: with one type, each use on one side would be cast.
 #[derive(Clone, Copy)]
 pub struct Layout {
     pub e: u32,
@@ -66,7 +68,7 @@ pub struct Layout {
     pub bits: usize,
 }
 
-// The layout of a plan that has all its pages: refusal 3. A root's width and the edition are known only now.
+// The layout of a plan that has all its pages: Refusal::Total. A root's width and the edition are known only now.
 pub fn finish(plan: Plan) -> Result<Layout, Refusal>
     requires { Whole plan }
     ensures { (a : Whole plan) → Planned a.e a.xs result }
@@ -75,8 +77,8 @@ pub fn finish(plan: Plan) -> Result<Layout, Refusal>
         return Err(Refusal::Total);
     }
     let pages = plan.pages;
-    let table = header_size(Head::NARROW_TOTAL < plan.total);
-    let code = 8 * (table + 4 * pages);
+    let table = Edition::for_total(plan.total).header_size();
+    let code = 8 * table_at(table, pages as u64);
     let bits = pages * (reserve::digits_of(plan.total) as usize) + plan.trees;
     Ok(Layout {
         e: plan.e,
@@ -97,7 +99,7 @@ pub fn size(r: Layout) -> u64
     size_of(r.table, r.e, r.hours, r.bits as u64)
 }
 
-// How many bytes the image has, if a buffer of so many has room for it: refusal 4.
+// How many bytes the image has, if a buffer of so many has room for it: Refusal::Buffer.
 pub fn room(r: Layout, buffer: usize) -> Result<u64, Refusal>
     requires { Laying r }
     ensures { (a : Laying r) → Fitting (length (image r.e a.xs)) buffer result }

@@ -1,7 +1,7 @@
 -- What a call that makes an image answers, case by case. Assumes nothing.
 use mathlib.Core.Path.{◌≡◌, sym, ap, ap₂, ◌∙◌, subst}
 use mathlib.Core.List.{List}
-use Prim.Native.Nat.{ℕ, ◌≤◌, ◌<◌}
+use Prim.Native.Nat.{ℕ, ◌<◌}
 use native.Mathlib.Omega.{arith}
 use lib.ListN.{length}
 use borrow.Author.Tests.{lt-leb}
@@ -9,8 +9,7 @@ use Rattle.std.specs.Prelude.{Ok, Err}
 use Rattle.lists.specs.Lists.{pick, splice}
 use Rattle.answers.specs.Image.{told, Reply, given}
 use Rattle.answers.specs.declared.refusal.Refusal.{Refusal}
-use Rattle.answers.specs.declared.refusal.Refusal.TheVariants.{Buffer}
-use Rattle.image.specs.Calls.{Result, length_call, put, put_after, result_of, unwritten, write_call}
+use Rattle.image.specs.Calls.{length_call, put, put_after, result_of, unwritten, write_call}
 use Rattle.image.specs.Image.{Limits, image}
 use Rattle.image_plan.specs.Code.Planning.{Fitting, Laying, LayoutOf, Planned}
 use Rattle.image_put.specs.Code.Writing.{Room}

@@ -2,12 +2,10 @@
 use mathlib.Core.Path.{◌≡◌, refl, sym, ap, ◌∙◌}
 use mathlib.Core.Bool.{Bool, true, false}
 use mathlib.Core.List.{List, [], ◌∷◌, ◌++◌, append_assoc}
-use Prim.Native.Nat.{ℕ, suc, ◌+◌, ◌-◌, ◌*◌, ◌/◌, ◌%◌, ◌≤◌, ◌<◌}
+use Prim.Native.Nat.{ℕ, suc, ◌+◌, ◌-◌, ◌*◌, ◌≤◌, ◌<◌}
 use native.Mathlib.Omega.{arith}
 use lib.ListN.{length, get_or, drop, replicate, length-append, length-replicate}
 use lib.Seq.{get_or-drop, sets}
-use lib.Pow.{shr-shr}
-use borrow.Author.Tests.{le-ltb, lt-ltb}
 use Rattle.lists.specs.Lists.{concat, splice, sum, tabulate}
 use Rattle.lists.proofs.Parts.{length-splice, sets-splice, splice-more, splice-nil, splice-then}
 use Rattle.lists.proofs.Tables.{concat-each, concat-le, concat-suc}
@@ -16,7 +14,7 @@ use Rattle.bits.specs.Numbers.{little}
 use Rattle.bits.proofs.Laws.{bits-append, length-bits}
 use Rattle.bits.proofs.Little.{Bytes, bytes-little, length-little}
 use Rattle.bits.proofs.Packing.{bits-fill}
-use Rattle.image.specs.Image.{bytes_for, code, edition, first_pages, header, header_in, header_length, image, narrow_total, packed, page_code, pages, size, start}
+use Rattle.image.specs.Image.{bytes_for, code, edition, first_pages, header, header_in, header_length, image, packed, page_code, pages, size, start}
 use Rattle.image.specs.Image.{table, table_at, total_width, wide, zero_bytes}
 use Rattle.image_put.specs.Code.Writing.{code_of, head_front, head_length, head_tail, laid, starts, table_and_code}
 use Rattle.image.proofs.ReadLaws.{bits-code, length-header, length-image}
@@ -36,32 +34,19 @@ unfolding little
 narrow-put s s₁ s₂ t l h e₁ e₂ =
     splice-then s s₁ s₂ (little 4 t) (little 4 l) 8 12 e₁ e₂ (omega (arith, length-little 4 t)) (omega (arith, length-little 4 t, length-little 4 l))
 
--- eight bytes are twice four
-little-eight : (t : ℕ) → little 4 t ++ little 4 (t / 4294967296) ≡ little 8 t
-unfolding little
-little-eight t =
-    ap (λ (z : ℕ). t % 256 ∷ t / 256 % 256 ∷ t / 256 / 256 % 256 ∷ t / 256 / 256 / 256 % 256 ∷ little 4 z)
-    (sym (shr-shr t 24 8) ∙ ap (λ (z : ℕ). z / 256) (sym (shr-shr t 16 8) ∙ ap (λ (z : ℕ). z / 256) (sym (shr-shr t 8 8))))
-
-pub wide-put : (s s₁ s₂ s₃ s₄ : List ℕ) (t l : ℕ) → 24 ≤ length s → s₁ ≡ splice s 8 (little 4 t) → s₂ ≡ splice s₁ 12 (little 4 (t / 4294967296))
-    → s₃ ≡ splice s₂ 16 (little 4 l) → s₄ ≡ splice s₃ 20 (little 4 0) → s₄ ≡ splice s 8 (head_tail true t l)
-wide-put s s₁ s₂ s₃ s₄ t l h e₁ e₂ e₃ e₄ =
-    let T : List ℕ = little 4 t in
-    let U : List ℕ = little 4 (t / 4294967296) in
+pub wide-put : (s s₁ s₂ s₃ : List ℕ) (t l : ℕ) → 24 ≤ length s → s₁ ≡ splice s 8 (little 8 t) → s₂ ≡ splice s₁ 16 (little 4 l)
+    → s₃ ≡ splice s₂ 20 (little 4 0) → s₃ ≡ splice s 8 (head_tail true t l)
+wide-put s s₁ s₂ s₃ t l h e₁ e₂ e₃ =
+    let T : List ℕ = little 8 t in
     let L : List ℕ = little 4 l in
     let Z : List ℕ = little 4 0 in
-    let lT = length-little 4 t in
-    let lU = length-little 4 (t / 4294967296) in
+    let lT = length-little 8 t in
     let lL = length-little 4 l in
     let lZ = length-little 4 0 in
     let l₁ : length s₁ ≡ length s = ap length e₁ ∙ length-splice s 8 T (omega arith) in
-    let l₂ : length s₂ ≡ length s = ap length e₂ ∙ length-splice s₁ 12 U (omega arith) ∙ l₁ in
-    let i₁ : s₄ ≡ splice s₂ 16 (L ++ Z) = splice-then s₂ s₃ s₄ L Z 16 20 e₃ e₄ (omega arith) (omega arith) in
+    let i : s₃ ≡ splice s₁ 16 (L ++ Z) = splice-then s₁ s₂ s₃ L Z 16 20 e₂ e₃ (omega arith) (omega arith) in
     let lLZ = length-append L Z in
-    let i₂ : s₄ ≡ splice s₁ 12 (U ++ (L ++ Z)) = splice-then s₁ s₂ s₄ U (L ++ Z) 12 16 e₂ i₁ (omega arith) (omega arith) in
-    let lULZ = length-append U (L ++ Z) in
-    splice-then s s₁ s₄ T (U ++ (L ++ Z)) 8 12 e₁ i₂ (omega arith) (omega arith)
-    ∙ ap (splice s 8) (sym (append_assoc T U (L ++ Z)) ∙ ap (λ (z : List ℕ). z ++ (L ++ Z)) (little-eight t))
+    splice-then s s₁ s₃ T (L ++ Z) 8 16 e₁ i (omega arith) (omega arith)
 
 -- front and tail, of an edition
 length-tail : (b : Bool) (t l : ℕ) → 8 + length (head_tail b t l) ≡ header_length b
@@ -76,24 +61,12 @@ joined s s₁ s₂ b e n t l h p q =
     splice-then s s₁ s₂ (head_front (edition b) e n) (head_tail b t l) 0 8 p q (omega (arith, length-little 4 n))
     (omega (arith, length-little 4 n, length-tail b t l))
 
--- of either edition
-pub header-narrow : (s s₁ s₂ : List ℕ) (e n t l : ℕ) → t ≤ narrow_total → header_length (wide t) ≤ length s → s₁ ≡ splice s 0 (head_front 1 e n)
-    → s₂ ≡ splice s₁ 8 (head_tail false t l) → s₂ ≡ splice s 0 (header e n t l)
-unfolding header wide
-header-narrow s s₁ s₂ e n t l m h p q =
-    let w : wide t ≡ false = le-ltb narrow_total t m in
-    joined s s₁ s₂ false e n t l (omega (arith, h, ap header_length w)) p q ∙ ap (λ (b : Bool). splice s 0 (header_in b e n t l)) (sym w)
-
-pub header-wide : (s s₁ s₂ : List ℕ) (e n t l : ℕ) → narrow_total < t → header_length (wide t) ≤ length s → s₁ ≡ splice s 0 (head_front 2 e n)
-    → s₂ ≡ splice s₁ 8 (head_tail true t l) → s₂ ≡ splice s 0 (header e n t l)
-unfolding header wide
-header-wide s s₁ s₂ e n t l m h p q =
-    let w : wide t ≡ true = lt-ltb narrow_total t m in
-    joined s s₁ s₂ true e n t l (omega (arith, h, ap header_length w)) p q ∙ ap (λ (b : Bool). splice s 0 (header_in b e n t l)) (sym w)
-
-pub wide_room : (t k : ℕ) → header_length (wide t) ≤ k → narrow_total < t → 24 ≤ k
-unfolding wide
-wide_room t k h l = omega (arith, ap header_length (lt-ltb narrow_total t l))
+-- of the edition of a total
+pub header-put : (s s₁ s₂ : List ℕ) (b : Bool) (e n t l : ℕ) → b ≡ wide t → header_length (wide t) ≤ length s
+    → s₁ ≡ splice s 0 (head_front (edition b) e n) → s₂ ≡ splice s₁ 8 (head_tail b t l) → s₂ ≡ splice s 0 (header e n t l)
+unfolding header
+header-put s s₁ s₂ b e n t l w h p q =
+    joined s s₁ s₂ b e n t l (omega (arith, h, ap header_length w)) p q ∙ ap (λ (b : Bool). splice s 0 (header_in b e n t l)) w
 
 -- ---- pages
 pub laid_none : (b : List ℕ) (e : ℕ) (xs : List ℕ) → b ≡ laid b e xs 0

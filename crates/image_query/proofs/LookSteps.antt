@@ -5,23 +5,26 @@ use mathlib.Core.List.{List}
 use Prim.Native.Nat.{ℕ, zero, suc, ◌+◌, ◌-◌, ◌*◌, ◌/◌, ◌%◌, ◌^◌, ◌≤◌, ◌<◌}
 use native.Mathlib.Omega.{arith}
 use lib.Dec.{leb}
-use borrow.Author.Tests.{le-leb, lt-leb, lt-ltb, le-ltb, leb-true, leb-false, ne_eqb}
+use borrow.Author.Tests.{le-leb, lt-leb, lt-ltb, le-ltb}
+use Rattle.std.specs.Int.{from_bool}
+use Rattle.std.specs.Option.{ok_or}
 use Rattle.lists.specs.Counts.{max_count}
 use Rattle.lists.specs.Lists.{pick}
 use Rattle.bits.specs.Bits.{bits}
-use Rattle.tree_walk.specs.Code.Answers.{damage_word, walk_answer as walked}
+use Rattle.tree_walk.specs.Code.Answers.{walk_answer as walked}
 use Rattle.tree.specs.Read.{Found, damaged, found, later, walk}
 use Rattle.image.specs.Check.{headed}
 use Rattle.image.specs.Code.Head.{Opened}
 use Rattle.image.specs.Code.Page.{BeforeAt, PageAt, PageOf, Rooted, RootAt}
-use Rattle.image_query.specs.Code.Walk.{Ends, answered, count_answered}
+use Rattle.image_query.specs.Code.Walk.{Ends, count_answered}
 use Rattle.image.specs.Query.{count, ended, look, count_in_page, page_fine, reading, reading_at, the_count, the_reading}
-use Rattle.image.specs.Read.{before_of, e_of, n_of, page_count_of, s_of, sum_of, tree_at}
-use Rattle.answers.specs.Image.{given, refused}
-use Rattle.image.proofs.QueryLaws.{Most, look-most, most-ended, walk-most}
+use Rattle.image.specs.Read.{before_of, e_of, n_of, page_count_of, sum_of, tree_at}
+use Rattle.answers.specs.Image.{given, refused, told}
+use Rattle.answers.specs.declared.refusal.Refusal.TheVariants.{Body}
+use Rattle.image.proofs.QueryLaws.{Most, walk-most}
 use Rattle.image.proofs.HeadLaws.{never}
 use Rattle.image.proofs.PageLaws.{hour-page}
-use Rattle.std.specs.Prelude.{Option}
+use Rattle.std.specs.Prelude.{Option, None, Some}
 use Rattle.image.specs.declared.head.Head.{Head}
 use Rattle.image.specs.declared.page.Page.{Page}
 use Rattle.image.specs.declared.page.Root.{Root}
@@ -30,7 +33,12 @@ use Rattle.image.specs.declared.page.Root.{Root}
 told-later : (k x y : ℕ) (f : Found) → y ≡ k * x → walked y k f ≡ walked 0 k (later x f)
 unfolding walked later
 told-later k x y damaged e = refl
-told-later k x y (found z c) e = omega (arith, e)
+told-later k x y (found z c) e = ap Some {x = y + k * z + c} {y = 0 + k * (x + z) + c} (omega (arith, e))
+
+-- what stands before is kept, or not
+pub kept_by : (keep : Bool) (x : ℕ) {k : ℕ} → k ≡ from_bool keep → k * x ≤ x
+kept_by true x e = rw e (omega arith)
+kept_by false x e = rw e (omega arith)
 
 module _ (s : List ℕ) (h : Head) (o : Opened s h) (i k : ℕ) where
   same : 2 ^ h.e ≡ 2 ^ e_of s
@@ -41,15 +49,15 @@ module _ (s : List ℕ) (h : Head) (o : Opened s h) (i k : ℕ) where
   look-page e l = rw (e, same) (hour-page (e_of s) (n_of s) i (omega (arith, o.head.hours-is)))
 
   -- the page between the roots of the hour's page is the hour's
-  pub look-between : {p : ℕ} (own last : Option Root) (r : Option Page) → p ≡ i / 2 ^ h.e → RootAt s p own → BeforeAt s p last
-      → ((a : Rooted s own last) → PageAt s a.p r) → PageAt s (i / 2 ^ h.e) r
-  look-between own last r e t x f = subst (λ (q : ℕ). PageAt s q r) e (f (record { p = _; own_at = t; last-at = x }))
+  pub look-between : {p : ℕ} (own : Option Root) (last : Option ℕ) (r : Option Page) → p ≡ i / 2 ^ h.e → RootAt s p own → BeforeAt s p last
+      → ((a : Rooted h own last) → PageAt a.s a.p r) → PageAt s (i / 2 ^ h.e) r
+  look-between own last r e t x f = subst (λ (q : ℕ). PageAt s q r) e (f (record { s = s; p = _; opened = o; own_at = t; last-at = x }))
 
   look-lost : page_fine s (i / 2 ^ h.e) ≡ false → look s i ≡ damaged
   unfolding look count_in_page pick
   look-lost e = rw (← same, e)
 
-  pub look-bad : page_fine s (i / 2 ^ h.e) ≡ false → damage_word ≡ walked 0 k (look s i)
+  pub look-bad : page_fine s (i / 2 ^ h.e) ≡ false → None ≡ walked 0 k (look s i)
   unfolding walked
   look-bad e = rw (look-lost e)
 
@@ -72,28 +80,20 @@ count-seven {s} o i l = rw (o.passed, le-leb (n_of s) i (omega (arith, o.head.ho
 answer-count : (f : Found) → count_answered (walked 0 0 f) ≡ the_count (ended f)
 unfolding count_answered walked ended the_count pick
 answer-count damaged = refl
-answer-count (found x c) = ap count_answered {x = 0 + 0 * x + c} {y = c} (omega arith) ∙ go (leb c max_count)
+answer-count (found x c) = ap count_answered {x = Some (0 + 0 * x + c)} {y = Some c} (ap Some {x = 0 + 0 * x + c} {y = c} (omega arith)) ∙ go (leb c max_count)
   where
     go : (b : Bool) → pick b (given c) (refused 6) ≡ the_count (pick b (found x c) damaged)
     go true = refl
     go false = refl
 
 -- ---- a count above the widest
-fits-ended : (f : Found) → walked 0 0 f ≤ max_count → ended f ≡ f
+pub ends_by : (f : Found) {way : Option ℕ} {r : Bool} → way ≡ walked 0 0 f → ((n : ℕ) → way ≡ Some n → r ≡ leb n max_count) → Ends f r
 unfolding walked ended pick
-fits-ended damaged l = refl
-fits-ended (found x c) l = rw (le-leb c max_count (omega arith)) refl
-
-over-ended : (f : Found) → max_count < walked 0 0 f → ended f ≡ damaged
-unfolding walked ended pick
-over-ended damaged l = refl
-over-ended (found x c) l = rw (lt-leb c max_count (omega arith)) refl
-
-pub ends_by : {f : Found} {r : ℕ} → r ≡ walked 0 0 f → Ends f (leb r max_count)
-ends_by {f} {r} e = record {
-  kept = λ q. fits-ended f (omega (arith, e, leb-true r max_count q));
-  lost = λ q. over-ended f (omega (arith, e, leb-false r max_count q));
-}
+ends_by damaged e m = record { kept = λ _. refl; lost = λ _. refl }
+ends_by (found x c) {way} {r} e m = record { kept = λ q. rw (sym tested ∙ q) refl; lost = λ q. rw (sym tested ∙ q) refl }
+  where
+    tested : r ≡ leb c max_count
+    tested = m c (e ∙ ap Some {x = 0 + 0 * x + c} {y = c} (omega arith))
 
 few-ended : (t : ℕ) (f : Found) → Most t f → t ≤ max_count → ended f ≡ f
 unfolding ended pick
@@ -125,24 +125,23 @@ ends-few {s} {h} i {r} o p l = record { kept = λ _. kept; lost = λ q. absurd (
         (omega (arith, p.sum_is ∙ ap (λ (m : ℕ). sum_of s (i / m)) e-same)))
 
 -- the way as a reading takes it
-pub through-bad : {f : Found} {r : Bool} → Ends f r → r ≡ false → damage_word ≡ walked 0 1 (ended f)
+pub through-bad : {f : Found} {r : Bool} → Ends f r → r ≡ false → None ≡ walked 0 1 (ended f)
 unfolding walked
 through-bad w q = ap (walked 0 1) (sym (w.lost q))
 
-pub through-good : {f : Found} {r : Bool} {n : ℕ} → Ends f r → r ≡ true → n ≡ walked 0 1 f → n ≡ walked 0 1 (ended f)
+pub through-good : {f : Found} {r : Bool} {n : Option ℕ} → Ends f r → r ≡ true → n ≡ walked 0 1 f → n ≡ walked 0 1 (ended f)
 through-good w q e = e ∙ ap (walked 0 1) (sym (w.kept q))
 
-answer-reading : (t : ℕ) (f : Found) → t < 2 ^ 63 → Most t f → answered (walked 0 1 f) ≡ the_reading f
-unfolding answered walked the_reading pick
-answer-reading t damaged l m = refl
-answer-reading t (found x c) l m =
-    rw (ne_eqb (0 + 1 * x + c) damage_word (λ e. omega (arith, e))) (ap given {x = 0 + 1 * x + c} {y = x + c} (omega arith))
+answer-reading : (f : Found) → told (ok_or (walked 0 1 f) Body) ≡ the_reading f
+unfolding told walked the_reading
+answer-reading damaged = refl
+answer-reading (found x c) = ap given {x = 0 + 1 * x + c} {y = x + c} (omega arith)
 
 pub count-lost : {s : List ℕ} {h : Head} (o : Opened s h) (i : ℕ) → i < h.hours → page_fine s (i / 2 ^ h.e) ≡ false → refused 6 ≡ count s i
 unfolding count pick ended the_count
 count-lost {s} {h} o i l e = rw (o.passed, lt-leb (n_of s) i (omega (arith, o.head.hours-is)), look-lost s h o i 0 e)
 
-pub count-found : {s : List ℕ} {h : Head} → Opened s h → (i : ℕ) {r : ℕ} → i < h.hours → r ≡ walked 0 0 (look s i) → count_answered r ≡ count s i
+pub count-found : {s : List ℕ} {h : Head} → Opened s h → (i : ℕ) {r : Option ℕ} → i < h.hours → r ≡ walked 0 0 (look s i) → count_answered r ≡ count s i
 unfolding count pick
 count-found {s} o i l e =
     ap count_answered e ∙ answer-count (look s i)
@@ -170,12 +169,12 @@ reading-lost {s} {h} o (suc i) k l e =
     rw (o.passed, le-ltb (n_of s) (suc i) (omega (arith, o.head.hours-is)), look-lost s h o i 0 (ap (λ (j : ℕ). page_fine s (j / 2 ^ h.e)) (sym z) ∙ e))
 
 -- 'Reading at i > 0 walks to hour i-1'
-pub reading-found : {s : List ℕ} {h : Head} → Opened s h → (i : ℕ) {r : ℕ} → 1 ≤ i → i ≤ h.hours → r ≡ walked 0 1 (ended (look s (i - 1)))
-    → answered r ≡ reading s i
+pub reading-found : {s : List ℕ} {h : Head} → Opened s h → (i : ℕ) {r : Option ℕ} → 1 ≤ i → i ≤ h.hours → r ≡ walked 0 1 (ended (look s (i - 1)))
+    → told (ok_or r Body) ≡ reading s i
 unfolding reading pick reading_at
 reading-found o zero k l e = absurd (omega arith)
 reading-found {s} o (suc i) k l e =
     let z : suc i - 1 ≡ i = omega arith in
-    ap answered (e ∙ ap (λ (j : ℕ). walked 0 1 (ended (look s j))) z)
-    ∙ answer-reading (s_of s) (ended (look s i)) (omega (arith, o.head.total-is, o.head.total-small)) (most-ended (s_of s) (look s i) (look-most s i))
+    ap (λ (w : Option ℕ). told (ok_or w Body)) (e ∙ ap (λ (j : ℕ). walked 0 1 (ended (look s j))) z)
+    ∙ answer-reading (ended (look s i))
     ∙ sym (rw (o.passed, le-ltb (n_of s) (suc i) (omega (arith, o.head.hours-is))))

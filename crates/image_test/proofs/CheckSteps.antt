@@ -2,14 +2,14 @@
 use mathlib.Core.Path.{◌≡◌, refl, sym, ap, ap₂, ◌∙◌}
 use mathlib.Core.Bool.{Bool, true, false, ◌&&◌, not}
 use mathlib.Core.List.{List, [], ◌∷◌}
-use Prim.Native.Nat.{ℕ, zero, suc, ◌+◌, ◌-◌, ◌*◌, ◌/◌, ◌^◌, ◌≤◌, ◌<◌}
+use Prim.Native.Nat.{ℕ, zero, suc, ◌+◌, ◌-◌, ◌*◌, ◌/◌, ◌≤◌, ◌<◌}
 use native.Mathlib.Numerals.{add-one}
 use native.Mathlib.Omega.{arith}
 use native.Mathlib.Decide.{ℕ_discrete}
 use lib.ListN.{length, get_or, take}
 use lib.Dec.{leb, eqb}
 use borrow.Author.Tests.{le-leb, lt-leb, eq-eqb, ltb-true, ne_eqb}
-use Rattle.std.specs.Prelude.{None}
+use Rattle.std.specs.Prelude.{Option, None, Some}
 use Rattle.lists.specs.Counts.{max_count, within}
 use Rattle.lists.proofs.CountLaws.{within-each}
 use Rattle.lists.specs.Lists.{every, pick}
@@ -17,7 +17,7 @@ use Rattle.lists.proofs.Tests.{every-last, every-no, every_of}
 use Rattle.bits.specs.Bits.{bits}
 use Rattle.reserve.specs.Reserve.{digits, reserve}
 use Rattle.tree.specs.Code.Node.{Lies}
-use Rattle.tree_walk.specs.Code.Answers.{damage_word, walk_answer as walked}
+use Rattle.tree_walk.specs.Code.Answers.{walk_answer as walked}
 use Rattle.tree.specs.Code.Exact.{clear}
 use Rattle.tree_lowest.specs.Code.Narrow.{narrow}
 use Rattle.tree.specs.Read.{Found, damaged, found}
@@ -201,16 +201,18 @@ rest-none s h o e =
     ap (λ (z : ℕ). eqb z 0) o.head.total-is ∙ eqb_swap (s_of s) 0
     ∙ ap (λ (z : ℕ). says (sum_at s z) (s_of s)) {x = 0} {y = n_of s} (sym e ∙ o.head.hours-is)
 
-says-told : (f : Found) (t : ℕ) → t < 2 ^ 63 → eqb (walked 0 1 f) t ≡ says (the_reading f) t
+-- what a test of the way's answer says: none has no reading, and fails it
+says-told : (f : Found) (t : ℕ) {way : Option ℕ} {r : Bool} → way ≡ walked 0 1 f → (way ≡ None → r ≡ false)
+    → ((n : ℕ) → way ≡ Some n → r ≡ eqb n t) → r ≡ says (the_reading f) t
 unfolding walked the_reading says
-says-told damaged t l = ne_eqb damage_word t (λ e. omega (arith, e))
-says-told (found x c) t l = ap (λ (z : ℕ). eqb z t) {x = 0 + 1 * x + c} {y = x + c} (omega arith)
+says-told damaged t e none some = none e
+says-told (found x c) t e none some = some (x + c) (e ∙ ap Some {x = 0 + 1 * x + c} {y = x + c} (omega arith))
 
-pub rest_some : (s : List ℕ) (h : Head) → Opened s h → (r : ℕ) → (h.hours ≡ 0 → ⊥) → r ≡ walked 0 1 (look s (h.hours - 1))
-    → eqb r h.total ≡ says (sum_at s (n_of s)) (s_of s)
+pub rest_some : (s : List ℕ) (h : Head) → Opened s h → {way : Option ℕ} {r : Bool} → (h.hours ≡ 0 → ⊥) → way ≡ walked 0 1 (look s (h.hours - 1))
+    → (way ≡ None → r ≡ false) → ((n : ℕ) → way ≡ Some n → r ≡ eqb n h.total) → r ≡ says (sum_at s (n_of s)) (s_of s)
 unfolding sum_at
-rest_some s h o r n e =
-    ap₂ eqb e o.head.total-is ∙ says-told (look s (h.hours - 1)) (s_of s) (omega (arith, o.head.total-is, o.head.total-small))
+rest_some s h o n e none some =
+    says-told (look s (h.hours - 1)) (s_of s) e none (λ x q. some x q ∙ ap (eqb x) o.head.total-is)
     ∙ ap (λ (z : Reply). says z (s_of s)) (last h.hours (n_of s) n o.head.hours-is)
   where
     last : (k n : ℕ) → (k ≡ 0 → ⊥) → k ≡ n → the_reading (look s (k - 1)) ≡ sum_at s n
@@ -229,7 +231,7 @@ fill_is s h o =
     ap₂ (clear (bits s)) a (omega (arith, a, b))
 
 -- ---- the answer
-module _ {most : ℕ} (few : most ≤ max_count) {s : List ℕ} {h : Head} (o : Opened s h) where
+module _ {most : ℕ} (few : most ≤ max_count) {s : List ℕ} {h : Head} (o : Opened s h) (bytes : (i : ℕ) → get_or s i 0 < 256) where
   abbrev three : List Bool
   three =
       pages_from most s (page_count_of s) 0 0 0
@@ -239,7 +241,7 @@ module _ {most : ℕ} (few : most ≤ max_count) {s : List ℕ} {h : Head} (o : 
 
   accepts : every three ≡ (accepted s && within most (list_of s))
   unfolding passes_test
-  accepts = sym (ap (λ (z : Bool). z && every three) o.passed) ∙ test-is most few s o.bytes
+  accepts = sym (ap (λ (z : Bool). z && every three) o.passed) ∙ test-is most few s bytes
 
   pub test-fails : (i : ℕ) → get_or three i true ≡ false → false ≡ (accepted s && within most (list_of s))
   test-fails i e = sym (sym accepts ∙ every-no three i e)

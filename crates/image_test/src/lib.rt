@@ -17,7 +17,9 @@ pub struct Tested {
     pub root: u64,
 }
 
-// Tests page p, which is to start at bit start of the code, the root before it being before, with a limit for its counts.
+// Tests page p, which is to start at bit start of the code, the root before it being before, with a limit for its counts. It takes the
+// tree's reserve and place as `page_between` does, but tests where the page starts, not that its root is S at most, and answers
+// where it ends.
 pub fn page_test(
     image: &Image,
     table: &ReserveTable,
@@ -31,10 +33,10 @@ pub fn page_test(
 {
     let head = image.head;
     let own = root_of(image, p)?;
-    if own.end != start + u64::from(reserve::digits_of(head.total)) || own.value < before {
+    if own.end != start + u64::from(head.root_width()) {
         return None;
     }
-    let sum = own.value - before;
+    let sum = own.value.checked_sub(before)?;
     let size = reserve::reserve_of(head.e, sum);
     let end = own.end + (size as u64);
     if head.bits < end {

@@ -6,7 +6,8 @@ use answers::refusal::Refusal;
 use image_plan::{Layout, Plan, add_page, finish, start};
 use tree::sums::sum_of;
 
-// Adds the pages that a plan of counts lacks. book_in has this loop over a book: what a closure for the sums would ask is longer than it.
+// Adds the pages that a plan of counts lacks. book_in, image_merge and freeze_plan have this loop over their own: what a closure for the
+// sums would ask is longer than it. It counts pages and takes no chunks of the counts, for it starts where the plan stands.
 fn add_pages(counts: &[u32], e: u32, plan: Plan) -> Plan
     requires { Drafted e counts.now plan }
     ensures { Drafted e counts.now result × (result.pages ≤ result.done) }

@@ -7,7 +7,7 @@ ghost use Rattle.image_put.specs.Code.Writing.{Room};
 use image_plan::Layout;
 use image_put::{begin, end, put_page};
 
-// Writes the image of counts: page after page, each from its place in the list.
+// Writes the image of counts: page after page, each from its place in the list, which put_page takes, so that no chunks are cut.
 pub(crate) fn put_image(out: &mut [u8], counts: &[u32], r: Layout)
     requires { Room counts.now r out.old }
     ensures { out.new ≡ splice out.old 0 (image r.e counts.now) }

@@ -1,10 +1,22 @@
 -- What the functions of src/head.rt ask and answer. Assumes nothing.
-use Rattle.std.specs.Prelude.{false, true, Option, Some, None, List, ◌≡◌, ℕ, ◌+◌, ◌*◌, ◌≤◌, ◌<◌, length, get_or}
+use Rattle.std.specs.Prelude.{Bool, false, true, Option, Some, None, List, ◌≡◌, ℕ, ◌+◌, ◌*◌, ◌≤◌, ◌<◌, length, get_or}
 use Rattle.image.specs.Check.{headed, wide_right}
 use Rattle.image.specs.Image.{edition, header_length, max_total, pages}
 use Rattle.image.specs.Read.{code_at, e_of, l_of, n_of, page_count_of, s_of, wide_of}
+use Rattle.image.specs.declared.head.Edition.{Edition}
+use Rattle.image.specs.declared.head.Edition.TheVariants.{Narrow, Wide}
 use Rattle.image.specs.declared.head.Head.{Head}
 use Rattle.image.specs.declared.head.Tail.{Tail}
+
+-- an edition as the definitions name it
+abbrev pub is_wide : Edition → Bool
+is_wide Narrow = false
+is_wide Wide = true
+
+-- the edition of a number, or that none has it
+abbrev pub Numbered : ℕ → Option Edition → Type 0
+Numbered k (Some x) = k ≡ edition (is_wide x)
+Numbered k None = (b : Bool) → k ≡ edition b → ⊥
 
 -- the header of the bytes s, and where their parts stand
 pub record HeadOf (s : List ℕ) (h : Head) : Type 0 where
@@ -46,8 +58,11 @@ pub record HeadWith (e hours : ℕ) (t : Tail) (h : Head) : Type 0 where
   pub table_is : h.table ≡ t.table
   pub code_is : h.code ≡ 8 * (t.table + 4 * pages e hours)
 
+-- each number is a byte
+abbrev pub EachByte : List ℕ → Type 0
+EachByte s = (i : ℕ) → get_or s i 0 < 256
+
 -- bytes past refusal 5, and their header
 pub record Opened (s : List ℕ) (h : Head) : Type 0 where
-  pub bytes : (i : ℕ) → get_or s i 0 < 256
   pub head : HeadOf s h
   pub passed : headed s ≡ true

@@ -1,8 +1,10 @@
 -- What the functions of src/page.rt answer. Assumes nothing.
 use Rattle.std.specs.Prelude.{true, false, Option, Some, None, List, ◌≡◌, ℕ, ◌+◌, ◌≤◌}
 use Rattle.tree.specs.Code.Node.{Lies}
+use Rattle.image.specs.Code.Head.{Opened}
 use Rattle.image.specs.Query.{before_passing, page_fine, passing}
 use Rattle.image.specs.Read.{before_of, e_of, l_of, root_at, s_of, start_of, sum_of, tree_at, width_of}
+use Rattle.image.specs.declared.head.Head.{Head}
 use Rattle.image.specs.declared.page.Root.{Root}
 use Rattle.image.specs.declared.page.Page.{Page}
 
@@ -18,14 +20,16 @@ abbrev pub RootAt : List ℕ → ℕ → Option Root → Type 0
 RootAt s p (Some r) = RootOf s p r
 RootAt s p None = passing s (start_of s p) (width_of s) ≡ true
 
--- the root of the page before page p, or that it passes L
-abbrev pub BeforeAt : List ℕ → ℕ → Option Root → Type 0
-BeforeAt s p (Some r) = (before_passing s p ≡ false) × (r.value ≡ before_of s p)
+-- the number of the root of the page before page p, or that this root passes L
+abbrev pub BeforeAt : List ℕ → ℕ → Option ℕ → Type 0
+BeforeAt s p (Some v) = (before_passing s p ≡ false) × (v ≡ before_of s p)
 BeforeAt s p None = before_passing s p ≡ true
 
--- there is a page p whose root is own, the root before it being last
-pub record Rooted (s : List ℕ) (own last : Option Root) : Type 0 where
+-- there is an image with this header and a page p of it whose root is own, the root before it being last
+pub record Rooted (h : Head) (own : Option Root) (last : Option ℕ) : Type 0 where
+  pub s : List ℕ
   pub p : ℕ
+  pub opened : Opened s h
   pub own_at : RootAt s p own
   pub last-at : BeforeAt s p last
 

@@ -10,7 +10,7 @@ returns-then-rest_zero c =
     elim c.if-pages_pass.branch [
       | then-pages_pass w ↦
           c.fill_zero.ensures
-          ∙ test-last c.requires c.args.image.now.opened (sym c.pages_pass.ensures ∙ w.if-pages_pass.true)
+          ∙ test-last c.requires c.args.image.now.opened c.args.image.now.each (sym c.pages_pass.ensures ∙ w.if-pages_pass.true)
           (sym w.rest_zero.ensures ∙ sym w.value-is ∙ c.if-rest_zero.true)
       | else-pages_pass w ↦ absurd (never (sym w.if-pages_pass.false ∙ sym w.value-is ∙ c.if-rest_zero.true))
     ]
@@ -19,6 +19,6 @@ pub returns-else-rest_zero : goal.returns-else-rest_zero
 returns-else-rest_zero c =
     c.if-rest_zero.false
     ∙ elim c.if-pages_pass.branch [
-      | then-pages_pass w ↦ test-fails c.requires c.args.image.now.opened 1 (sym w.rest_zero.ensures ∙ sym w.value-is ∙ c.if-rest_zero.false)
-      | else-pages_pass w ↦ test-fails c.requires c.args.image.now.opened 0 (sym c.pages_pass.ensures ∙ w.if-pages_pass.false)
+      | then-pages_pass w ↦ test-fails c.requires c.args.image.now.opened c.args.image.now.each 1 (sym w.rest_zero.ensures ∙ sym w.value-is ∙ c.if-rest_zero.false)
+      | else-pages_pass w ↦ test-fails c.requires c.args.image.now.opened c.args.image.now.each 0 (sym c.pages_pass.ensures ∙ w.if-pages_pass.false)
     ]

@@ -28,6 +28,12 @@ pub record HitAt (s : List ℕ) (q : ℕ) (r : Span) : Type 0 where
   pub between : Between s q r
   pub one : r.hi ≤ r.lo
 
+-- the page p: the root before it is below q, and its own is q or more, but for the image's last page, of which this is not known
+pub record PageHit (s : List ℕ) (q p : ℕ) : Type 0 where
+  pub inside : p < page_count_of s
+  pub before : before_of s p < q
+  pub reaches : p + 1 < page_count_of s → q ≤ root_at s p
+
 -- after a look at one of the pages: fewer pages, or damage
 abbrev pub Narrowed : List ℕ → ℕ → Span → Option Span → Type 0
 Narrowed s q at (Some r) = Between s q r × (r.hi - r.lo < at.hi - at.lo)

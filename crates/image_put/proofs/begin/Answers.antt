@@ -1,6 +1,5 @@
 -- `image_put::begin` meets its contract. Assumes nothing.
 use mathlib.Core.Path.{refl}
-use native.Mathlib.Omega.{arith}
 use Rattle.std.proofs.Common.{rules}
 use Rattle.image_put.proofs.PagesLaid.{begun, ends}
 use Rattle.image_put.proofs.begin.Goals as goal

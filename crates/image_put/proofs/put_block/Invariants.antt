@@ -1,6 +1,5 @@
 -- `image_put::put_block` meets its contract. Assumes nothing.
 use mathlib.Core.Path.{◌≡◌}
-use Prim.Native.Nat.{ℕ}
 use Rattle.image_put.specs.Code.Writing.{Blocked, Laid}
 use Rattle.image_put.proofs.put_block.Given as goal
 

@@ -9,6 +9,9 @@ use Rattle.image_plan.specs.declared.Layout.{Layout}
 use Rattle.image_put.specs.declared.Place.{Place}
 use Rattle.reserve.specs.Reserve.{digits}
 use Rattle.lists.specs.Lists.{sum, window}
+use Rattle.image.specs.Image.{wide}
+use Rattle.image.proofs.Editions.{header-most}
+use Rattle.image.proofs.HeadLaws.{pages-le}
 use Rattle.image_put.specs.Code.Writing.{Handed}
 use Rattle.image_put.proofs.PageSteps.{Step, next_place, page-put, size_low, step}
 use Rattle.image_put.proofs.PagesLaid.{one_more}
@@ -40,17 +43,19 @@ overflow_add-root c = omega (arith, numbers c.requires c.power-m.ensures c.digit
 pub overflow_add-tree : goal.overflow_add-tree
 overflow_add-tree c = omega (arith, numbers c.requires c.power-m.ensures c.digits_of-w.ensures c.sum_of-s.ensures)
 
-pub overflow_mul-at : goal.overflow_mul-at
-overflow_mul-at c = omega (arith, numbers c.requires c.power-m.ensures c.digits_of-w.ensures c.sum_of-s.ensures)
-
-pub overflow_add-r : goal.overflow_add-r
-overflow_add-r c = omega (arith, numbers c.requires c.power-m.ensures c.digits_of-w.ensures c.sum_of-s.ensures, c.requires.so_far.room.layout.table_is)
+pub table_at-requires : goal.table_at-requires
+table_at-requires c =
+    let a = c.requires in
+    let l = a.so_far.room in (
+      omega (arith, l.layout.table_is, header-most (wide (sum a.xs))),
+      omega (arith, a.more, l.layout.pages-are, pages-le c.args.r.e (length a.xs), l.limits.hours),
+    )
 
 pub put-requires-clause-in_bounds : goal.put-requires-clause-in_bounds
-put-requires-clause-in_bounds c = omega (arith, numbers c.requires c.power-m.ensures c.digits_of-w.ensures c.sum_of-s.ensures, c.requires.so_far.room.layout.table_is)
+put-requires-clause-in_bounds c = omega (arith, c.table_at.ensures, numbers c.requires c.power-m.ensures c.digits_of-w.ensures c.sum_of-s.ensures, c.requires.so_far.room.layout.table_is)
 
-pub overflow_add-r-2 : goal.overflow_add-r-2
-overflow_add-r-2 c = omega (arith, numbers c.requires c.power-m.ensures c.digits_of-w.ensures c.sum_of-s.ensures, c.requires.so_far.room.layout.code_is)
+pub overflow_add-r : goal.overflow_add-r
+overflow_add-r c = omega (arith, numbers c.requires c.power-m.ensures c.digits_of-w.ensures c.sum_of-s.ensures, c.requires.so_far.room.layout.code_is)
 
 pub put_field-requires : goal.put_field-requires
 put_field-requires c =
@@ -58,8 +63,8 @@ put_field-requires c =
     let e = c.put.auto.out in
     record { width_bound = (omega (arith, c.requires.so_far.room.layout.code_is), omega (arith, c.requires.so_far.room.layout.code_is), omega arith); v_bound = p.root-fits; in_bounds = omega arith }
 
-pub overflow_add-r-3 : goal.overflow_add-r-3
-overflow_add-r-3 c = omega (arith, numbers c.requires c.power-m.ensures c.digits_of-w.ensures c.sum_of-s.ensures, c.requires.so_far.room.layout.code_is)
+pub overflow_add-r-2 : goal.overflow_add-r-2
+overflow_add-r-2 c = omega (arith, numbers c.requires c.power-m.ensures c.digits_of-w.ensures c.sum_of-s.ensures, c.requires.so_far.room.layout.code_is)
 
 pub write-requires : goal.write-requires
 write-requires c =
@@ -90,5 +95,5 @@ returns c =
           one_more c.write.new.out _ a.so_far a.more (omega (arith, c.write.auto.out, c.put_field.auto.out, c.put.auto.out)) refl
           (next_place p v.result v.ensures)
           (page-put p s.r.code s.r.table s.out.now c.put.new.out c.put_field.new.out c.write.new.out a.so_far.room.layout.table_is a.so_far.room.layout.code_is refl
-          c.put.ensures c.put_field.ensures c.write.ensures),
+          (rw c.table_at.ensures at c.put.ensures) c.put_field.ensures c.write.ensures),
     )

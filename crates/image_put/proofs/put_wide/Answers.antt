@@ -8,14 +8,11 @@ put-requires-2-clause-in_bounds c = omega (arith, c.put.auto.out)
 pub put-requires-3-clause-in_bounds : goal.put-requires-3-clause-in_bounds
 put-requires-3-clause-in_bounds c = omega (arith, c.put-2.auto.out, c.put.auto.out)
 
-pub put-requires-4-clause-in_bounds : goal.put-requires-4-clause-in_bounds
-put-requires-4-clause-in_bounds c = omega (arith, c.put-3.auto.out, c.put-2.auto.out, c.put.auto.out)
-
 pub shape_of-out : goal.shape_of-out
 shape_of-out c =
-    omega (arith, c.put-4.auto.out, c.put-3.auto.out, c.put-2.auto.out, c.put.auto.out)
+    omega (arith, c.put-3.auto.out, c.put-2.auto.out, c.put.auto.out)
 
 pub returns : goal.returns
 returns c =
-    wide-put c.args.out.now c.put.new.out c.put-2.new.out c.put-3.new.out c.put-4.new.out c.args.r.total c.args.r.bits c.requires
-    c.put.ensures c.put-2.ensures c.put-3.ensures c.put-4.ensures
+    wide-put c.args.out.now c.put.new.out c.put-2.new.out c.put-3.new.out c.args.r.total c.args.r.bits c.requires c.put.ensures c.put-2.ensures
+    c.put-3.ensures

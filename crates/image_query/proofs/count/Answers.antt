@@ -4,7 +4,6 @@ use native.Mathlib.Omega.{arith}
 use Rattle.std.specs.Prelude.{Some, None, Err}
 use Rattle.answers.specs.declared.refusal.Refusal.TheVariants.{Header, Body}
 use Rattle.answers.specs.Image.{told}
-use Rattle.image.proofs.HeadLaws.{bounds}
 use Rattle.image_query.proofs.LookSteps.{count-five, count-found, count-lost, count-seven, look-between, look-page}
 use Rattle.image_query.proofs.count.Goals as goal
 
@@ -17,9 +16,6 @@ returns-in_err-image c =
 pub returns-then-image-i : goal.returns-then-image-i
 unfolding told
 returns-then-image-i c = rw (← c.in_ok-image.ensures) (count-seven c.in_ok-image.image.opened _ c.if-image-i.true)
-
-pub page_with-p-requires : goal.page_with-p-requires
-page_with-p-requires c = (bounds _ _ c.in_ok-image.image.opened).e-high
 
 pub root_of-requires : goal.root_of-requires
 root_of-requires c = look-page _ _ c.in_ok-image.image.opened _ 0 c.page_with-p.ensures c.if-image-i.false
@@ -41,7 +37,7 @@ look_in-requires c =
     let b = look-between _ _ c.in_ok-image.image.opened c.args.i 0 _ _ c.page_between-found.result c.page_with-p.ensures c.root_of.ensures c.root_before.ensures
     c.page_between-found.ensures in
     let n : c.page_between-found.result ≡ Some c.in_ok-page.page = grind arith in
-    (rw n at b, omega arith)
+    rw n at b
 
 pub returns : goal.returns
 returns c =

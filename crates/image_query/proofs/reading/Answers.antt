@@ -1,10 +1,9 @@
 -- `image_query::reading` meets its contract. Assumes nothing.
-use mathlib.Core.Path.{◌≡◌, ◌∙◌}
+use mathlib.Core.Path.{◌≡◌, ap, ◌∙◌}
 use native.Mathlib.Omega.{arith}
 use Rattle.std.specs.Prelude.{Some, None, Err}
 use Rattle.answers.specs.declared.refusal.Refusal.TheVariants.{Header, Body}
 use Rattle.answers.specs.Image.{told}
-use Rattle.image.proofs.HeadLaws.{bounds}
 use Rattle.image_query.proofs.LookSteps.{look-between, look-page, reading-five, reading-found, reading-lost, reading-none, reading-seven}
 use Rattle.image_query.proofs.reading.Goals as goal
 
@@ -21,9 +20,6 @@ returns-then-image-i c = rw (← c.in_ok-image.ensures) (reading-seven c.in_ok-i
 pub returns-then-i-eq0 : goal.returns-then-i-eq0
 unfolding told
 returns-then-i-eq0 c = rw (← c.in_ok-image.ensures) (reading-none c.in_ok-image.image.opened _ c.if-i-eq0.true)
-
-pub page_with-p-requires : goal.page_with-p-requires
-page_with-p-requires c = (bounds _ _ c.in_ok-image.image.opened).e-high
 
 pub root_of-requires : goal.root_of-requires
 root_of-requires c = look-page _ _ c.in_ok-image.image.opened _ 1 c.page_with-p.ensures (omega arith)
@@ -49,4 +45,4 @@ look_through-requires c =
 
 pub returns : goal.returns
 returns c =
-    rw (← c.in_ok-image.ensures) (c.answer_of.ensures ∙ reading-found c.in_ok-image.image.opened _ (omega arith) c.if-image-i.false c.look_through.ensures)
+    rw (← c.in_ok-image.ensures) (ap told c.ok_or-2.ensures.value ∙ reading-found c.in_ok-image.image.opened _ (omega arith) c.if-image-i.false c.look_through.ensures)

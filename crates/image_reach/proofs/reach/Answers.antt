@@ -4,7 +4,7 @@ use native.Mathlib.Omega.{arith}
 use Rattle.std.specs.Prelude.{None, Some, Err}
 use Rattle.answers.specs.declared.refusal.Refusal.TheVariants.{Body, Header}
 use Rattle.answers.specs.Image.{told}
-use Rattle.image_find.proofs.SearchSteps.{found-six, reach-eight, reach-five}
+use Rattle.image_find.proofs.SearchSteps.{found-six, page-hit, reach-eight, reach-five}
 use Rattle.image_find.proofs.ReachLaws.{reach-zero}
 use Rattle.image_reach.proofs.reach.Goals as goal
 
@@ -32,7 +32,7 @@ returns-in_err-at c =
 pub reach_in-requires : goal.reach_in-requires
 reach_in-requires c =
     let n : c.find.result ≡ Some c.in_ok-at.at = grind arith in
-    (c.if-image-p.false, rw n at c.find.ensures)
+    (c.if-image-p.false, page-hit (rw n at c.find.ensures))
 
 pub returns : goal.returns
 returns c = rw (← c.in_ok-image.ensures) c.reach_in.ensures

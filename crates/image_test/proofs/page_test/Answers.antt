@@ -1,6 +1,6 @@
 -- `image_test::page_test` meets its contract. Assumes nothing.
 use native.Mathlib.Omega.{arith}
-use mathlib.Core.Path.{◌≡◌, sym, ◌∙◌}
+use mathlib.Core.Path.{◌≡◌, sym, ap, ◌∙◌}
 use mathlib.Core.List.{List}
 use Prim.Native.Nat.{ℕ, ◌+◌, ◌-◌}
 use Rattle.reserve.specs.Reserve.{digits, reserve}
@@ -12,7 +12,6 @@ use Rattle.image_test.proofs.CheckSteps.{Own, Standing, elsewhere, end-small, fa
 use Rattle.image_test.proofs.CheckSteps.{tree-lies, tree_over}
 use Rattle.image.proofs.HeadLaws.{bounds}
 use Rattle.image_test.proofs.page_test.Goals as goal
-use Rattle.image_test.proofs.page_test.Goals.{then-own-start-via-then-own-start, then-own-start-via-else-own-start+then-own-before}
 
 -- the root was read
 own : {s : List ℕ} {h : Head} {p : ℕ} {r : Root} → Opened s h → RootOf s p r → Own s h p r
@@ -28,27 +27,27 @@ returns-in_err-own c = rw c.from_residual.ensures (root-passes c.in_err-own.ensu
 
 pub returns-then-own-start : goal.returns-then-own-start
 returns-then-own-start c =
-    let g = own c.args.image.now.opened c.in_ok-own.ensures in
-    elim c.then-own-start.branch [
-      | then-own-start-via-then-own-start w ↦ elsewhere g (c.from.ensures ∙ c.digits_of.ensures) w.if-own-start.true
-      | then-own-start-via-else-own-start+then-own-before w ↦ falls g w.if-own-before.true
-    ]
+    elsewhere (own c.args.image.now.opened c.in_ok-own.ensures) (c.from.ensures ∙ c.root_width.ensures) c.if-own-start.true
+
+pub returns-in_err-sum : goal.returns-in_err-sum
+returns-in_err-sum c =
+    rw c.from_residual-in_err-sum.ensures (falls (own c.args.image.now.opened c.in_ok-own.ensures) (omega (arith, c.in_err-sum.ensures)))
 
 pub reserve_of-size-requires : goal.reserve_of-size-requires
 reserve_of-size-requires c =
     let g = own c.args.image.now.opened c.in_ok-own.ensures in
-    ((bounds _ _ g.opened).e-high, omega (arith, own-small g))
+    ((bounds _ _ g.opened).e-high, omega (arith, own-small g, c.in_ok-sum.ensures))
 
 pub overflow_add-end : goal.overflow_add-end
 overflow_add-end c =
     let g = own c.args.image.now.opened c.in_ok-own.ensures in
-    let w = standing g c.if-own-start.false (c.from.ensures ∙ c.digits_of.ensures) c.reserve_of-size.ensures in
+    let w = standing g c.if-own-start.false (c.from.ensures ∙ c.root_width.ensures) (c.reserve_of-size.ensures ∙ ap (reserve _) c.in_ok-sum.ensures.1) in
     omega (arith, end-small w)
 
 pub returns-then-head-end : goal.returns-then-head-end
 returns-then-head-end c =
     let g = own c.args.image.now.opened c.in_ok-own.ensures in
-    let w = standing g c.if-own-start.false (c.from.ensures ∙ c.digits_of.ensures) c.reserve_of-size.ensures in
+    let w = standing g c.if-own-start.false (c.from.ensures ∙ c.root_width.ensures) (c.reserve_of-size.ensures ∙ ap (reserve _) c.in_ok-sum.ensures.1) in
     tree_over w c.if-head-end.true
 
 pub overflow_add-at : goal.overflow_add-at
@@ -60,17 +59,17 @@ overflow_add-at c =
 pub nodes-requires : goal.nodes-requires
 nodes-requires c =
     let g = own c.args.image.now.opened c.in_ok-own.ensures in
-    let w = standing g c.if-own-start.false (c.from.ensures ∙ c.digits_of.ensures) c.reserve_of-size.ensures in
-    (tree-lies w c.if-head-end.false, c.reserve_of-size.ensures)
+    let w = standing g c.if-own-start.false (c.from.ensures ∙ c.root_width.ensures) (c.reserve_of-size.ensures ∙ ap (reserve _) c.in_ok-sum.ensures.1) in
+    (rw c.in_ok-sum.ensures.1 (tree-lies w c.if-head-end.false), c.reserve_of-size.ensures)
 
 pub returns-then-not-nodes : goal.returns-then-not-nodes
 returns-then-not-nodes c =
     let g = own c.args.image.now.opened c.in_ok-own.ensures in
-    let w = standing g c.if-own-start.false (c.from.ensures ∙ c.digits_of.ensures) c.reserve_of-size.ensures in
-    inexact w (sym c.nodes.ensures ∙ c.if-not-nodes.true)
+    let w = standing g c.if-own-start.false (c.from.ensures ∙ c.root_width.ensures) (c.reserve_of-size.ensures ∙ ap (reserve _) c.in_ok-sum.ensures.1) in
+    inexact w (sym (rw c.in_ok-sum.ensures.1 at c.nodes.ensures) ∙ c.if-not-nodes.true)
 
 pub returns : goal.returns
 returns c =
     let g = own c.args.image.now.opened c.in_ok-own.ensures in
-    let w = standing g c.if-own-start.false (c.from.ensures ∙ c.digits_of.ensures) c.reserve_of-size.ensures in
-    page-passes w c.args.widest c.if-own-before.false c.if-head-end.false (sym c.nodes.ensures ∙ c.if-not-nodes.false)
+    let w = standing g c.if-own-start.false (c.from.ensures ∙ c.root_width.ensures) (c.reserve_of-size.ensures ∙ ap (reserve _) c.in_ok-sum.ensures.1) in
+    page-passes w c.args.widest c.in_ok-sum.ensures.0 c.if-head-end.false (sym (rw c.in_ok-sum.ensures.1 at c.nodes.ensures) ∙ c.if-not-nodes.false)

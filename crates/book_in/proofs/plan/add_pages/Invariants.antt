@@ -5,4 +5,4 @@ use Rattle.book.specs.Book.{list_of_book}
 use Rattle.book_in.proofs.plan.add_pages.Given as goal
 
 abbrev pub invariant-loop-page : goal.invariant-loop-page
-invariant-loop-page l = record { drafted : Drafted l.e (list_of_book l.book) l.next; at : l.next.done ≡ l.page }
+invariant-loop-page l = record { drafted : Drafted l.fn.plan.e (list_of_book l.book) l.next; at : l.next.done ≡ l.page }

@@ -54,18 +54,11 @@ overflow_add-end c =
     let m = end-small f c.get-hours.ensures t c.if-e-lt2.false c.if-e-gt8.false c.if-hours-gt-MAX_HOURS.false c.head_of-head.ensures in
     omega arith
 
-pub overflow_add-end-2 : goal.overflow_add-end-2
-overflow_add-end-2 c =
-    let f = first c.type_inv.s c.if-s-lt-SIZE.false c.get-first.ensures in
-    let t = read c.tail_of.result c.in_ok-tail.tail c.tail_of.ensures (grind arith) in
-    let m = end-small f c.get-hours.ensures t c.if-e-lt2.false c.if-e-gt8.false c.if-hours-gt-MAX_HOURS.false c.head_of-head.ensures in
-    omega arith
-
 pub returns-then-s-end : goal.returns-then-s-end
 returns-then-s-end c =
     let f = first c.type_inv.s c.if-s-lt-SIZE.false c.get-first.ensures in
     let t = read c.tail_of.result c.in_ok-tail.tail c.tail_of.ensures (grind arith) in
-    (length-wrong f c.get-hours.ensures t c.if-e-lt2.false c.if-e-gt8.false c.if-hours-gt-MAX_HOURS.false c.head_of-head.ensures refl c.if-s-end.true, refl)
+    (length-wrong f c.get-hours.ensures t c.if-e-lt2.false c.if-e-gt8.false c.if-hours-gt-MAX_HOURS.false c.head_of-head.ensures (omega (arith, c.div_ceil.ensures)) c.if-s-end.true, refl)
 
 pub invariant_of-result : goal.invariant_of-result
 invariant_of-result c =
@@ -73,5 +66,6 @@ invariant_of-result c =
     let t = read c.tail_of.result c.in_ok-tail.tail c.tail_of.ensures (grind arith) in
     record {
       opened = opened f c.get-hours.ensures t c.if-e-lt2.false c.if-e-gt8.false c.if-hours-gt-MAX_HOURS.false c.head_of-head.ensures
-          (λ i. omega (arith, c.type_inv.s i)) refl c.if-s-end.false;
+          (omega (arith, c.div_ceil.ensures)) c.if-s-end.false;
+      each = λ i. omega (arith, c.type_inv.s i);
     }

@@ -28,7 +28,7 @@ get-start-requires-clause-in_bounds c =
 pub returns-then-head-end : goal.returns-then-head-end
 returns-then-head-end c =
     let o = c.args.image.now.opened in
-    root-bad _ _ o c.args.p _ _ (start_is c.args.p c.get-start.ensures c.table_at.ensures o.head.table_is) c.digits_of-w.ensures (omega arith) c.if-head-end.true
+    root-bad _ _ o c.args.p _ _ (start_is c.args.p c.get-start.ensures c.table_at.ensures o.head.table_is) c.root_width-w.ensures (omega arith) c.if-head-end.true
 
 pub overflow_add-head : goal.overflow_add-head
 overflow_add-head c =
@@ -41,7 +41,7 @@ get_field-value-requires c =
     let o = c.args.image.now.opened in
     let q = o.head in
     let f = bounds _ _ o in
-    let w = c.digits_of-w.ensures in
+    let w = c.root_width-w.ensures in
     let g = c.get-start.ensures.small in record {
       width_bound = (
         omega (arith, q.code_is, f.code-at, f.long),
@@ -55,4 +55,4 @@ pub returns : goal.returns
 returns c =
     let o = c.args.image.now.opened in
     root-good _ _ o c.args.p _ _ (start_is c.args.p c.get-start.ensures c.table_at.ensures o.head.table_is)
-    c.digits_of-w.ensures (omega arith) c.if-head-end.false c.get_field-value.ensures
+    c.root_width-w.ensures (omega arith) c.if-head-end.false c.get_field-value.ensures

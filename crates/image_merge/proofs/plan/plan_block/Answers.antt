@@ -13,7 +13,10 @@ use Rattle.image_merge.proofs.BlockLaws.{block-sum}
 use Rattle.image_merge.proofs.plan.plan_block.Goals as goal
 
 -- the block's sizes, and its pages
-module _ {e k : ℕ} {plan : Plan} {cs : List ℕ} (a : Block cs e k plan) where
+module _ {k : ℕ} {plan : Plan} {cs : List ℕ} (a : Block cs k plan) where
+  abbrev e : ℕ
+  e = plan.e
+
   own : {m w : ℕ} → m ≡ 2 ^ e → w ≡ 2 ^ (8 - e) → Sizes m w
   own em ew = sizes e _ _ a.drafted.e-high em ew
 
@@ -37,8 +40,8 @@ module _ {e k : ℕ} {plan : Plan} {cs : List ℕ} (a : Block cs e k plan) where
 pub power-m-requires : goal.power-m-requires
 power-m-requires c = omega (arith, c.requires.drafted.e-high)
 
-pub overflow_sub-e : goal.overflow_sub-e
-overflow_sub-e c = omega (arith, c.requires.drafted.e-high)
+pub overflow_sub-plan : goal.overflow_sub-plan
+overflow_sub-plan c = omega (arith, c.requires.drafted.e-high)
 
 pub overflow_add-k : goal.overflow_add-k
 overflow_add-k c = omega (arith, c.requires.few)

@@ -6,6 +6,6 @@ use Rattle.image_merge.proofs.plan.plan_block.Given as goal
 
 abbrev pub invariant-loop-page : goal.invariant-loop-page
 invariant-loop-page l = record {
-  drafted : (a : Block l.counts l.e l.k l.fn.plan) → Drafted l.e a.zs l.next;
+  drafted : (a : Block l.counts l.k l.fn.plan) → Drafted l.fn.plan.e a.zs l.next;
   at : l.next.done ≡ l.page;
 }

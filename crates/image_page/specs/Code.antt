@@ -1,0 +1,2 @@
+-- What the functions of src/ hand each other.
+pub mod Places
