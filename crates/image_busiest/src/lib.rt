@@ -21,10 +21,7 @@ fn among(image: &Accepted, k: u64) -> Result<Stretch, Refusal>
         return Err(Refusal::Stretch);
     }
     let w = best_window(image, &SumTable::new(), k);
-    Ok(Stretch {
-        first: w.best,
-        total: w.most,
-    })
+    Ok(w.best)
 }
 
 // The run of exactly k successive hours with the largest sum, the earliest on a tie: its first hour and its sum.

@@ -1,26 +1,22 @@
 // A window of k hours, moved along the hours of an accepted image, so many hours at a time that neither end leaves its page.
-ghost use Rattle.std.specs.Prelude.{true, ◌≡◌, ◌+◌, ◌^◌, ◌≤◌, ◌<◌};
-ghost use Rattle.image.specs.Check.{accepted};
-ghost use Rattle.image.specs.Code.Head.{HeadOf};
+ghost use Rattle.std.specs.Prelude.{◌≡◌, ℕ, ◌+◌, ◌^◌, ◌≤◌, ◌<◌};
 ghost use Rattle.image.specs.Read.{list_of};
-ghost use Rattle.image_cursor.specs.Code.Cursor.{Ready};
 ghost use Rattle.runs.specs.Runs.{Busiest, run_sum};
-ghost use Rattle.image_busiest.specs.Code.{Along, Looked, later};
+ghost use Rattle.image_busiest.specs.Code.{Along, AtEnds, Looked, later};
 
+use answers::image::Stretch;
 use bits_word::low_bits;
-use image::head::Head;
-use image::opened::{Accepted, Image};
-use image_cursor::cursor::{ahead, follow, read_page, turn};
+use image::opened::Accepted;
+use image_cursor::cursor::{Cursor, ahead};
 use image_query::look;
 use sum_table::SumTable;
 
-// A window on its way: its first hour and its sum; and the best of the windows so far, its first hour and its sum.
+// A window on its way: its first hour and its sum; and the best of the windows so far.
 #[derive(Clone, Copy)]
 pub struct Window {
     pub first: u64,
     pub sum: u64,
-    pub best: u64,
-    pub most: u64,
+    pub best: Stretch,
 }
 
 // The window one hour later, where one count comes in and one goes out. On a tie the earlier one stays the best.
@@ -30,13 +26,9 @@ fn moved(w: Window, more: u64, less: u64) -> Window
 {
     let first = w.first + 1;
     let sum = w.sum + more - less;
-    if w.most < sum {
-        Window {
-            first,
-            sum,
-            best: first,
-            most: sum,
-        }
+    if w.best.total < sum {
+        let best = Stretch { first, total: sum };
+        Window { first, sum, best }
     } else {
         Window { first, sum, ..w }
     }
@@ -47,37 +39,28 @@ fn stride(image: &Accepted, k: u64, j: u64) -> usize
     requires { j + k < image.now.head.hours }
     ensures { Along image.now.head k j result }
 {
-    ahead(image, j + k).min(ahead(image, j))
+    ahead(image.head, j + k).min(ahead(image.head, j))
 }
 
-// The window n hours later: front has the page of the hour behind it, back that of its first hour.
-fn slide(
-    image: &Accepted,
-    k: u64,
-    at: Window,
-    n: usize,
-    front: &[u32; 256],
-    back: &[u32; 256],
-) -> Window
-    requires looked { Looked image.now.bytes.now k at × Along image.now.head k at.first n }
-    requires ready { Ready image.now.bytes.now (at.first + k) front.now × Ready image.now.bytes.now at.first back.now }
-    ensures { Looked image.now.bytes.now k result × (result.first ≡ at.first + n) }
+// The window of k hours n hours later: front is at the hour behind it, back at its first hour.
+fn slide(at: Window, n: usize, front: &Cursor, back: &Cursor) -> Window
+    ghost k: { ℕ }
+    requires looked { Looked back.now.image.now.bytes.now k at × Along back.now.image.now.head k at.first n }
+    requires ends { AtEnds k at front.now back.now }
+    ensures { Looked back.now.image.now.bytes.now k result × (result.first ≡ at.first + n) }
 {
-    let f = low_bits(at.first + k, image.head.e) as usize;
-    let b = low_bits(at.first, image.head.e) as usize;
+    let f = low_bits(front.hour, front.image.head.e) as usize;
+    let b = low_bits(back.hour, back.image.head.e) as usize;
     let mut w = at;
+    // By one index for both: for a zip both pages would first be cut to these n counts.
     for i in 0..n {
-        w = moved(w, u64::from(front[f + i]), u64::from(back[b + i]));
+        w = moved(
+            w,
+            u64::from(front.counts[f + i]),
+            u64::from(back.counts[b + i]),
+        );
     }
     w
-}
-
-// An accepted image as one that is past refusal 5.
-fn opened(bytes: &[u8], head: Head) -> Image
-    requires { (accepted bytes.now ≡ true) × HeadOf bytes.now head }
-    ensures { (result.bytes.now ≡ bytes.now) × (result.head ≡ head) }
-{
-    Image { bytes, head }
 }
 
 // The sum of the first k hours, which the way to the last of them finds: an accepted image has no damage there.
@@ -85,34 +68,35 @@ fn first_sum(image: &Accepted, k: u64) -> u64
     requires { (1 ≤ k) × (k ≤ image.now.head.hours) }
     ensures { result ≡ run_sum (list_of image.now.bytes.now) 0 k }
 {
-    look(&opened(image.bytes, image.head), k - 1, 1)
+    look(&image.image(), k - 1, true).unwrap()
 }
 
-// The busiest window of k hours.
+// The busiest window of k hours. No struct holds image and k: among has tested k against it, and two functions ask it.
 pub(crate) fn best_window(image: &Accepted, table: &SumTable, k: u64) -> Window
     requires { (1 ≤ k) × (k ≤ image.now.head.hours) }
-    ensures { Busiest (list_of image.now.bytes.now) k result.best result.most }
+    ensures { Busiest (list_of image.now.bytes.now) k result.best.first result.best.total }
 {
-    let mut front = [0u32; 256];
-    let mut back = [0u32; 256];
-    read_page(image, table, k, &mut front);
-    read_page(image, table, 0, &mut back);
+    let mut front = Cursor::new(image, table);
+    let mut back = Cursor::new(image, table);
+    front.read(k);
+    back.read(0);
     let sum = first_sum(image, k);
+    let best = Stretch {
+        first: 0,
+        total: sum,
+    };
     let mut at = Window {
         first: 0,
         sum,
-        best: 0,
-        most: sum,
+        best,
     };
     // A while: a step is as long as the pages at both ends allow.
-    while at.first + k < image.head.hours {
+    while front.hour < image.head.hours {
         let n = stride(image, k, at.first);
-        let next = slide(image, k, at, n, &front, &back);
-        let end = at.first + k;
+        at = slide(at, n, &front, &back);
         // Before the front's turn: where k is no more than a page, the back's next page is the front's.
-        follow(image, table, at.first, n as u64, &mut back, &front, end);
-        turn(image, table, end, n as u64, &mut front);
-        at = next;
+        back.follow(n as u64, &front);
+        front.turn(n as u64);
     }
     at
 }

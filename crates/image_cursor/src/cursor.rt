@@ -1,10 +1,11 @@
-// An accepted image read along its hours, page by page, with one page of counts in a lent array. The table of small sums is lent, too.
-ghost use Rattle.std.specs.Prelude.{◌≡◌, ◌+◌, ◌%◌, ◌^◌, ◌≤◌, ◌<◌};
+// A page of an accepted image in hand, and how far the hours in it go.
+ghost use Rattle.std.specs.Prelude.{◌≡◌, ◌+◌, ◌%◌, ◌^◌, ◌≤◌, ◌<◌, length, take};
 ghost use Rattle.image_cursor.specs.Code.Cursor.{Ahead, Ready};
 
 use bits_word::low_bits;
+use image::head::Head;
 use image::opened::Accepted;
-use image_page::page_counts;
+use image_page::{page_counts, places_of};
 use reserve::power;
 use sum_table::SumTable;
 
@@ -16,54 +17,89 @@ fn room(e: u32, i: u64) -> u64
     power(e) - low_bits(i, e)
 }
 
-// How many hours there are from hour i on to the end of its page, or of the list.
-pub fn ahead(image: &Accepted, i: u64) -> usize
-    requires { i ≤ image.now.head.hours }
-    ensures { Ahead image.now.head i result }
+// How many hours there are from hour i on to the end of its page, or of the list. Takes a header, and no image: no byte of it is read.
+pub fn ahead(h: Head, i: u64) -> usize
+    requires { (h.e ≤ 8) × (h.hours < 4294967296) × (i ≤ h.hours) }
+    ensures { Ahead h i result }
 {
-    (room(image.head.e, i) as usize).min((image.head.hours - i) as usize)
+    (room(h.e, i) as usize).min((h.hours - i) as usize)
 }
 
-// Reads the page of hour i, if this hour is logged.
-pub fn read_page(image: &Accepted, table: &SumTable, i: u64, counts: &mut [u32; 256])
-    ensures { Ready image.now.bytes.now i counts.new }
+// Copies the first n counts of a page. It is no part of follow, where no part of an array in a struct with a ghost
+// field can be lent.
+fn copy_page(page: &[u32; 256], n: usize, counts: &mut [u32; 256])
+    requires { n ≤ 256 }
+    ensures long { length counts.new ≡ 256 }
+    ensures taken { take n counts.new ≡ take n page.now }
 {
-    if i < image.head.hours {
-        let p = (i >> image.head.e) as usize;
-        page_counts(image, table, p, counts, 0);
+    counts[..n].copy_from_slice(&page[..n]);
+}
+
+// An hour of an accepted image, and the counts of its page if it is logged. It has the table, too, so that no caller hands it on.
+// It has 1 KiB, and is made at a call's start and then lent.
+#[derive(Drop)]
+pub struct Cursor<'a> {
+    pub image: &'a Accepted<'a>,
+    pub table: &'a SumTable<'a>,
+    pub hour: u64,
+    pub counts: [u32; 256],
+    ghost ready: { Ready image.now.bytes.now hour counts },
+}
+
+impl<'a> Cursor<'a> {
+    // A cursor at the end of the list, where no page is read.
+    pub fn new(image: &'a Accepted<'a>, table: &'a SumTable<'a>) -> Cursor<'a>
+        ensures { result.image.now ≡ image.now }
+    {
+        Cursor {
+            image,
+            table,
+            hour: image.head.hours,
+            counts: [0; 256],
+        }
     }
-}
 
-// From hour i, whose page is in counts, n hours on: no further than to the first hour of the next page, which is then read.
-pub fn turn(image: &Accepted, table: &SumTable, i: u64, n: u64, counts: &mut [u32; 256])
-    requires ready { Ready image.now.bytes.now i counts.old }
-    requires inside { (i ≤ image.now.head.hours) × (i % 2 ^ image.now.head.e + n ≤ 2 ^ image.now.head.e) }
-    ensures { Ready image.now.bytes.now (i + n) counts.new }
-{
-    let next = i + n;
-    if low_bits(next, image.head.e) == 0 {
-        read_page(image, table, next, counts);
+    // Goes to an hour, and reads its page if the hour is logged.
+    pub fn read(&mut self, hour: u64)
+        ensures { (self.new.hour ≡ hour) × (self.new.image.now ≡ self.old.image.now) }
+    {
+        if hour < self.image.head.hours {
+            let p = (hour >> self.image.head.e) as usize;
+            page_counts(&places_of(self.image), self.table, p, &mut self.counts, 0);
+        }
+        self.hour = hour;
     }
-}
 
-// As turn, behind a cursor that has the page of hour j in lead: where it is the next page, it is copied, and not read again.
-pub fn follow(
-    image: &Accepted,
-    table: &SumTable,
-    i: u64,
-    n: u64,
-    counts: &mut [u32; 256],
-    lead: &[u32; 256],
-    j: u64,
-)
-    requires ready { Ready image.now.bytes.now i counts.old × Ready image.now.bytes.now j lead.now }
-    requires inside { (i ≤ image.now.head.hours) × (i % 2 ^ image.now.head.e + n ≤ 2 ^ image.now.head.e) × (j < image.now.head.hours) }
-    ensures { Ready image.now.bytes.now (i + n) counts.new }
-{
-    if i + n + low_bits(j, image.head.e) == j {
-        let hours = power(image.head.e) as usize;
-        counts[..hours].copy_from_slice(&lead[..hours]);
-    } else {
-        turn(image, table, i, n, counts);
+    // Goes n hours on: no further than to the first hour of the next page, which is then read.
+    pub fn turn(&mut self, n: u64)
+        requires { let h = self.old.image.now.head in (self.old.hour ≤ h.hours) × (self.old.hour % 2 ^ h.e + n ≤ 2 ^ h.e) }
+        ensures { (self.new.hour ≡ self.old.hour + n) × (self.new.image.now ≡ self.old.image.now) }
+    {
+        let next = self.hour + n;
+        if low_bits(next, self.image.head.e) == 0 {
+            self.read(next);
+        } else {
+            self.hour = next;
+        }
+    }
+
+    // As turn, behind a cursor on the same image: where that one has the next page, it is copied, and not read again.
+    pub fn follow(&mut self, n: u64, lead: &Cursor)
+        requires same { lead.now.image.now.bytes.now ≡ self.old.image.now.bytes.now }
+        requires inside { let h = self.old.image.now.head in (self.old.hour ≤ h.hours) × (self.old.hour % 2 ^ h.e + n ≤ 2 ^ h.e)
+            × (lead.now.hour < h.hours) }
+        ensures { (self.new.hour ≡ self.old.hour + n) × (self.new.image.now ≡ self.old.image.now) }
+    {
+        let next = self.hour + n;
+        if next + low_bits(lead.hour, self.image.head.e) == lead.hour {
+            copy_page(
+                &lead.counts,
+                power(self.image.head.e) as usize,
+                &mut self.counts,
+            );
+            self.hour = next;
+        } else {
+            self.turn(n);
+        }
     }
 }

@@ -5,10 +5,10 @@ ghost use Rattle.image_match.specs.Code.Find.{Finds};
 
 use answers::image::Run;
 use image::opened::Accepted;
-use image_cursor::cursor::read_page;
+use image_cursor::cursor::Cursor;
 use match_page::front_page;
 use match_seek::{Aim, PageSearch, visit};
-use sum_marks::marks::MARKS_LENGTH;
+use sum_marks::marks::{MARKS_LENGTH, Marks};
 use sum_table::SumTable;
 
 // The first hours with sum q, of these the fewest.
@@ -17,17 +17,17 @@ pub(crate) fn find(image: &Accepted, table: &SumTable, q: u64) -> Option<Run>
     ensures { Finds (list_of image.now.bytes.now) q result }
 {
     let mut front = [0u32; 256];
-    let mut back = [0u32; 256];
-    let mut marks = [0u8; MARKS_LENGTH as usize];
-    read_page(image, table, 0, &mut back);
+    let mut marks = Marks {
+        stamps: [0; MARKS_LENGTH as usize],
+    };
+    let mut back = Cursor::new(image, table);
+    back.read(0);
     let mut at = Aim { lo: 0, want: q };
-    // where the page at the front starts, and the coins before it
-    let mut first = 0;
+    // the coins before the page at the front
     let mut before = 0;
-    // A while: where the next page starts is told by the page before it.
-    while first < image.head.hours {
-        let page = front_page(image, first, before);
-        match visit(image, table, page, at, &mut front, &mut marks, &mut back) {
+    for p in 0..image.head.pages {
+        let page = front_page(image, p << image.head.e, before);
+        match visit(page, at, &mut front, &mut marks, &mut back) {
             PageSearch::Matched(run) => {
                 return Some(run);
             }
@@ -38,7 +38,6 @@ pub(crate) fn find(image: &Accepted, table: &SumTable, q: u64) -> Option<Run>
                 };
             }
         }
-        first += page.hours as u64;
         before += page.sum;
     }
     None

@@ -3,23 +3,24 @@ use mathlib.Core.Bool.{true}
 use mathlib.Core.List.{List}
 use mathlib.Core.Path.{◌≡◌, refl, ap, sym, ◌∙◌}
 use Prim.Native.Nat.{ℕ, suc, ◌+◌, ◌-◌, ◌*◌, ◌/◌, ◌%◌, ◌^◌, ◌≤◌, ◌<◌}
-use native.Mathlib.Nat.{add-mod_right, mul-suc, zero-mod}
+use native.Mathlib.Nat.{mul-div_right, mul-le-mul_left, mul-le-mul_right, mul-mod_right, mul-suc}
 use native.Mathlib.Decide.{dec_le}
 use native.Mathlib.Omega.{arith}
-use lib.ListN.{take}
+use lib.ListN.{length, take}
+use lib.Pow.{pow_pos, shl_exact}
 use lib.Seq.{take_all}
 use Rattle.lists.specs.Lists.{part, reading, sum}
 use Rattle.lists.proofs.Sums.{sum-take-le}
 use Rattle.image.specs.Check.{accepted}
 use Rattle.image.specs.Code.Head.{HeadOf}
 use Rattle.image.specs.Image.{root}
-use Rattle.image.specs.Read.{e_of, list_of, sum_of}
+use Rattle.image.specs.Read.{e_of, list_of, n_of, page_count_of, sum_of}
 use Rattle.image.specs.declared.head.Head.{Head}
 use Rattle.image.proofs.Accepted.{accepted-only}
-use Rattle.image.proofs.PageLaws.{hour-low, hour-split}
+use Rattle.image.proofs.PageLaws.{hour-low, hour-split, pages-cover, pages-tight}
 use Rattle.image_cursor.specs.Code.Cursor.{Ahead, Ready}
 use Rattle.image_page.proofs.AcceptedPage.{sum-above}
-use Rattle.image_cursor.proofs.CursorLaws.{counts-ahead, hours, page-in}
+use Rattle.image_cursor.proofs.CursorLaws.{counts-ahead, hours, page-in, small}
 use Rattle.runs.specs.Runs.{run_sum}
 use Rattle.runs.proofs.PrefixSums.{reading-grows, run-reading}
 use Rattle.match_page.specs.Code.Page.{FrontPageOf, RunOf}
@@ -93,6 +94,36 @@ module _ (s : List ℕ) (a : accepted s ≡ true) {h : Head} (o : HeadOf s h) wh
         sum-of = sum_is;
       }
 
+  -- ---- page p, from hour 2^e p on
+  pub page-start : (p : ℕ) → p < h.pages → 2 ^ h.e * p < h.hours
+  unfolding page_count_of
+  page-start p l = omega (arith, o.hours-is, ap (λ (z : ℕ). 2 ^ z * p) o.e-is, pages-tight (e_of s) (n_of s) p (omega (arith, o.pages-are)))
+
+  -- behind all pages no hour is left
+  pub pages-all : (p : ℕ) → h.pages ≤ p → length (list_of s) ≤ 2 ^ h.e * p
+  unfolding page_count_of
+  pages-all p l =
+      let u : page_count_of s ≤ p = omega (arith, o.pages-are) in
+      let v : n_of s ≤ 2 ^ e_of s * page_count_of s = pages-cover (e_of s) (n_of s) in
+      omega (arith, hours s o, o.hours-is, v, mul-le-mul_left (2 ^ e_of s) u, ap (λ (z : ℕ). 2 ^ z * p) o.e-is)
+
+  -- as the code shifts it
+  pub page-shifted : (p : ℕ) → p < h.pages → (p * 2 ^ h.e) % 2 ^ 64 ≡ 2 ^ h.e * p
+  page-shifted p l =
+      let b : p < 2 ^ 32 = omega (arith, page-start p l, o.hours-small, mul-le-mul_right p (pow_pos h.e)) in
+      shl_exact 32 h.e 64 b (omega (arith, small s o a)) ∙ omega arith
+
+  pub page-meets : (p first : ℕ) → first ≡ 2 ^ h.e * p → first % 2 ^ h.e ≡ 0
+  page-meets p first e = ap (λ (z : ℕ). z % 2 ^ h.e) e ∙ mul-mod_right (2 ^ h.e) p
+
+  -- the coins before the next page are those before the hour behind its last
+  pub page-end : (p first n : ℕ) → p < h.pages → first ≡ 2 ^ h.e * p → Ahead h first n
+      → reading (list_of s) (first + n) ≡ reading (list_of s) (2 ^ h.e * (p + 1))
+  page-end p first n l e d =
+      let q : first / 2 ^ h.e ≡ p = ap (λ (z : ℕ). z / 2 ^ h.e) e ∙ mul-div_right p (pow_pos h.e) in
+      sym (ends first n (omega (arith, page-start p l, e)) (page-meets p first e) d)
+      ∙ ap (λ (z : ℕ). reading (list_of s) (2 ^ h.e * z)) {x = suc (first / 2 ^ h.e)} {y = p + 1} (omega (arith, q))
+
   -- its counts read
   pub held : (page : FrontPage) (counts : List ℕ) → FrontPageOf s h page → Ready s page.first counts
       → take page.hours counts ≡ part (list_of s) page.first page.hours
@@ -108,19 +139,3 @@ pub coins-next : (xs : List ℕ) (page : FrontPage) (first b : ℕ) → page.fir
 coins-next xs page first b q g e =
     let f = ap (λ (z : ℕ). reading xs (z + page.hours)) q in
     omega (arith, f, e, ap (reading xs) q, run-reading xs page.first page.hours, g.sum_is)
-
--- ---- where pages meet, or the list ends
-pub record Border (h : Head) (first : ℕ) : Type 0 where
-  pub inside : first ≤ h.hours
-  pub meets : first < h.hours → first % 2 ^ h.e ≡ 0
-
-pub border-first : (h : Head) → Border h 0
-border-first h = record { inside = omega arith; meets = λ l. zero-mod (2 ^ h.e) }
-
-pub border-next : (s : List ℕ) (h : Head) (first : ℕ) (page : FrontPage) → page.first ≡ first → FrontPageOf s h page → Border h (first + page.hours)
-border-next s h first page q g = record {
-  inside = omega (arith, g.whole.inside);
-  meets = λ (m : first + page.hours < h.hours).
-      let e : page.hours ≡ 2 ^ h.e = omega (arith, g.whole.whole (omega arith), g.meets) in
-      ap (λ (z : ℕ). (first + z) % 2 ^ h.e) e ∙ add-mod_right first (2 ^ h.e) ∙ ap (λ (z : ℕ). z % 2 ^ h.e) (sym q) ∙ g.meets;
-}

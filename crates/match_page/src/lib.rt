@@ -9,7 +9,7 @@ ghost use Rattle.match_page.specs.Code.Page.{FrontPageOf, InHand};
 use image::opened::Accepted;
 use image_cursor::cursor::ahead;
 use image_page::{counts_of, page_root};
-use sum_marks::marks::{MARKS_LENGTH, mark};
+use sum_marks::marks::Marks;
 use sum_table::SumTable;
 
 // The page at the front: its first hour, how many it has and their sum, and the stamp of its marks.
@@ -21,8 +21,8 @@ pub struct FrontPage {
     pub stamp: u8,
 }
 
-// The page whose first hour this is, with so many coins in the hours before it: its sum is what its root is above them, and none of its counts
-// is read. Stamps come again after 255 pages: one of old does no harm, and none has to be taken away.
+// The page whose first hour this is, with so many coins in the hours before it: its sum is what its root is above them, and none of its
+// counts is read. Stamps come again after 255 pages: one of old does no harm, and none has to be taken away.
 pub fn front_page(image: &Accepted, first: u64, before: u64) -> FrontPage
     requires starts { (first < image.now.head.hours) × (first % 2 ^ image.now.head.e ≡ 0) }
     requires before_value { before ≡ reading (list_of image.now.bytes.now) first }
@@ -31,7 +31,7 @@ pub fn front_page(image: &Accepted, first: u64, before: u64) -> FrontPage
     let p = first >> image.head.e;
     FrontPage {
         first,
-        hours: ahead(image, first),
+        hours: ahead(image.head, first),
         sum: page_root(image, p as usize) - before,
         // a table starts as zeros: no page's stamp is 0, so that a place with no mark yet has none of them
         stamp: (p % 255 + 1) as u8,
@@ -44,12 +44,12 @@ pub fn mark_page(
     table: &SumTable,
     page: FrontPage,
     counts: &mut [u32; 256],
-    marks: &mut [u8; MARKS_LENGTH as usize],
+    marks: &mut Marks,
 )
     requires { FrontPageOf image.now.bytes.now image.now.head page }
-    ensures { InHand (list_of image.now.bytes.now) page (take page.hours counts.new) marks.new }
+    ensures { InHand (list_of image.now.bytes.now) page (take page.hours counts.new) marks.new.stamps }
 {
     let p = page.first >> image.head.e;
     counts_of(image, table, p as usize, page.sum, counts);
-    mark(&counts[..page.hours], page.stamp, marks);
+    marks.mark(&counts[..page.hours], page.stamp);
 }

@@ -1,12 +1,13 @@
 -- Hours of a list passed over, in the numbers that the code has. Assumes nothing.
-use mathlib.Core.List.{List}
+use mathlib.Core.List.{List, []}
 use mathlib.Core.Path.{◌≡◌, refl, sym, ap, ◌∙◌}
-use Prim.Native.Nat.{ℕ, ◌+◌, ◌-◌, ◌≤◌, ◌<◌}
+use Prim.Native.Nat.{ℕ, ◌+◌, ◌-◌, ◌*◌, ◌/◌, ◌≤◌, ◌<◌}
 use native.Mathlib.Omega.{arith}
 use lib.ListN.{length, get_or, drop}
 use lib.Seq.{get_or-drop, get_or-take}
+use Rattle.std.specs.Simd.{first_chunks}
 use Rattle.lists.specs.Lists.{part}
-use Rattle.lists.proofs.Parts.{length_part}
+use Rattle.lists.proofs.Parts.{chunk-at, length-chunks, length_part}
 use Rattle.image.specs.declared.head.Head.{Head}
 use Rattle.image_cursor.specs.Code.Cursor.{Ahead}
 use Rattle.sum_marks.specs.Code.Marks.{Unmarked}
@@ -34,6 +35,33 @@ pub length-behind : (c : List ℕ) (k : ℕ) → k ≤ length c → k + length (
 length-behind c k h =
     let l : length (part c k (length c - k)) ≡ length c - k = length_part c k (length c - k) (omega arith) in
     omega arith
+
+-- the i-th four of the counts cs
+module _ (cs : List ℕ) (ps : List (List ℕ)) (i : ℕ) (all : ps ≡ first_chunks 4 (length cs / 4) cs) (l : i < length ps) where
+  within : i < length cs / 4
+  within = omega (arith, ap length all, length-chunks 4 (length cs / 4) cs)
+
+  in-four : (j : ℕ) → j < 4 → get_or (get_or ps i []) j 0 ≡ get_or cs (4 * i + j) 0
+  in-four j m =
+      ap (λ (z : List (List ℕ)). get_or (get_or z i []) j 0) all ∙ ap (λ (z : List ℕ). get_or z j 0) (chunk-at 4 (length cs / 4) i cs within)
+      ∙ get_or-take 4 (drop (4 * i) cs) j 0 m ∙ get_or-drop (4 * i) cs j 0
+
+  pub four-small : ((k : ℕ) → get_or cs k 0 < 4294967296) → (j : ℕ) → j < 4 → get_or (get_or ps i []) j 0 < 4294967296
+  four-small b j m = rw (in-four j m) (b (4 * i + j))
+
+  pub four-inside : 4 * i + 4 ≤ length cs
+  four-inside = omega (arith, within)
+
+  pub four-are : (a b c d : ℕ) → a ≡ get_or (get_or ps i []) 0 0 → b ≡ get_or (get_or ps i []) 1 0 → c ≡ get_or (get_or ps i []) 2 0
+      → d ≡ get_or (get_or ps i []) 3 0
+      → (a ≡ get_or cs (4 * i) 0) × (b ≡ get_or cs (4 * i + 1) 0) × (c ≡ get_or cs (4 * i + 2) 0) × (d ≡ get_or cs (4 * i + 3) 0)
+  four-are a b c d e f g h =
+      let z : 4 * i + 0 ≡ 4 * i = omega arith in (
+        e ∙ in-four 0 (omega arith) ∙ ap (λ (n : ℕ). get_or cs n 0) z,
+        f ∙ in-four 1 (omega arith),
+        g ∙ in-four 2 (omega arith),
+        h ∙ in-four 3 (omega arith),
+      )
 
 -- where it stands some of the n hours later
 pub later-within : (xs : List ℕ) (q first n : ℕ) (at r : Aim) {h : Head} → Ahead h at.lo n → Seeks xs q first r → at.lo < r.lo → r.lo ≤ at.lo + n

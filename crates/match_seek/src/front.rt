@@ -2,7 +2,7 @@
 ghost use Rattle.std.specs.Prelude.{◌≡◌, ℕ, ◌+◌, ◌-◌, ◌≤◌, ◌<◌, length};
 ghost use Rattle.lists.specs.Lists.{part};
 ghost use Rattle.image.specs.Read.{list_of};
-ghost use Rattle.image_cursor.specs.Code.Cursor.{Ahead, Ready};
+ghost use Rattle.image_cursor.specs.Code.Cursor.{Ahead};
 ghost use Rattle.match_page.specs.Code.Page.{InHand, RunOf};
 ghost use Rattle.match_seek.specs.Code.Seek.{Brings, FirstAbove, Later, Passing, Reached, Seeks};
 
@@ -10,15 +10,14 @@ use crate::{Aim, PageSearch};
 use answers::image::Run;
 use bits_word::low_bits;
 use image::opened::Accepted;
-use image_cursor::cursor::{ahead, turn};
+use image_cursor::cursor::{Cursor, ahead};
 use lists::either;
 use match_page::FrontPage;
-use sum_marks::marks::{MARKS_LENGTH, any_carries, carries};
-use sum_marks::prefix::{Prefix, attempt};
-use sum_table::SumTable;
+use sum_marks::marks::Marks;
+use sum_marks::prefix::Prefix;
 
-// The first of the four hours after lo that wants more than sum. They want a, b, c and d, each no less than the one before, and d is more than
-// sum. No jump: which of the four it is, a processor cannot foretell.
+// The first of the four hours after lo that wants more than sum. They want a, b, c and d, each no less than the one before, and d is more
+// than sum. No jump: which of the four it is, a processor cannot foretell. Four parameters: the caller has them one by one.
 fn first_above(sum: u64, lo: u64, a: u64, b: u64, c: u64, d: u64) -> Aim
     requires { (a ≤ b) × (b ≤ c) × (sum < d) × (lo ≤ 4294967295) }
     ensures { FirstAbove sum lo a b c d result }
@@ -38,14 +37,16 @@ pub struct Front<'a> {
     pub image: &'a Accepted<'a>,
     pub page: FrontPage,
     pub counts: &'a [u32],
-    pub marks: &'a [u8; MARKS_LENGTH as usize],
+    pub marks: &'a Marks,
     ghost run_is: { RunOf (list_of image.now.bytes.now) page },
-    ghost in_hand: { InHand (list_of image.now.bytes.now) page counts.now marks.now },
+    ghost in_hand: { InHand (list_of image.now.bytes.now) page counts.now marks.now.stamps },
 }
 
 impl Front<'_> {
-    // Passes over hour lo, and over the next ones, four at a time, as long as none of the four may be met. Where one of the four wants more than
-    // the page has, it goes as far as that. The counts are those from hour lo on, in its page.
+    // Passes over the hour that the search is at, and over the next ones, four at a time, as long as none of the four may be met. Where one
+    // of the four wants more than the page has, it goes as far as that. The counts are those from that hour on, in its page. That what is
+    // wanted is within the page is asked of each of the three, and is in no ghost field: it holds of where the search is, and not of a
+    // page.
     fn skip(&self, at: Aim, counts: &[u32]) -> Aim
         ghost q: { ℕ }
         requires passing { Passing (list_of self.now.image.now.bytes.now) q self.now.page at }
@@ -56,13 +57,15 @@ impl Front<'_> {
     {
         let sum = self.page.sum;
         let mut next = at;
-        for k in 0..counts.len() / 4 {
-            let i = 4 * k;
-            let first = next.want + u64::from(counts[i]);
-            let second = first + u64::from(counts[i + 1]);
-            let third = second + u64::from(counts[i + 2]);
-            let fourth = third + u64::from(counts[i + 3]);
-            if any_carries(self.marks, first, second, third, fourth, self.page.stamp) {
+        for [a, b, c, d] in counts.as_chunks::<4>().0 {
+            let first = next.want + u64::from(*a);
+            let second = first + u64::from(*b);
+            let third = second + u64::from(*c);
+            let fourth = third + u64::from(*d);
+            if self
+                .marks
+                .any_carries(first, second, third, fourth, self.page.stamp)
+            {
                 break;
             }
             if sum < fourth {
@@ -76,11 +79,11 @@ impl Front<'_> {
         next
     }
 
-    // Passes over hour lo, and over the next ones, until the coins that one wants may be met in the page at the front, or are more than this has.
-    // Single steps are left for four hours of which one may be met, and for the last of their page. The counts are those from hour lo on.
+    // Passes over that hour, and over the next ones, until the coins that one wants may be met in the page at the front, or are more than
+    // this has. Single steps are left for four hours of which one may be met, and for the last of their page.
     fn pass_hours(&self, at: Aim, counts: &[u32]) -> Aim
         ghost q: { ℕ }
-        requires passing { (1 ≤ q) × Passing (list_of self.now.image.now.bytes.now) q self.now.page at }
+        requires passing { Passing (list_of self.now.image.now.bytes.now) q self.now.page at }
         requires counts_are { Ahead self.now.image.now.head at.lo (length counts.now)
             × (counts.now ≡ part (list_of self.now.image.now.bytes.now) at.lo (length counts.now)) }
         ensures { Later (list_of self.now.image.now.bytes.now) self.now.image.now.head q self.now.page.first at result }
@@ -96,42 +99,40 @@ impl Front<'_> {
                 lo: next.lo + 1,
                 want: next.want + u64::from(*count),
             };
-            if sum < next.want || carries(self.marks, next.want, self.page.stamp) {
+            if sum < next.want || self.marks.carries(next.want, self.page.stamp) {
                 return next;
             }
         }
         next
     }
 
-    // The same in the page of hour lo, which back has.
-    fn pass(&self, at: Aim, back: &[u32; 256]) -> Aim
+    // The same in the page of that hour, which back is at.
+    fn pass(&self, at: Aim, back: &Cursor) -> Aim
         ghost q: { ℕ }
-        requires passing { (1 ≤ q) × Passing (list_of self.now.image.now.bytes.now) q self.now.page at }
-        requires ready { Ready self.now.image.now.bytes.now at.lo back.now }
+        requires passing { Passing (list_of self.now.image.now.bytes.now) q self.now.page at }
+        requires ready { (back.now.hour ≡ at.lo) × (back.now.image.now ≡ self.now.image.now) }
         ensures { Later (list_of self.now.image.now.bytes.now) self.now.image.now.head q self.now.page.first at result }
     {
         let b = low_bits(at.lo, self.image.head.e) as usize;
-        self.pass_hours(at, &back[b..b + ahead(self.image, at.lo)])
+        self.pass_hours(at, &back.counts[b..b + ahead(self.image.head, at.lo)])
     }
 }
 
-// The search as far as the page at the front goes, whose counts have their marks; back has the page of hour lo.
-pub(crate) fn seek<'a>(
-    image: &'a Accepted<'a>,
-    table: &SumTable,
+// The search as far as the page at the front goes, whose counts have their marks; back is at the first hour that is tried.
+pub(crate) fn seek(
     page: FrontPage,
-    counts: &'a [u32],
-    marks: &'a [u8; MARKS_LENGTH as usize],
+    counts: &[u32],
+    marks: &Marks,
     from: Aim,
-    back: &mut [u32; 256],
+    back: &mut Cursor,
 ) -> PageSearch
     ghost q: { ℕ }
-    requires page_is { RunOf (list_of image.now.bytes.now) page × InHand (list_of image.now.bytes.now) page counts.now marks.now }
-    requires seeks { (1 ≤ q) × Seeks (list_of image.now.bytes.now) q page.first from × Ready image.now.bytes.now from.lo back.old }
-    ensures { Brings image.now.bytes.now q page back.new result }
+    requires page_is { let xs = list_of back.old.image.now.bytes.now in RunOf xs page × InHand xs page counts.now marks.now.stamps }
+    requires seeks { Seeks (list_of back.old.image.now.bytes.now) q page.first from × (back.old.hour ≡ from.lo) }
+    ensures { Brings back.old.image.now.bytes.now q page back.new.hour result × (back.new.image.now ≡ back.old.image.now) }
 {
     let front = Front {
-        image,
+        image: back.image,
         page,
         counts,
         marks,
@@ -140,7 +141,7 @@ pub(crate) fn seek<'a>(
     let mut there = Prefix { hours: 0, sum: 0 };
     // A while: how many first hours are tried is not known before it.
     while at.want <= page.sum {
-        there = attempt(counts, marks, page.stamp, there, at.want);
+        there = marks.attempt(counts, page.stamp, there, at.want);
         if there.sum == at.want {
             let end = page.first + (there.hours as u64);
             return PageSearch::Matched(Run {
@@ -149,7 +150,7 @@ pub(crate) fn seek<'a>(
             });
         }
         let next = front.pass(at, back);
-        turn(image, table, at.lo, next.lo - at.lo, back);
+        back.turn(next.lo - at.lo);
         at = next;
     }
     PageSearch::Beyond(at)

@@ -8,6 +8,11 @@ use Rattle.match_page.proofs.front_page.Goals as goal
 pub overflow_shr-p : goal.overflow_shr-p
 overflow_shr-p c = omega (arith, small _ c.args.image.now.head_of c.args.image.now.accepted)
 
+pub ahead-requires : goal.ahead-requires
+ahead-requires c =
+    let a = c.args.image.now in
+    (small _ a.head_of a.accepted, a.head_of.hours-small, omega (arith, c.requires.starts.0))
+
 pub page_root-requires : goal.page_root-requires
 page_root-requires c = page-in _ c.args.image.now.head_of _ c.requires.starts.0
 

@@ -3,7 +3,6 @@ use Rattle.std.specs.Prelude.{List, ◌≡◌, ℕ, ◌+◌, ◌-◌, ◌%◌, �
 use Rattle.lists.specs.Lists.{reading}
 use Rattle.image.specs.Read.{list_of}
 use Rattle.image.specs.declared.head.Head.{Head}
-use Rattle.image_cursor.specs.Code.Cursor.{Ready}
 use Rattle.runs.specs.Code.{NoneBefore}
 use Rattle.runs.specs.Runs.{FirstMatch}
 use Rattle.match_page.specs.declared.FrontPage.{FrontPage}
@@ -11,13 +10,14 @@ use Rattle.match_seek.specs.declared.Aim.{Aim}
 use Rattle.match_seek.specs.declared.PageSearch.{PageSearch}
 use Rattle.match_seek.specs.declared.PageSearch.TheVariants.{Beyond, Matched}
 
--- where the search stands: no run that starts before lo has the sum q, and one from lo on that has it ends where so many coins as are wanted
+-- where the search stands: no run that starts before lo has the sum q, which is not 0, and one from lo on that has it ends where so many coins as are wanted
 -- have come in since hour first
 pub record Seeks (xs : List ℕ) (q first : ℕ) (at : Aim) : Type 0 where
   pub inside : at.lo ≤ length xs
   pub wants : reading xs at.lo + q ≡ reading xs first + at.want
   pub some : 1 ≤ at.want
   pub none_before : NoneBefore xs q at.lo
+  pub coins : 1 ≤ q
 
 -- it stands where it passes on: what is wanted is within the page, and no run from hour lo on has the sum
 abbrev pub Passing : List ℕ → ℕ → FrontPage → Aim → Type 0
@@ -40,7 +40,7 @@ pub record Later (xs : List ℕ) (h : Head) (q first : ℕ) (at r : Aim) : Type 
   pub on : at.lo < r.lo
   pub room : at.lo % 2 ^ h.e + (r.lo - at.lo) ≤ 2 ^ h.e
 
--- what a page brought: the run, or a first hour for which more is wanted than the page has, with the page of this hour in an array
-abbrev pub Brings : List ℕ → ℕ → FrontPage → List ℕ → PageSearch → Type 0
-Brings s q page back (Matched run) = FirstMatch (list_of s) q run.first run.hours
-Brings s q page back (Beyond at) = Seeks (list_of s) q page.first at × (page.sum < at.want) × Ready s at.lo back
+-- what a page brought: the run, or a first hour for which more is wanted than the page has, which the cursor is at
+abbrev pub Brings : List ℕ → ℕ → FrontPage → ℕ → PageSearch → Type 0
+Brings s q page hour (Matched run) = FirstMatch (list_of s) q run.first run.hours
+Brings s q page hour (Beyond at) = Seeks (list_of s) q page.first at × (page.sum < at.want) × (hour ≡ at.lo)

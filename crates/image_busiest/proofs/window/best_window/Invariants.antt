@@ -1,12 +1,14 @@
 -- `image_busiest::window::best_window` meets its contract. Assumes nothing.
-use Prim.Native.Nat.{◌+◌, ◌-◌}
-use Rattle.image_cursor.specs.Code.Cursor.{Ready}
-use Rattle.image_busiest.specs.Code.{Looked}
+use mathlib.Core.Path.{◌≡◌}
+use Prim.Native.Nat.{◌-◌}
+use Rattle.image_busiest.specs.Code.{AtEnds, Looked}
 use Rattle.image_busiest.proofs.window.best_window.Given as goal
 
-abbrev pub invariant-loop-at : goal.invariant-loop-at
-invariant-loop-at l =
-    Looked l.image.bytes.now l.k l.at × Ready l.image.bytes.now (l.at.first + l.k) l.front × Ready l.image.bytes.now l.at.first l.back
+abbrev pub ghost-slide : goal.ghost-slide
+ghost-slide a = a.front.now.hour - a.back.now.hour
 
-abbrev pub decreases-loop-at : goal.decreases-loop-at
-decreases-loop-at l = l.image.head.hours - l.at.first
+abbrev pub invariant-loop-front : goal.invariant-loop-front
+invariant-loop-front l = Looked l.image.bytes.now l.k l.at × AtEnds l.k l.at l.front l.back × (l.back.image.now ≡ l.image)
+
+abbrev pub decreases-loop-front : goal.decreases-loop-front
+decreases-loop-front l = l.image.head.hours - l.at.first

@@ -5,4 +5,4 @@ use Rattle.image_busiest.specs.Code.{Looked}
 use Rattle.image_busiest.proofs.window.slide.Given as goal
 
 abbrev pub invariant-loop-i : goal.invariant-loop-i
-invariant-loop-i l = (l.w.first ≡ l.fn.at.first + l.i) × Looked l.image.bytes.now l.k l.w
+invariant-loop-i g l = (l.w.first ≡ l.fn.at.first + l.i) × Looked l.back.image.now.bytes.now g.k l.w

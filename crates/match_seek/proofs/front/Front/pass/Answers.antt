@@ -9,7 +9,9 @@ low_bits-b-requires g c =
     omega (arith, small _ a.head_of a.accepted)
 
 pub ahead-requires : goal.ahead-requires
-ahead-requires g c = omega (arith, c.requires.0.1.0.inside, hours _ c.args.self.now.image.now.head_of)
+ahead-requires g c =
+    let a = c.args.self.now.image.now in
+    (small _ a.head_of a.accepted, a.head_of.hours-small, omega (arith, c.requires.0.0.inside, hours _ a.head_of))
 
 pub slice_bounds-pass_hours-end : goal.slice_bounds-pass_hours-end
 slice_bounds-pass_hours-end g c =
@@ -19,4 +21,4 @@ slice_bounds-pass_hours-end g c =
 pub pass_hours-requires : goal.pass_hours-requires
 pass_hours-requires g c =
     let a = c.args.self.now.image.now in
-    (c.requires.0, ahead-part _ a.head_of a.accepted c.args.at.lo _ _ _ _ c.low_bits-b.ensures c.ahead.ensures c.requires.1 (omega arith))
+    (c.requires.0, ahead-part _ a.head_of a.accepted c.args.at.lo _ _ _ _ c.low_bits-b.ensures c.ahead.ensures (rw (c.requires.1.1, c.requires.1.0) at c.args.back.now.ready) (omega arith))

@@ -50,11 +50,11 @@ pub returns : goal.returns
 returns g c =
     let f = c.args.self.now in
     let v = c.skip-gone.ensures in
-    let w = c.requires.0.1 in
+    let w = c.requires.0 in
     let d = c.requires.1.0 in
     let k = c.skip-gone.result.lo - c.args.at.lo in
     let b = length-behind c.args.counts.now k (omega (arith, v.1)) in
-    let i = first-low _ _ _ f.run_is _ w.0 w.1 c.requires.0.0 in
+    let i = first-low _ _ _ f.run_is _ w.0 w.1 in
     later-within _ _ _ _ _ _ d c.loop-count.invariant.1.0
     (omega (arith, b, v.0, c.loop-count.invariant.0, c.loop-count-test.false, d.some (omega (arith, i, hours _ f.image.now.head_of))))
     (omega (arith, b, v.0, c.loop-count.invariant.0, c.loop-count.auto.count-index-end))

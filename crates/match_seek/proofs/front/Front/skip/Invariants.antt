@@ -5,5 +5,5 @@ use Rattle.image.specs.Read.{list_of}
 use Rattle.match_seek.specs.Code.Seek.{Passing}
 use Rattle.match_seek.proofs.front.Front.skip.Given as goal
 
-abbrev pub invariant-loop-k : goal.invariant-loop-k
-invariant-loop-k g l = (l.next.lo ≡ l.fn.at.lo + 4 * l.k) × Passing (list_of l.self.image.now.bytes.now) g.q l.self.page l.next
+abbrev pub invariant-loop-a : goal.invariant-loop-a
+invariant-loop-a g l = (l.next.lo ≡ l.fn.at.lo + 4 * l.a-index) × Passing (list_of l.self.image.now.bytes.now) g.q l.self.page l.next

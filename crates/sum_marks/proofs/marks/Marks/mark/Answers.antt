@@ -1,9 +1,9 @@
--- `sum_marks::marks::mark` meets its contract. Assumes nothing.
+-- `sum_marks::marks::Marks::mark` meets its contract. Assumes nothing.
 use mathlib.Core.Path.{ap}
 use Prim.Native.Nat.{ℕ, ◌+◌}
 use native.Mathlib.Omega.{arith}
 use Rattle.sum_marks.proofs.MarkLaws.{marking-first, marking-next, sum_fits}
-use Rattle.sum_marks.proofs.marks.mark.Goals as goal
+use Rattle.sum_marks.proofs.marks.Marks.mark.Goals as goal
 
 pub loop-count-init : goal.loop-count-init
 loop-count-init c = marking-first _ _ _

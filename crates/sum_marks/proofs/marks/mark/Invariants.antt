@@ -1,6 +1,0 @@
--- `sum_marks::marks::mark` meets its contract. Assumes nothing.
-use Rattle.sum_marks.proofs.MarkLaws.{Marking}
-use Rattle.sum_marks.proofs.marks.mark.Given as goal
-
-abbrev pub invariant-loop-count : goal.invariant-loop-count
-invariant-loop-count l = Marking l.counts l.count-index l.stamp l.marks l.sum
