@@ -12,6 +12,7 @@ pub(crate) fn fill(s: &mut [u8], base: usize, e: usize, n: usize, code: &[u8])
     ensures { s.new ≡ filled s.old base e n code.now }
 {
     let mut at = e;
+    // By index: `filled` speaks of the code from each cell's 30 bytes on, and a chunk of it would be a list of its own.
     for j in 0..n {
         at = cell_at(base, link(s, at));
         let from = Header::CODE * j;

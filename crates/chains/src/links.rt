@@ -1,4 +1,5 @@
-// Chains of cells. A link is a number of two bytes: a page's first cell, the first free cell, or a cell's next one.
+// Chains of cells: walked, joined and cut. Where the cells start and from which link a chain goes on are handed on as numbers, and each
+// contract says what chain there is (`Steps`): join, cut and fill write to the bytes that it speaks of, so no struct can hold it.
 ghost use Rattle.std.specs.Prelude.{◌≡◌, ◌+◌, ◌≤◌, ◌<◌, length};
 ghost use Rattle.store.specs.Code.Links.{nth_link, Steps, joined, cut as cut_at};
 
@@ -12,6 +13,8 @@ pub(crate) fn link_after(s: &[u8], base: usize, a: usize, k: usize) -> usize
     ensures { (result ≡ nth_link s.now base a k) × (result + 2 ≤ length s.now) }
 {
     let mut at = a;
+    // A step along a chain is this one line, here, in fill and in pages: an iterator over the cells would lend the bytes, to which fill
+    // writes, and for the two that only read it is no shorter.
     for _ in 0..k {
         at = cell_at(base, link(s, at));
     }
@@ -24,8 +27,8 @@ pub(crate) fn join(s: &mut [u8], base: usize, e: usize, k: usize)
     ensures { s.new ≡ joined s.old base e k }
 {
     let end = link_after(s, base, e, k);
-    let free = link(s, 6);
-    put::<2>(s, end, free as u64);
+    let first_free = link(s, 6);
+    put::<2>(s, end, first_free as u64);
 }
 
 // Cuts the chain from the link at address e on after k cells: the rest is the free chain.

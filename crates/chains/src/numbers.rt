@@ -2,7 +2,8 @@
 ghost use Rattle.std.specs.Prelude.{◌≡◌, ◌+◌, ◌≤◌, length};
 ghost use Rattle.store.specs.Code.Links.{put};
 
-// Puts a number into the N bytes at address at.
+// Puts a number into the N bytes at address at. The same as bits' put, in the words of the definitions of links (`joined`, `cut`,
+// `rewritten`), so that no proof above goes from the one to the other.
 pub fn put<const N: usize>(s: &mut [u8], at: usize, v: u64)
     requires width { N ≤ 8 }
     requires in_bounds { at + N ≤ length s.old }

@@ -5,10 +5,11 @@ ghost use Rattle.store.specs.Code.Links.{Rewritable, rewritten};
 use crate::fill::fill;
 use crate::links::{cut, join};
 use crate::numbers::put;
+use bits::numbers::get;
 use store::header::entry_at;
-use store::link::link;
 
-// A page that changes: its number, the cells that it has, those that it is to have, and its new sum.
+// A page that changes, as a call hands it down (`Rewritable` and `rewritten` stand in store, below it, and so take its numbers one by one):
+// its number, the cells that it has, those that it is to have, and its new sum.
 #[derive(Clone, Copy)]
 pub struct PageChange {
     pub page: usize,
@@ -28,7 +29,7 @@ pub fn rewrite(s: &mut [u8], base: usize, c: PageChange, code: &[u8], hours: usi
     let new = c.new;
     let entry = entry_at(c.page);
     let own = entry + 4;
-    let free = link(s, 8);
+    let free = get::<2>(s, 8) as usize;
     let most = old.max(new);
     join(s, base, own, old);
     fill(s, base, own, most, code);

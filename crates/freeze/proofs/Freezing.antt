@@ -1,5 +1,5 @@
 -- The call's refusals. Assumes nothing.
-use mathlib.Core.Path.{◌≡◌, refl}
+use mathlib.Core.Path.{◌≡◌, refl, ap, ◌∙◌}
 use mathlib.Core.Bool.{Bool, true, false, ◌&&◌}
 use mathlib.Core.List.{List}
 use Prim.Native.Nat.{ℕ}
@@ -11,15 +11,24 @@ use Rattle.lists.specs.Lists.{pick, sum}
 use Rattle.store.specs.Reading.{list_in}
 use Rattle.store.specs.Sound.{sound}
 use Rattle.store.proofs.SoundFacts.{facts}
-use Rattle.image.specs.Calls.{Result, length_call, unwritten, write_call}
+use Rattle.image.specs.Calls.{Result, length_call, result_of, unwritten, write_call}
 use Rattle.image.specs.Image.{image}
-use Rattle.answers.specs.Image.{given, refused}
+use Rattle.answers.specs.Image.{given, refused, told}
+use Rattle.answers.specs.Number.{number}
+use Rattle.answers.specs.declared.refusal.Refusal.{Refusal}
+use Rattle.std.specs.Prelude.{Err}
 use Rattle.image.proofs.CallLaws.{write-refused}
 use Rattle.freeze.specs.Freeze.{freeze_call}
 
 pub freeze-10 : (e : ℕ) (s out : List ℕ) → sound s ≡ false → record { reply = refused 10; bytes = out } ≡ freeze_call e s out
 unfolding freeze_call pick unwritten
 freeze-10 e s out h = rw h
+
+-- the same of what the check of the store answers
+pub turned_down : (e : ℕ) (s out : List ℕ) (r : Refusal) → (sound s ≡ false) × (number r ≡ 10) → result_of (Err r) out ≡ freeze_call e s out
+unfolding told
+turned_down e s out r h =
+    ap (λ (k : ℕ). record { reply = refused k; bytes = out }) {x = number r} {y = 10} h.1 ∙ freeze-10 e s out h.0
 
 pub freeze-sound : (e : ℕ) (s out : List ℕ) → sound s ≡ true → write_call e (list_in s) out ≡ freeze_call e s out
 unfolding freeze_call pick

@@ -2,9 +2,8 @@
 // blocks of 256 hours, four pages of the store.
 #![tactic(auto)]
 
-ghost use Rattle.std.specs.Prelude.{true, ◌≡◌};
+ghost use Rattle.std.specs.Prelude.{◌≡◌};
 ghost use Rattle.store.specs.Reading.{list_in};
-ghost use Rattle.store.specs.Sound.{sound};
 ghost use Rattle.image.specs.Calls.{result_of, write_call};
 ghost use Rattle.freeze.specs.Freeze.{freeze_call};
 
@@ -12,11 +11,12 @@ use answers::refusal::Refusal;
 use freeze_plan::layout_of;
 use freeze_put::put_image;
 use image_plan::room;
+use soundness::sound;
+use store::sound::Sound;
 
 // Writes the image of a sound store's list.
-fn freeze_list(s: &[u8], e: u32, out: &mut [u8]) -> Result<u64, Refusal>
-    requires { sound s.now ≡ true }
-    ensures { result_of result out.new ≡ write_call e (list_in s.now) out.old }
+fn freeze_list(s: Sound, e: u32, out: &mut [u8]) -> Result<u64, Refusal>
+    ensures { result_of result out.new ≡ write_call e (list_in s.entry.bytes.now) out.old }
 {
     let r = layout_of(s, e)?;
     let n = room(r, out.len())?;
@@ -28,8 +28,5 @@ fn freeze_list(s: &[u8], e: u32, out: &mut [u8]) -> Result<u64, Refusal>
 pub fn freeze(s: &[u8], e: u32, out: &mut [u8]) -> Result<u64, Refusal>
     ensures { result_of result out.new ≡ freeze_call e s.now out.old }
 {
-    if !soundness::check(s) {
-        return Err(Refusal::Unsound);
-    }
-    freeze_list(s, e, out)
+    freeze_list(sound(s)?, e, out)
 }

@@ -1,5 +1,5 @@
 -- The sums of an image's pages from the readings at their ends. Assumes nothing.
-use mathlib.Core.Path.{◌≡◌, sym, ap, ap₂, ◌∙◌}
+use mathlib.Core.Path.{◌≡◌, sym, ap, ap₂, subst, ◌∙◌}
 use mathlib.Core.Bool.{true}
 use mathlib.Core.List.{List}
 use Prim.Native.Nat.{ℕ, ◌+◌, ◌-◌, ◌*◌, ◌/◌, ◌^◌, ◌≤◌, ◌<◌, min}
@@ -57,6 +57,13 @@ ending {all} {end} {r} a l = record {
 }
 
 -- ---- page after page of the store
+-- a plan says its exponent itself
+pub at_own : {e : ℕ} {xs : List ℕ} {r : Plan} → Drafted e xs r → Drafted r.e xs r
+at_own {e} {xs} {r} d = subst (λ (z : ℕ). Drafted z xs r) (sym d.e-is) d
+
+pub of-own : {e : ℕ} {xs : List ℕ} {r n : Plan} → Drafted e xs r → Drafted r.e xs n → Drafted e xs n
+of-own {e} {xs} {r} {n} d t = subst (λ (z : ℕ). Drafted z xs n) d.e-is t
+
 -- the reading behind page p
 pub all-next : {s : List ℕ} {P p t k : ℕ} (all : ℕ) → OfPage s P p t k → all ≡ reading (list_in s) (64 * p)
     → all + t ≡ reading (list_in s) (64 * (p + 1))

@@ -4,7 +4,8 @@ ghost use Rattle.freeze_plan.specs.Code.Parts.{Branch, Summed};
 use tree::node::root_by_shifts;
 
 // Puts the sums of the parts of 2^e counts of a tree of 2^h counts into out, which has zeros there. The tree has this sum and stands at bit
-// at; i trees of its size are before it.
+// at; i trees of its size are before it. The whole of out is handed down with i, not its halves: the contract speaks of one list of sums at
+// every height.
 pub(crate) fn part_sums(code: &[u8], at: usize, h: u32, e: u32, sum: u64, i: usize, out: &mut [u64])
     requires { Branch code.now at h e sum i out.old }
     ensures { (a : Branch code.now at h e sum i out.old)

@@ -1,24 +1,41 @@
-// A block of a sound store's list: the counts of four pages of the store.
-ghost use Rattle.std.specs.Prelude.{true, ◌≡◌, ◌*◌, ◌<◌, replicate};
-ghost use Rattle.lists.specs.Lists.{window};
+// A sound store's list in blocks of 256 hours, of which four pages of the store make one.
+ghost use Rattle.std.specs.Prelude.{◌≡◌};
 ghost use Rattle.store.specs.Reading.{list_in, page_count_of};
-ghost use Rattle.store.specs.Sound.{sound};
 
+use image_put::blocks::Blocks;
 use pages::entry::entry_of;
-use pages::gather::gather_at;
 use store::header::Header;
+use store::sound::Sound;
 use sum_table::SumTable;
 
-// Puts the counts of the 256 hours from page first of the store on into a list of zeros. Behind the last page of the store they stay zeros. The
-// table of small sums is lent.
-pub(crate) fn unpack(s: &[u8], table: &SumTable, pages: usize, first: usize, list: &mut [u32; 256])
-    requires { (sound s.now ≡ true) × (pages ≡ page_count_of s.now) × (first < pages) × (list.old ≡ replicate 256 0) }
-    ensures { list.new ≡ window (list_in s.now) (64 * first) 256 }
-{
-    for j in 0..(pages - first).min(4) {
-        let p = first + j;
-        let own = entry_of(s, p);
-        let code = gather_at(s, own.base, p, own.cells);
-        tree_decode::decode(&code, table, 0, 6, own.sum, list, Header::HOURS * j);
+// The store, how many pages it has, and the table of small sums.
+#[derive(Clone, Copy)]
+pub(crate) struct Listed<'a> {
+    pub store: Sound<'a>,
+    pub pages: usize,
+    pub table: SumTable<'a>,
+    ghost pages_are: { pages ≡ page_count_of store.bytes.now },
+}
+
+impl Blocks for Listed<'_> {
+    ghost list = { λ l. list_in l.store.bytes.now };
+
+    // Behind the last page of the store the counts stay zeros.
+    fn block(&self, k: usize, counts: &mut [u32; 256]) {
+        let first = 4 * k;
+        counts.fill(0);
+        for j in 0..(self.pages - first).min(4) {
+            let own = entry_of(self.store, first + j);
+            let code = own.code();
+            tree_decode::decode(
+                &code,
+                &self.table,
+                0,
+                Header::HEIGHT,
+                own.sum,
+                counts,
+                Header::HOURS * j,
+            );
+        }
     }
 }

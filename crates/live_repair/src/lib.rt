@@ -25,8 +25,8 @@ fn may_repair(s: &[u8], entries: usize) -> bool
     h.pages <= entries
 }
 
-// Keeps the pages whose bytes are right, makes the others zero and lists them, and chains the cells that remain. All pages are judged before
-// a byte is written.
+// Keeps the pages whose bytes are right, makes the others zero and lists them, and chains the cells that remain. All pages are judged
+// before a byte is written.
 pub fn repair(s: &mut [u8], lost: &mut [u32]) -> Result<u64, Refusal>
     ensures { Repairs s.old lost.old (told_number result) s.new lost.new }
 {

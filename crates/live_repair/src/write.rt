@@ -17,8 +17,8 @@ pub(crate) fn drop_pages(s: &mut [u8], pages: usize, lost: &[u32])
 }
 
 // Clears each cell that has no mark and chains them in rising order. From the last cell to the first, so that a cell's next one is known.
-pub(crate) fn free_cells(s: &mut [u8], base: usize, marks: &[u8], cells: usize)
-    requires { Chainable s.old base marks.now cells }
+pub(crate) fn free_cells(s: &mut [u8], base: usize, marks: &[u8; Header::MARKS], cells: usize)
+    requires { Chainable s.old base cells }
     ensures { s.new ≡ chained s.old base marks.now cells }
 {
     let mut next = 0usize;

@@ -2,7 +2,5 @@
 #![tactic(auto)]
 
 pub mod code;
-pub mod counts;
 pub mod entry;
-pub mod gather;
 pub mod sums;

@@ -9,10 +9,10 @@ use lib.Dec.{eqb, leb}
 use borrow.Author.Tests.{leb-true}
 use Rattle.lists.proofs.Tests.{left, right}
 use Rattle.bits.specs.Numbers.{Number, number_at}
+use Rattle.store.specs.Code.Checked.{cell_test}
 use Rattle.store.specs.Layout.{cell_at}
 use Rattle.store.specs.Reading.{chain_from, code_in}
 use Rattle.store.proofs.CheckChain.{mark_all}
-use Rattle.sound_free.proofs.CellTest.{cell_test}
 use Rattle.chains.proofs.Gathering.{SoFar}
 use Rattle.repair_pages.specs.Code.Chain.{chain_kept}
 
@@ -24,16 +24,18 @@ module _ (s : List ℕ) (base C : ℕ) (m : List ℕ) where
   abbrev pub MarkedOn : ℕ → ℕ → ℕ → List ℕ → ℕ → Type 0
   MarkedOn c k j n a = mark_all m (chain_from s base k c) ≡ mark_all n (chain_from s base (k - j) (number_at s a 2))
 
+  pub cell-broken : (k j a : ℕ) → j < k → cell_test C m (number_at s a 2) ≡ false → false ≡ kept_on k j a
+  unfolding chain_kept
+  cell-broken k j a l e =
+      let one : k - j ≡ suc (k - (j + 1)) = omega arith in
+      sym (ap (λ (i : ℕ). chain_kept s base C m i (number_at s a 2)) one ∙ rw e)
+
   module _ (k j : ℕ) {a c : ℕ} (n : Number s a 2 c) where
     one : j < k → k - j ≡ suc (k - (j + 1))
     one l = omega arith
 
     none : k ≤ j → k - j ≡ 0
     none l = omega arith
-
-    pub cell-broken : j < k → cell_test C m c ≡ false → false ≡ kept_on k j a
-    unfolding chain_kept
-    cell-broken l e = sym (ap (λ (i : ℕ). chain_kept s base C m i (number_at s a 2)) (one l) ∙ rw (sym n.is) (rw e))
 
     pub chain-end : k ≤ j → eqb c 0 ≡ kept_on k j a
     unfolding chain_kept

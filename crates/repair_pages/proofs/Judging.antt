@@ -16,10 +16,9 @@ use Rattle.store.specs.Limits.{max_cells, max_total}
 use Rattle.store.specs.Layout.{cell_at, cells_start}
 use Rattle.store.specs.PageCode.{cells, page_bytes}
 use Rattle.store.specs.Reading.{cells_of, chain_from, chain_in, code_in, first_in, hours_in, page_in, page_count_of, sum_in}
-use Rattle.store.specs.Code.Checked.{marks_length, quiet}
+use Rattle.store.specs.Code.Checked.{cell_test, marks_length, quiet}
 use Rattle.store.proofs.CheckChain.{Marked, Unmarked, mark-length, mark_all, marks}
 use Rattle.sound_page.specs.Code.Page.{page_code_fits}
-use Rattle.sound_free.proofs.CellTest.{cell_test}
 use Rattle.repair.specs.Repair.{Kept, behind, is_kept, keeps, kept_of}
 use Rattle.store.proofs.SoundLaws.{within_all}
 use Rattle.repair.proofs.Ends.{ends-chain}

@@ -115,5 +115,4 @@ turns-done s l₀ m l total n p e t =
       count = t.noted.count ∙ ap length w;
       entries = t.noted.entries ∙ ap (λ (z : List ℕ). z ++ drop n l₀) w;
       marked = subst (λ (z : ℕ). Marked (cells_of s) m (kept_of s z).cells) e t.along.marked;
-      long = t.along.long;
     }

@@ -13,12 +13,10 @@ use Rattle.store.specs.Limits.{max_total}
 use Rattle.store.specs.Layout.{cells_start, entry_at}
 use Rattle.store.specs.PageCode.{cells}
 use Rattle.store.specs.Reading.{cells_of, chain_from, chain_in, code_in, first_in, hours_in, page_count_of, sum_in}
-use Rattle.store.specs.Code.Head.{HeadOf}
-use Rattle.store.specs.declared.header.Header.{Header}
 use Rattle.store.proofs.CheckChain.{mark_all}
 use Rattle.sound_page.specs.Code.Page.{page_code_fits}
 use Rattle.repair_pages.specs.Code.Chain.{Gathered, chain_kept}
-use Rattle.repair_pages.specs.Code.Page.{Judged, kept_by}
+use Rattle.repair_pages.specs.Code.Page.{Judged, Judging, kept_by}
 
 -- three tests in a row: the first that fails
 first-no : (a b c : Bool) → a ≡ false → false ≡ (a && (b && c))
@@ -33,8 +31,8 @@ third-no a b c e = sym (ap (λ (z : Bool). a && (b && z)) e ∙ ap (λ (z : Bool
 all_yes : (a b c : Bool) → a ≡ true → b ≡ true → c ≡ true → true ≡ (a && (b && c))
 all_yes a b c x y z = sym (ap₂ (λ (i j : Bool). i && (j && c)) x y ∙ z)
 
-module _ (s : List ℕ) (h : Header) (f : HeadOf s h) (m : List ℕ) (p total : ℕ) {e sum base k : ℕ} (at : e ≡ entry_at p) (n : Number s e 4 sum)
-    (b : base ≡ cells_start h.pages) (q : k ≡ cells sum) where
+module _ (s : List ℕ) {base C N p total : ℕ} (j : Judging s base C N p total) (m : List ℕ) {e sum k : ℕ} (at : e ≡ entry_at p) (n : Number s e 4 sum)
+    (q : k ≡ cells sum) where
   abbrev fitting : Bool
   fitting = leb (total + sum_in s p) max_total
 
@@ -51,52 +49,49 @@ module _ (s : List ℕ) (h : Header) (f : HeadOf s h) (m : List ℕ) (p total : 
   k-is : k ≡ cells (sum_in s p)
   k-is = q ∙ ap cells sum_is
 
-  base-is : base ≡ cells_start (page_count_of s)
-  base-is = b ∙ ap cells_start f.pages-is
-
   first-is : number_at s (e + 4) 2 ≡ first_in s p
   first-is = ap (λ (z : ℕ). number_at s (z + 4) 2) at
 
-  chaining-is : chain_kept s base h.cells m k (number_at s (e + 4) 2) ≡ chaining
+  chaining-is : chain_kept s base C m k (number_at s (e + 4) 2) ≡ chaining
   chaining-is =
-      ap₂ (λ (x y : ℕ). chain_kept s x y m k (number_at s (e + 4) 2)) base-is f.cells_is
+      ap₂ (λ (x y : ℕ). chain_kept s x y m k (number_at s (e + 4) 2)) j.base-is j.cells_is
       ∙ ap₂ (λ (x y : ℕ). chain_kept s (cells_start (page_count_of s)) (cells_of s) m x y) k-is first-is
 
   chain-is : chain_from s base k (number_at s (e + 4) 2) ≡ chain_in s (page_count_of s) p
   unfolding chain_in
   chain-is =
-      ap (λ (x : ℕ). chain_from s x k (number_at s (e + 4) 2)) base-is ∙ ap₂ (λ (x y : ℕ). chain_from s (cells_start (page_count_of s)) x y) k-is first-is
+      ap (λ (x : ℕ). chain_from s x k (number_at s (e + 4) 2)) j.base-is ∙ ap₂ (λ (x y : ℕ). chain_from s (cells_start (page_count_of s)) x y) k-is first-is
 
-  fits-is : total ≤ max_total → sum ≤ max_total - total → fitting ≡ true
-  fits-is l u = le-leb (total + sum_in s p) max_total (omega (arith, sum_is))
+  fits-is : sum ≤ max_total - total → fitting ≡ true
+  fits-is u = le-leb (total + sum_in s p) max_total (omega (arith, sum_is, j.fits))
 
-  pub total-no : total ≤ max_total → max_total - total < sum → Judged s m p total false m
+  pub total-no : max_total - total < sum → Judged s m p total false m
   unfolding kept_by pick
-  total-no l u = record { is = first-no fitting chaining coding (lt-leb (total + sum_in s p) max_total (omega (arith, sum_is))); marked = refl }
+  total-no u = record { is = first-no fitting chaining coding (lt-leb (total + sum_in s p) max_total (omega (arith, sum_is, j.fits))); marked = refl }
 
-  module _ {r : Bool} {code : List ℕ} (g : Gathered s base h.cells (e + 4) k m r code) where
+  module _ {r : Bool} {code : List ℕ} (g : Gathered s base C (e + 4) k m r code) where
     pub chain-no : r ≡ false → Judged s m p total false m
     unfolding kept_by pick
     chain-no x = record { is = second-no fitting chaining coding (sym chaining-is ∙ sym g.is ∙ x); marked = refl }
 
     -- the chain is whole, and t says of its code whether it is a page's
-    module _ (x : r ≡ true) {t : Bool} (c : t ≡ page_code_fits (take (30 * k) code) sum p h.hours) where
+    module _ (x : r ≡ true) {t : Bool} (c : t ≡ page_code_fits (take (30 * k) code) sum p N) where
       coding-is : coding ≡ t
       coding-is =
-          sym (c ∙ ap₂ (λ (z : List ℕ) (y : ℕ). page_code_fits z y p h.hours) (g.gathered x ∙ ap₂ (code_in s) base-is chain-is) sum_is
-          ∙ ap (page_code_fits (code_in s (cells_start (page_count_of s)) (chain_in s (page_count_of s) p)) (sum_in s p) p) f.hours-is)
+          sym (c ∙ ap₂ (λ (z : List ℕ) (y : ℕ). page_code_fits z y p N) (g.gathered x ∙ ap₂ (code_in s) j.base-is chain-is) sum_is
+          ∙ ap (page_code_fits (code_in s (cells_start (page_count_of s)) (chain_in s (page_count_of s) p)) (sum_in s p) p) j.hours-is)
 
       pub code-no : t ≡ false → Judged s m p total false m
       unfolding kept_by pick
       code-no y = record { is = third-no fitting chaining coding (coding-is ∙ y); marked = refl }
 
-      pub page-yes : t ≡ true → total ≤ max_total → sum ≤ max_total - total → (m' : List ℕ)
+      pub page-yes : t ≡ true → sum ≤ max_total - total → (m' : List ℕ)
           → m' ≡ mark_all m (chain_from s base k (number_at s (e + 4) 2)) → Judged s m p total true m'
       unfolding kept_by pick
-      page-yes y l u m' z = record {
-        is = all_yes fitting chaining coding (fits-is l u) (sym chaining-is ∙ sym g.is ∙ x) (coding-is ∙ y);
+      page-yes y u m' z = record {
+        is = all_yes fitting chaining coding (fits-is u) (sym chaining-is ∙ sym g.is ∙ x) (coding-is ∙ y);
         marked = z ∙ ap (mark_all m) chain-is;
       }
 
-    pub chain-yes : r ≡ true → chain_kept s base h.cells m k (number_at s (e + 4) 2) ≡ true
+    pub chain-yes : r ≡ true → chain_kept s base C m k (number_at s (e + 4) 2) ≡ true
     chain-yes x = sym g.is ∙ x

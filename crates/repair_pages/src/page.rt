@@ -6,39 +6,34 @@ use bits::numbers::get;
 use reserve_table::ReserveTable;
 use sound_page::page_fits;
 use store::cells::{Cells, cells_of};
-use store::header::{Header, cells_from, entry_at};
+use store::header::{Header, entry_at};
 
 // Whether page p is kept, where the cells of the pages kept before it are marked and have this total. If so its cells are marked too: only
 // then, so that a page that is not kept bars no other.
 pub(crate) fn keep_page(
-    s: &[u8],
+    cells: &Cells,
     table: &ReserveTable,
-    h: Header,
-    marks: &mut [u8],
+    hours: usize,
+    marks: &mut [u8; Header::MARKS],
     p: usize,
     total: u64,
 ) -> bool
-    requires { Judging s.now h marks.old p total }
-    ensures { Judged s.now marks.old p total result marks.new }
+    requires { Judging cells.now.bytes.now cells.now.base cells.now.count hours p total }
+    ensures { Judged cells.now.bytes.now marks.old p total result marks.new }
 {
     let entry = entry_at(p);
-    let sum = get::<4>(s, entry);
+    let sum = get::<4>(cells.bytes, entry);
     if Header::MAX_TOTAL - total < sum {
         return false;
     }
-    let cells = Cells {
-        bytes: s,
-        base: cells_from(h.pages),
-        count: h.cells,
-    };
     let k = cells_of(sum);
     let mut code = [0u8; Header::PAGE_ROOM];
-    if !chain_fits(&cells, marks, entry + 4, k, &mut code) {
+    if !chain_fits(cells, marks, entry + 4, k, &mut code) {
         return false;
     }
-    if !page_fits(&code, table, k, sum, p, h.hours) {
+    if !page_fits(&code, table, k, sum, p, hours) {
         return false;
     }
-    mark_chain(&cells, entry + 4, k, marks);
+    mark_chain(cells, entry + 4, k, marks);
     true
 }

@@ -12,9 +12,8 @@ use Rattle.lists.proofs.Tests.{same-join}
 use Rattle.bits.specs.Numbers.{Number, number_at}
 use Rattle.store.specs.Layout.{cell_at}
 use Rattle.store.specs.Reading.{chain_from, code_in}
-use Rattle.store.specs.Code.Checked.{ends-well, go_on, walk_marks}
+use Rattle.store.specs.Code.Checked.{cell_test, ends-well, go_on, walk_marks}
 use Rattle.sound_free.specs.Code.Free.{every_cell_marked, free_chain_fits, free_from}
-use Rattle.sound_free.proofs.CellTest.{cell_test}
 
 -- n cells from the number c on are clear
 abbrev clears : List ℕ → ℕ → ℕ → ℕ → Bool
@@ -30,9 +29,16 @@ clear-more s base n c l =
     ap (same (code_in s base (chain_from s base (suc n) c))) (ap (λ (z : ℕ). replicate z 0) e ∙ sym (replicate-append-replicate 30 (30 * n) 0))
     ∙ same-join (part s (cell_at base c + 2) 30) rest (replicate 30 0) (replicate (30 * n) 0) (length_part s (cell_at base c + 2) 30 (omega arith))
 
-pub free-start : (s : List ℕ) (base C : ℕ) (m : List ℕ) {f : ℕ} → Number s 8 2 f → free_chain_fits s base C m ≡ free_from s base C (f - 0) m 6
+pub free-start : (s : List ℕ) (base C : ℕ) (m : List ℕ) {f : ℕ} → f ≡ number_at s 8 2 → free_chain_fits s base C m ≡ free_from s base C (f - 0) m 6
 unfolding free_chain_fits
-free-start s base C m {f} k = let e : number_at s 8 2 ≡ f - 0 = omega (arith, k.is) in ap (λ (n : ℕ). free_from s base C n m 6) e
+free-start s base C m {f} k = let e : number_at s 8 2 ≡ f - 0 = omega (arith, k) in ap (λ (n : ℕ). free_from s base C n m 6) e
+
+-- j of f cells are passed, and the link at a names none that passes its test
+pub free-broken : (s : List ℕ) (base C f j : ℕ) (m : List ℕ) (a : ℕ) → j < f → cell_test C m (number_at s a 2) ≡ false → false ≡ free_from s base C (f - j) m a
+unfolding free_from walk_marks go_on ends-well
+free-broken s base C f j m a l e =
+    let one : f - j ≡ suc (f - (j + 1)) = omega arith in
+    sym (ap (λ (i : ℕ). free_from s base C i m a) one ∙ rw e)
 
 -- j of f cells are passed, and the link at a names c
 module _ {s : List ℕ} (base C f j : ℕ) (m : List ℕ) {a c : ℕ} (k : Number s a 2 c) where
@@ -44,11 +50,6 @@ module _ {s : List ℕ} (base C f j : ℕ) (m : List ℕ) {a c : ℕ} (k : Numbe
 
   none : f ≤ j → f - j ≡ 0
   none l = omega arith
-
-  -- a cell that fails its test
-  pub free-broken : j < f → cell_test C m c ≡ false → false ≡ free_from s base C (f - j) m a
-  unfolding free_from walk_marks go_on ends-well
-  free-broken l e = sym (ap (λ (i : ℕ). free_from s base C i m a) (one l) ∙ rw (sym k.is) (rw e))
 
   -- the cell starts at r, and its block is clear or not
   module _ (l : j < f) {r : ℕ} (at : r ≡ cell_at base c) (fits : r + 32 ≤ length s) {z : Bool}

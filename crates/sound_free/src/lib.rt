@@ -1,9 +1,7 @@
 // The free chain, and that every cell was met.
 #![tactic(auto)]
 
-ghost use Rattle.std.specs.Prelude.{◌≡◌, ◌≤◌, ◌↔◌, length, EachIndex, IsTrue, slice_index};
-ghost use Rattle.store.specs.Layout.{header_length};
-ghost use Rattle.store.specs.Code.Checked.{marks_length};
+ghost use Rattle.std.specs.Prelude.{◌≡◌, ◌↔◌, EachIndex, IsTrue, slice_index};
 ghost use Rattle.sound_free.specs.Code.Free.{free_chain_fits};
 
 use store::cells::Cells;
@@ -17,22 +15,17 @@ fn all_are(s: &[u8], b: u8) -> bool
 }
 
 // Walks the free chain with the marks that the pages left: whether it has as many cells as the header says, clear and none met before, and
-// whether every cell is then marked.
+// whether every cell is then marked. The marks come by value, as document 01 names it.
 pub fn free_fits(cells: &Cells, met: [u8; Header::MARKS]) -> bool
-    requires { (header_length ≤ cells.now.base) × (length met ≡ marks_length) }
     ensures { result ≡ free_chain_fits cells.now.bytes.now cells.now.base cells.now.count met }
 {
     let mut marks = met;
-    let free = cells.link(8);
+    let head = Header::of(cells.bytes);
     let mut at = 6;
-    for _ in 0..free {
-        let c = cells.link(at);
-        if !cells.has(c) {
+    for _ in 0..head.free {
+        let Some(c) = cells.unmarked(at, &marks) else {
             return false;
-        }
-        if marks[c] != 0 {
-            return false;
-        }
+        };
         marks[c] = 1;
         at = cells.at(c);
         if !all_are(cells.code(at), 0) {

@@ -11,15 +11,16 @@ use store::header::Header;
 use store::limits::fits;
 use store::total::page_sums;
 
-// Whether the header and the length are those of a store, whatever its pages and its free chain are. Tested in document 01's order; the
-// edition and the zero byte behind it are one number, 1.
+// Whether the header and the length are those of a store, whatever its pages and its free chain are. A bool, as the contract is then the
+// list of tests itself; the header is read again where it is needed, five numbers. Tested in document 01's order; the edition and the zero
+// byte behind it are one number.
 pub fn shape_fits(s: &[u8]) -> bool
     ensures { result ≡ every (shape_tests s.now) }
 {
     if s.len() < Header::SIZE {
         return false;
     }
-    if get::<2>(s, 0) != 1 {
+    if get::<2>(s, 0) != Header::EDITION as u64 {
         return false;
     }
     if get::<2>(s, 10) != 0 {

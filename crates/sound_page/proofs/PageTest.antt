@@ -1,5 +1,6 @@
 -- The test of a page's gathered code says that its cells hold the page's bytes. Assumes nothing.
-use mathlib.Core.Path.{◌≡◌, sym, ap, ap₂, ◌∙◌}
+use mathlib.Core.Path.{◌≡◌, refl, sym, ap, ap₂, ◌∙◌}
+use Rattle.std.specs.Prelude.{Option, Some}
 use mathlib.Core.Bool.{Bool, true, false, ◌&&◌}
 use mathlib.Core.List.{List, [], ◌∷◌, ◌++◌}
 use Prim.Native.Nat.{ℕ, ◌+◌, ◌-◌, ◌*◌, ◌≤◌, ◌<◌}
@@ -40,7 +41,11 @@ split-front : (b : List ℕ) (n r : ℕ) → r ≤ n → take n b ≡ take r b +
 split-front b n r l = ap (λ (z : ℕ). take z b) {x = n} {y = r + (n - r)} (omega arith) ∙ take-add r (n - r) b
 
 -- ---- the gathered code of page p, of sum s
-module _ {code : List ℕ} {s p N : ℕ} (g : HandedPage code s p N) where
+pub record Paged (code : List ℕ) (s p N : ℕ) : Type 0 where
+  pub long : length code ≡ 240
+  pub handed : HandedPage s p N
+
+module _ {code : List ℕ} {s p N : ℕ} (g : Paged code s p N) where
   abbrev B : List ℕ
   B = bits code
 
@@ -56,8 +61,8 @@ module _ {code : List ℕ} {s p N : ℕ} (g : HandedPage code s p N) where
   pub page-lies : Lies code 0 6 s
   page-lies =
       let l = g.long in
-      let m : reserve 6 s ≤ 1820 = most s g.small in
-      record { height = omega arith; total = omega (arith, g.small); long = omega arith; inside = omega arith; small = omega arith }
+      let m : reserve 6 s ≤ 1820 = most s g.handed.small in
+      record { height = omega arith; total = omega (arith, g.handed.small); long = omega arith; inside = omega arith; small = omega arith }
 
   -- ---- its hours, where it is the code of some list
   module _ (i : exact 6 s (bits code) 0 ≡ true) where
@@ -65,12 +70,15 @@ module _ {code : List ℕ} {s p N : ℕ} (g : HandedPage code s p N) where
     found = exact-coded 6 s (bits code) 0 (bits-bytes code) (omega (arith, page-lies.inside, length-bits code)) i
 
     -- the walk to hour j of the page tells the prefix sum to it
-    walk-told : (j r : ℕ) → j < 64 → r ≡ walk_answer 0 1 (walk 6 s (bits code) 0 j) → r ≡ sum (take j xs) + get_or xs j 0
+    walk-told : (j : ℕ) → j < 64 → walk_answer 0 1 (walk 6 s (bits code) 0 j) ≡ Some (sum (take j xs) + get_or xs j 0)
     unfolding walk_answer
-    walk-told j r l e =
+    walk-told j l =
         let t : s ≡ sum xs = sym found.total in
         let w : part B 0 (reserve 6 (sum xs)) ≡ tree 6 xs = ap (λ (n : ℕ). part B 0 (reserve 6 n)) (sym t) ∙ found.code in
-        e ∙ ap (walk_answer 0 1) (ap (λ (n : ℕ). walk 6 n B 0 j) t ∙ walk-tree 6 xs B 0 j xs-long (omega arith) w) ∙ omega arith
+        let x : ℕ = sum (take j xs) in
+        let c : ℕ = get_or xs j 0 in
+        ap (walk_answer 0 1) (ap (λ (n : ℕ). walk 6 n B 0 j) t ∙ walk-tree 6 xs B 0 j xs-long (omega arith) w)
+        ∙ ap Some {x = 0 + 1 * x + c} {y = x + c} (omega arith)
 
     pub hours-all : 64 * p + 64 ≤ N → true ≡ same xs (quiet N p xs)
     hours-all l = quiet_all xs N p xs-long l
@@ -78,9 +86,11 @@ module _ {code : List ℕ} {s p N : ℕ} (g : HandedPage code s p N) where
     pub hours-none : N ≤ 64 * p → eqb s 0 ≡ same xs (quiet N p xs)
     hours-none l = quiet_none xs N p xs-long l s found.total
 
-    pub hours-some : 64 * p < N → N < 64 * p + 64 → (r : ℕ) → r ≡ walk_answer 0 1 (walk 6 s (bits code) 0 (N - 64 * p - 1))
-        → eqb r s ≡ same xs (quiet N p xs)
-    hours-some l u r e = quiet-some xs N p xs-long l u r s found.total (walk-told (N - 64 * p - 1) r (omega arith) e)
+    pub hours-some : 64 * p < N → N < 64 * p + 64 → {way : Option ℕ} {t : Bool} → way ≡ walk_answer 0 1 (walk 6 s (bits code) 0 (N - 64 * p - 1))
+        → ((r : ℕ) → way ≡ Some r → t ≡ eqb r s) → t ≡ same xs (quiet N p xs)
+    hours-some l u e some =
+        let j : ℕ = N - 64 * p - 1 in
+        some (sum (take j xs) + get_or xs j 0) (e ∙ walk-told j (omega arith)) ∙ quiet-some xs N p xs-long l u _ s found.total refl
 
   -- ---- its k cells, at the front of the code
   module _ {k : ℕ} (fit : k ≡ cells s) where
@@ -91,7 +101,7 @@ module _ {code : List ℕ} {s p N : ℕ} (g : HandedPage code s p N) where
     Z = replicate (240 * k - reserve 6 s) 0
 
     pub few : k ≤ 8
-    few = omega (arith, cells-most s (omega (arith, g.small)))
+    few = omega (arith, cells-most s (omega (arith, g.handed.small)))
 
     pub holds : reserve 6 s ≤ 240 * k
     holds = omega (arith, cells-hold s)

@@ -14,8 +14,8 @@ use reserve_table::ReserveTable;
 use store::header::Header;
 
 // Whether the hours from the number of hours logged on are zero in page p of sum s: those before them have the whole sum.
-fn hours_fit(code: &[u8], s: u64, p: usize, hours: usize) -> bool
-    requires { HandedPage code.now s p hours × (exact 6 s (bits code.now) 0 ≡ true) }
+fn hours_fit(code: &[u8; Header::PAGE_ROOM], s: u64, p: usize, hours: usize) -> bool
+    requires { HandedPage s p hours × (exact 6 s (bits code.now) 0 ≡ true) }
     ensures { result ≡ same (counts 6 s (bits code.now) 0) (quiet hours p (counts 6 s (bits code.now) 0)) }
 {
     let first = Header::HOURS * p;
@@ -25,28 +25,29 @@ fn hours_fit(code: &[u8], s: u64, p: usize, hours: usize) -> bool
     if hours <= first {
         return s == 0;
     }
-    tree_walk::walk(code, 0, 6, s, (hours - first - 1) as u64, 0, 1) == s
+    let last = (hours - first - 1) as u64;
+    tree_walk::walk(code, 0, Header::HEIGHT, s, last, 0, true).is_some_and(|r| r == s)
 }
 
 // Whether the bytes of k cells at the front of code are those of page p of sum s, by the table of small reserves that is lent.
 pub fn page_fits(
-    code: &[u8],
+    code: &[u8; Header::PAGE_ROOM],
     table: &ReserveTable,
     k: usize,
     s: u64,
     p: usize,
     hours: usize,
 ) -> bool
-    requires { HandedPage code.now s p hours × (k ≡ cells s) }
+    requires { HandedPage s p hours × (k ≡ cells s) }
     ensures { result ≡ page_code_fits (take (30 * k) code.now) s p hours }
 {
     if s == 0 {
         return true;
     }
-    if !tree_check::check(code, table, 0, 6, s) {
+    if !tree_check::check(code, table, 0, Header::HEIGHT, s) {
         return false;
     }
-    let used = reserve::reserve_of(6, s);
+    let used = reserve::reserve_of(Header::HEIGHT, s);
     if !tree_lowest::zero_bits(code, used, Header::BITS * k - used) {
         return false;
     }

@@ -19,11 +19,10 @@ use Rattle.store.specs.Layout.{cell_at, entry_at, cells_start}
 use Rattle.store.specs.PageCode.{cells, counts_in_page}
 use Rattle.store.specs.Reading.{chain_from, chain_in, code_in, page_in, sum_in}
 use Rattle.store.specs.declared.header.Header.{Header}
-use Rattle.store.specs.Code.Checked.{Walk, and_then, check_pages, ends-well, go_on, marks_length, page_tests, walk_marks}
+use Rattle.store.specs.Code.Checked.{Walk, and_then, cell_test, check_pages, ends-well, go_on, marks_length, page_tests, walk_marks}
 use Rattle.sound_page.specs.Code.Page.{page_code_fits}
 use Rattle.sound_free.specs.Code.Free.{free_chain_fits}
 use Rattle.soundness.specs.Code.Chains.{all_chains_fit}
-use Rattle.sound_free.proofs.CellTest.{cell_test}
 use Rattle.chains.proofs.Gathering.{SoFar}
 
 -- a page's tests are those of its gathered code
@@ -31,17 +30,21 @@ tests-are : (s : List ℕ) (P N p : ℕ) → every (page_tests s P N p) ≡ page
 unfolding page_tests page_code_fits page_in counts_in_page every
 tests-are s P N p = rw (eq-eqb _ 64 (length-counts 6 (sum_in s p) (bits (code_in s (cells_start P) (chain_in s P p))) 0))
 
--- ---- a chain: j of k cells are passed, and the link at a names c
+-- ---- a chain: j of k cells are passed, and the link at a names none that passes its test
+pub cell-broken : (s : List ℕ) (base C k j : ℕ) (m : List ℕ) (a : ℕ) → j < k → cell_test C m (number_at s a 2) ≡ false
+    → walk_marks s base C (k - j) m a ≡ None
+unfolding walk_marks go_on
+cell-broken s base C k j m a l e =
+    let one : k - j ≡ suc (k - (j + 1)) = omega arith in
+    ap (λ (i : ℕ). walk_marks s base C i m a) one ∙ rw e refl
+
+-- the same, and the link at a names c
 module _ (s : List ℕ) (base C k j : ℕ) (m : List ℕ) {a c : ℕ} (n : Number s a 2 c) where
   one : j < k → k - j ≡ suc (k - (j + 1))
   one l = omega arith
 
   none : k ≤ j → k - j ≡ 0
   none l = omega arith
-
-  pub cell-broken : j < k → cell_test C m c ≡ false → walk_marks s base C (k - j) m a ≡ None
-  unfolding walk_marks go_on
-  cell-broken l e = ap (λ (i : ℕ). walk_marks s base C i m a) (one l) ∙ rw (sym n.is) (rw e refl)
 
   -- c starts at r: it is marked
   pub cell-next : j < k → {r : ℕ} → r ≡ cell_at base c → cell_test C m c ≡ true

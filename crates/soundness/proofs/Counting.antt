@@ -20,10 +20,9 @@ use Rattle.store.specs.Layout.{cell_at, cells_start, entry_at}
 use Rattle.store.specs.PageCode.{cells}
 use Rattle.store.specs.Reading.{sum_in}
 use Rattle.store.specs.Limits.{max_cells}
-use Rattle.store.specs.Code.Checked.{Walk, check_pages, go_on, marks_length, page_tests, walk_marks}
+use Rattle.store.specs.Code.Checked.{Walk, cell_test, check_pages, go_on, marks_length, page_tests, walk_marks}
 use Rattle.store.proofs.CheckChain.{goes_on, goes_then, whole_is}
 use Rattle.sound_free.specs.Code.Free.{every_cell_marked}
-use Rattle.sound_free.proofs.CellTest.{cell_test}
 
 abbrev marked : ℕ → List ℕ → ℕ
 marked C m = sum (tabulate C (λ j. get_or m (suc j) 0))

@@ -28,18 +28,19 @@ pub(crate) fn chains_fit(s: &[u8], table: &ReserveTable) -> bool
     let mut marks = [0u8; Header::MARKS];
     let mut code = [0u8; Header::PAGE_ROOM];
     let mut ok = true;
-    // Left by its label at the first fault, as document 01 wants it.
+    // Left by its label at the first fault, as document 01 wants it. A cell is marked at once, as no page may have it after this one; a
+    // repair (repair_pages) marks the cells of a page only when it is kept, and so walks a chain twice.
     'pages: for p in 0..h.pages {
         let entry = entry_at(p);
         let sum = get::<4>(s, entry);
         let k = cells_of(sum);
         let mut at = entry + 4;
+        // By index: behind chunks_mut over code a proof knows no byte of it.
         for j in 0..k {
-            let c = cells.link(at);
-            if !cells.has(c) || marks[c] != 0 {
+            let Some(c) = cells.unmarked(at, &marks) else {
                 ok = false;
                 break 'pages;
-            }
+            };
             marks[c] = 1;
             at = cells.at(c);
             put_block(&mut code, Header::CODE * j, cells.code(at));

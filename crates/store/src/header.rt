@@ -3,6 +3,7 @@ ghost use Rattle.std.specs.Prelude.{◌≡◌, ◌≤◌, ◌<◌, length};
 ghost use Rattle.store.specs.Layout.{cell_at, cells_start, entry_at, fresh as fresh_model, header_length};
 ghost use Rattle.store.specs.Code.Head.{HeadFor, HeadOf};
 
+// What a store's header says: P, C, the first free cell, how many cells are free, and N.
 #[derive(Clone, Copy)]
 pub struct Header {
     pub pages: usize,
@@ -19,12 +20,15 @@ impl Header {
     pub const MAX_CELLS: usize = 1800;
 
     pub const MAX_TOTAL: u64 = 4294967295;
-    // A mark for each cell, and one for 0, which is no cell.
+    // A mark for each cell, and one for 0, which is no cell. Marks are bytes, 0 or 1: the definitions of the check and of a repair speak of
+    // lists of numbers (`walk_marks`), and the check's last look is over all of them at once.
     pub const MARKS: usize = Header::MAX_CELLS + 1;
 
     pub const EDITION: usize = 1;
-    // The hours of a page.
+    // The hours of a page, and the height of its tree: 2^6 hours.
     pub const HOURS: usize = 64;
+
+    pub const HEIGHT: u32 = 6;
     // The bytes of the header, of a page entry, of a cell, and of a cell's code.
     pub const SIZE: usize = 16;
 

@@ -6,4 +6,6 @@ pub mod cells;
 pub mod header;
 pub mod limits;
 pub mod link;
+pub mod sound;
+pub mod spot;
 pub mod total;

@@ -1,20 +1,19 @@
 -- `freeze::freeze` meets its contract. Assumes nothing.
-use mathlib.Core.Path.{sym, ◌∙◌}
-use borrow.Author.Tests.{not-true}
-use Rattle.answers.specs.Image.{told}
-use Rattle.store.proofs.CallLaws.{passed}
-use Rattle.freeze.proofs.Freezing.{freeze-10, freeze-sound}
+use mathlib.Core.List.{List}
+use mathlib.Core.Path.{ap, ◌∙◌}
+use Prim.Native.Nat.{ℕ}
+use Rattle.std.proofs.Common.{rules}
+use Rattle.image.specs.Calls.{write_call}
+use Rattle.store.specs.Reading.{list_in}
+use Rattle.freeze.proofs.Freezing.{freeze-sound, turned_down}
 use Rattle.freeze.proofs.freeze.Goals as goal
 
-pub returns-then-not-check : goal.returns-then-not-check
-unfolding told
-returns-then-not-check c =
-    freeze-10 _ _ _ (sym c.check.ensures ∙ not-true _ c.if-not-check.true-raw)
-
-pub freeze_list-requires : goal.freeze_list-requires
-freeze_list-requires c =
-    passed _ c.check.ensures c.if-not-check.false-raw
+pub returns-in_err-sound : goal.returns-in_err-sound
+returns-in_err-sound c =
+    search (rules, turned_down c.args.e c.args.s.now c.args.out.now c.in_err-sound.field-0.0 c.in_err-sound.ensures.unsound)
 
 pub returns : goal.returns
 returns c =
-    c.freeze_list.ensures ∙ freeze-sound _ _ _ (passed _ c.check.ensures c.if-not-check.false-raw)
+    let s = c.in_ok-sound in
+    c.freeze_list.ensures ∙ ap (λ (z : List ℕ). write_call c.args.e (list_in z) c.args.out.now) s.ensures.found
+    ∙ freeze-sound _ _ _ s.ensures.unsound

@@ -10,7 +10,7 @@ pub returns-in_err-n : goal.returns-in_err-n
 returns-in_err-n c = search (rules, write-short _ _ _ c.in_ok-r.ensures _ _ c.in_err-n.ensures)
 
 pub put_image-requires : goal.put_image-requires
-put_image-requires c = (c.requires, room _ _ _ c.in_ok-r.ensures _ _ c.in_ok-n.ensures)
+put_image-requires c = room _ _ _ c.in_ok-r.ensures _ _ c.in_ok-n.ensures
 
 pub returns : goal.returns
 returns c = write-yes _ _ _ c.in_ok-r.ensures _ _ _ c.in_ok-n.ensures c.put_image.ensures

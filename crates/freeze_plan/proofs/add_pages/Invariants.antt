@@ -8,7 +8,7 @@ use Rattle.freeze_plan.proofs.add_pages.Given as goal
 
 abbrev pub invariant-loop-p : goal.invariant-loop-p
 invariant-loop-p l = record {
-  all-is : l.all ≡ reading (list_in l.s) (64 * l.p);
-  drafted : Drafted l.e (list_in l.s) l.next;
-  ahead : l.next.done < l.next.pages → 64 * l.p < 2 ^ l.e * (l.next.done + 1);
+  all-is : l.all ≡ reading (list_in l.s.bytes.now) (64 * l.p);
+  drafted : Drafted l.plan.e (list_in l.s.bytes.now) l.next;
+  ahead : l.next.done < l.next.pages → 64 * l.p < 2 ^ l.plan.e * (l.next.done + 1);
 }

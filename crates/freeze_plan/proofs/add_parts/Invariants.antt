@@ -6,4 +6,4 @@ use Rattle.image_plan.specs.Code.Planning.{Drafted}
 use Rattle.freeze_plan.proofs.add_parts.Given as goal
 
 abbrev pub invariant-loop-page : goal.invariant-loop-page
-invariant-loop-page l = record { drafted : Drafted l.e (list_in l.s) l.next; at : l.next.done ≡ l.page }
+invariant-loop-page l = record { drafted : Drafted l.fn.plan.e (list_in l.own.bytes.now) l.next; at : l.next.done ≡ l.page }

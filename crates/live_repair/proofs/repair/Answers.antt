@@ -35,7 +35,6 @@ free_cells-requires c =
       low = omega (arith, b, h.pages-is, f.limits.pages-high);
       size = ap length c.drop_pages.ensures ∙ dropped-length _ _ ∙ omega (arith, b, h.pages-is, h.cells_is, f.long);
       few = omega (arith, h.cells_is, f.limits.cells-high);
-      marks = c.list_lost-n.ensures.long;
     }
 
 pub returns : goal.returns

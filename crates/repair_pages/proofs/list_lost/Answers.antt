@@ -1,15 +1,35 @@
 -- `repair_pages::list_lost` meets its contract. The invariant: the marks, the total and the list are those of the pages passed. Assumes nothing.
-use mathlib.Core.Path.{ap}
-use Prim.Native.Nat.{ℕ}
+use mathlib.Core.Path.{◌≡◌, ap, ◌∙◌}
+use mathlib.Core.List.{List}
+use Prim.Native.Nat.{ℕ, ◌+◌, ◌*◌, ◌≤◌, ◌<◌}
 use native.Mathlib.Omega.{arith}
-use lib.ListN.{length, length-replicate}
-use Rattle.store.specs.Code.Checked.{marks_length}
+use lib.ListN.{length}
+use Rattle.store.specs.Code.Head.{HeadOf}
+use Rattle.store.specs.Fitting.{Fitting}
+use Rattle.store.specs.Layout.{cells_start}
+use Rattle.store.specs.Limits.{max_cells}
+use Rattle.store.specs.Reading.{cells_of, page_count_of}
+use Rattle.store.specs.declared.header.Header.{Header}
 use Rattle.repair_pages.proofs.ListSteps.{along-fits, along-start, noted-few, noted-start, turn-fits, turn-no, turn-yes, turns-done}
 use Rattle.repair_pages.proofs.list_lost.Goals as goal
 use Rattle.repair_pages.proofs.list_lost.Goals.{then-keep_page, else-keep_page}
 
 pub of-h-requires : goal.of-h-requires
 of-h-requires c = omega (arith, c.requires.fitting.long)
+
+bounds : {s : List ℕ} {h : Header} {base : ℕ} → HeadOf s h → Fitting s (page_count_of s) (cells_of s) → base ≡ cells_start h.pages
+    → (16 ≤ base) × (base < 65536) × (length s ≡ base + 32 * h.cells) × (h.cells ≤ max_cells)
+bounds h f b = (
+  omega (arith, b),
+  omega (arith, b, h.pages-is, f.limits.pages-high),
+  omega (arith, b, h.pages-is, h.cells_is, f.long),
+  omega (arith, h.cells_is, f.limits.cells-high),
+)
+
+pub invariant_of-cells : goal.invariant_of-cells
+invariant_of-cells c =
+    let w = bounds c.of-h.ensures c.requires.fitting c.cells_from.ensures in
+    record { high = w.0; low = w.1; size = w.2; few = w.3 }
 
 pub loop-p-init : goal.loop-p-init
 loop-p-init c =
@@ -21,10 +41,12 @@ keep_page-requires c =
     let l = c.loop-p in
     let q = c.requires in
     record {
-      head = h;
+      base-is = c.cells_from.ensures ∙ ap cells_start h.pages-is;
+      cells_is = h.cells_is;
+      hours-is = h.hours-is;
+      hours-small = h.hours-small;
       fitting = q.fitting;
       inside = omega (arith, h.pages-is, c.loop-p-test.true);
-      marks = l.invariant.along.long;
       fits = along-fits _ _ l.p l.total l.invariant.along;
     }
 
@@ -85,12 +107,6 @@ loop-p-preserved c =
           turn-no _ _ _ _ _ _ l.p l.total l.n few l.invariant k.ensures w.if-keep_page.false
           (omega (arith, noted-few _ _ _ l.n l.p l.invariant.noted, q.room, h.pages-is)) w.lost-is w.total-is w.n-is
     ]
-
-pub shape_of-marks : goal.shape_of-marks
-shape_of-marks c =
-    let l = c.loop-p in
-    let q = c.requires in
-    omega (arith, l.invariant.along.long, ap length q.unmarked, length-replicate {A = ℕ} marks_length 0)
 
 pub shape_of-lost : goal.shape_of-lost
 shape_of-lost c = omega (arith, c.loop-p.invariant.noted.long)

@@ -2,57 +2,40 @@
 use mathlib.Core.Path.{refl, sym, ◌∙◌}
 use Prim.Native.Nat.{◌+◌}
 use native.Mathlib.Omega.{arith}
-use lib.ListN.{length-set}
 use Rattle.sound_free.proofs.Blocks.{block-same, marks-same}
-use Rattle.sound_free.proofs.CellTest.{good-cell, met-cell, no_cell}
 use Rattle.sound_free.proofs.FreeTest.{free-broken, free-ends, free-next, free_open, free-set, free-start}
 use Rattle.sound_free.proofs.free_fits.Goals as goal
 
 pub loop-init : goal.loop-init
 loop-init c =
     let a = c.args.cells.now in
-    record {
-      marked = c.requires.1;
-      inside = omega arith;
-      left = free-start a.bytes.now a.base a.count c.args.met c.link-free.ensures;
-    }
+    record { inside = omega arith; left = free-start a.bytes.now a.base a.count c.args.met c.of-head.ensures.free-is }
 
-pub returns-then-not-has : goal.returns-then-not-has
-returns-then-not-has c =
-    let k = c.link-c in
+pub returns-in_default : goal.returns-in_default
+returns-in_default c =
     let l = c.loop in
-    free-broken _ _ _ l.counter l.marks k.ensures (omega arith) (no_cell _ k.result l.marks c.if-not-has.ensures.value)
-    ∙ sym l.invariant.left
-
-pub returns-then-marks-c-ne0 : goal.returns-then-marks-c-ne0
-returns-then-marks-c-ne0 c =
-    let k = c.link-c in
-    let l = c.loop in
-    free-broken _ _ _ l.counter l.marks k.ensures (omega arith) (met-cell _ k.result l.marks c.if-marks-c-ne0.true)
-    ∙ sym l.invariant.left
+    free-broken _ _ _ _ l.counter l.marks l.at (omega arith) c.in_default.ensures ∙ sym l.invariant.left
 
 pub returns-then-not-all_are : goal.returns-then-not-all_are
 returns-then-not-all_are c =
-    let k = c.link-c in
+    let k = c.in-Some.ensures in
     let l = c.loop in
     let r = c.at-at in
-    free-set _ _ _ l.counter l.marks k.ensures (omega arith)
+    free-set _ _ _ l.counter l.marks k.0 (omega arith)
     r.ensures.start r.ensures.inside (block-same _ (r.result + 2) c.if-not-all_are.ensures c.code.ensures.part (omega arith)) refl
     ∙ sym l.invariant.left
 
 pub loop-preserved : goal.loop-preserved
 loop-preserved c =
-    let k = c.link-c in
+    let k = c.in-Some.ensures in
     let l = c.loop in
     let r = c.at-at in
     record {
-      marked = length-set l.marks k.result 1 ∙ l.invariant.marked;
       inside = omega arith;
       left =
           l.invariant.left
-          ∙ free-next _ _ _ l.counter l.marks k.ensures (omega arith)
-          r.ensures.start r.ensures.inside (block-same _ (r.result + 2) c.if-not-all_are.ensures c.code.ensures.part (omega arith)) refl
-          (good-cell _ k.result l.marks (omega arith) (omega arith) c.if-marks-c-ne0.false);
+          ∙ free-next _ _ _ l.counter l.marks k.0 (omega arith)
+          r.ensures.start r.ensures.inside (block-same _ (r.result + 2) c.if-not-all_are.ensures c.code.ensures.part (omega arith)) refl k.3;
     }
 
 pub returns-then-link-ne0 : goal.returns-then-link-ne0

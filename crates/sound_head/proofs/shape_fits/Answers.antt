@@ -11,10 +11,10 @@ returns-then-s-lt-SIZE c =
     let s = c.args.s.now in
     shape-no s (λ h. omega (arith, h.fitting.long, c.if-s-lt-SIZE.true))
 
-pub returns-then-get-ne1 : goal.returns-then-get-ne1
-returns-then-get-ne1 c =
+pub returns-then-get : goal.returns-then-get
+returns-then-get c =
     let s = c.args.s.now in
-    shape-no s (λ h. c.if-get-ne1.true (c.get.ensures.is ∙ pair-number s 0 1 h.edition))
+    shape-no s (λ h. c.if-get.true (c.get.ensures.is ∙ pair-number s 0 1 h.edition))
 
 pub returns-then-get-ne0 : goal.returns-then-get-ne0
 returns-then-get-ne0 c =
@@ -32,5 +32,5 @@ returns c =
     let h = c.of-h.ensures in
     let s = c.args.s.now in
     let f = fitting s _ _ (sym c.if-not-fits.ensures) in
-    shape-last s (omega (arith, c.if-s-lt-SIZE.false)) h.pages-is h.hours-is (sym c.get.ensures.is ∙ c.if-get-ne1.false)
+    shape-last s (omega (arith, c.if-s-lt-SIZE.false)) h.pages-is h.hours-is (sym c.get.ensures.is ∙ c.if-get.false)
     (sym c.get-2.ensures.is ∙ c.if-get-ne0.false) (subst₂ (Fitting s) h.pages-is h.cells_is f)

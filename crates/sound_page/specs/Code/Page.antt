@@ -1,13 +1,12 @@
 -- A page's bytes, when they are sound. Assumes nothing.
-use Rattle.std.specs.Prelude.{Bool, List, [], ◌∷◌, ◌≡◌, ℕ, ◌<◌, length, eqb}
+use Rattle.std.specs.Prelude.{Bool, List, [], ◌∷◌, ℕ, ◌<◌, eqb}
 use Rattle.lists.specs.Lists.{every, same, sum}
 use Rattle.store.specs.Limits.{max_pages}
-use Rattle.store.specs.PageCode.{page_bytes, counts_in_page, page_room}
+use Rattle.store.specs.PageCode.{page_bytes, counts_in_page}
 use Rattle.store.specs.Code.Checked.{quiet}
 
--- what is handed to the functions on a page: the code of its cells, at the front of the bytes of eight cells, its sum and number, and N
-pub record HandedPage (code : List ℕ) (s p N : ℕ) : Type 0 where
-  pub long : length code ≡ page_room
+-- what is handed to the functions on a page, beside the code of its cells at the front of the bytes of eight cells: its sum and number, and N
+pub record HandedPage (s p N : ℕ) : Type 0 where
   pub small : s < 4294967296
   pub page : p < max_pages
   pub hours : N < 4294967296

@@ -1,8 +1,8 @@
 -- What the soundness check computes on its way along the bytes: the chains walked with marks, the tests of a page, the tests of the header.
 -- That together they say `sound` is the law `verdict`. Assumes nothing.
-use Rattle.std.specs.Prelude.{Option, Some, None, Bool, true, false, ◌&&◌, List, [], ◌∷◌, ◌++◌, ℕ, zero, suc, ◌+◌, ◌*◌, length, get_or, set, leb, ltb, eqb}
+use Rattle.std.specs.Prelude.{Option, Some, None, Bool, true, false, ◌&&◌, List, [], ◌∷◌, ◌++◌, ◌≡◌, ℕ, zero, suc, ◌+◌, ◌*◌, ◌≤◌, length, get_or, set, leb, ltb, eqb}
 use Rattle.lists.specs.Lists.{every, pick, same, sum, tabulate}
-use Rattle.bits.specs.Numbers.{number_at}
+use Rattle.bits.specs.Numbers.{Number, number_at}
 use Rattle.store.specs.Layout.{cell_at, cells_start, entry_at, header_length}
 use Rattle.store.specs.Limits.{max_cells, max_total, page_hours}
 use Rattle.store.specs.PageCode.{cells, page_bytes}
@@ -12,6 +12,15 @@ use Rattle.store.specs.Reading.{chain_in, code_in, page_in, page_count_of, sum_i
 -- a mark for each cell that a store may have, and one for 0, which is no cell
 abbrev pub marks_length : ℕ
 marks_length = suc max_cells
+
+-- c is one of C cells, and has no mark
+abbrev pub cell_test : ℕ → List ℕ → ℕ → Bool
+cell_test C m c = leb 1 c && (leb c C && eqb (get_or m c 0) 0)
+
+-- the cell that the link at a names, if it passes the test
+abbrev pub Unmarked : List ℕ → ℕ → List ℕ → ℕ → Option ℕ → Type 0
+Unmarked s C m a (Some c) = Number s a 2 c × (1 ≤ c) × (c ≤ C) × (cell_test C m c ≡ true)
+Unmarked s C m a None = cell_test C m (number_at s a 2) ≡ false
 
 -- a walk along chains: the marks that it leaves, or none, where it broke off at a fault
 abbrev pub Walk : Type 0

@@ -27,7 +27,7 @@ pub returns : goal.returns
 returns c =
     let a = c.args in
     rewritten-is a.s.now _ _ _ _ _ _ a.code.now a.base a.c.page _ a.c.old a.c.new _ _ a.c.sum a.hours
-    c.entry_at-entry.ensures c.link-free.ensures.is c.max-most.ensures
+    c.entry_at-entry.ensures c.get-free.ensures.is c.max-most.ensures
     c.join.ensures
     c.fill.ensures c.cut.ensures
     c.put.ensures

@@ -7,9 +7,9 @@ use Rattle.pages.proofs.sums.before.Goals as goal
 
 pub page_sums-requires : goal.page_sums-requires
 page_sums-requires c =
-    let f = facts c.args.s.now c.requires.0 in
-    omega (arith, f.pages-high, f.long, c.requires.1)
+    let f = facts c.args.s.bytes.now c.args.s.is_sound in
+    omega (arith, f.pages-high, f.long, c.requires)
 
 pub returns : goal.returns
 returns c =
-    c.page_sums.ensures ∙ sums-before c.args.s.now c.requires.0 c.args.p c.requires.1
+    c.page_sums.ensures ∙ sums-before c.args.s.bytes.now c.args.s.is_sound c.args.p c.requires

@@ -1,7 +1,6 @@
 -- `repair_pages::chain::mark_chain` meets its contract. Assumes nothing.
 use mathlib.Core.Path.{refl, ◌∙◌}
 use native.Mathlib.Omega.{arith}
-use lib.ListN.{length-set}
 use Rattle.repair_pages.proofs.ChainSteps.{all_left, kept_next, mark-next, mark-start, marks-end}
 use Rattle.repair_pages.proofs.chain.mark_chain.Goals as goal
 
@@ -12,7 +11,6 @@ loop-init c =
     let q = c.requires in
     record {
       inside = q.handed.link;
-      marks = q.handed.marks;
       kept = all_left e.bytes.now e.base e.count a.marks.now a.k a.a ∙ q.kept;
       marked = mark-start e.bytes.now e.base e.count a.marks.now a.k a.a;
     }
@@ -41,7 +39,6 @@ loop-preserved c =
     let w = kept_next e.bytes.now e.base e.count a.marks.now a.k l.counter c.link-c.ensures (omega arith) r.ensures.start l.invariant.kept in
     record {
       inside = omega arith;
-      marks = length-set l.marks c.link-c.result 1 ∙ l.invariant.marks;
       kept = w.2;
       marked = mark-next e.bytes.now e.base e.count a.marks.now a.k l.counter c.link-c.ensures (omega arith) r.ensures.start _ l.marks l.invariant.marked;
     }

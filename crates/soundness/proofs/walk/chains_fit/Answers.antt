@@ -1,18 +1,15 @@
 -- `soundness::walk::chains_fit` meets its contract. Assumes nothing.
-use mathlib.Core.Path.{◌≡◌, refl, sym, ap, ◌∙◌}
+use mathlib.Core.Path.{◌≡◌, refl, sym, ◌∙◌}
 use mathlib.Core.Bool.{Bool, true, false}
 use Prim.Native.Nat.{ℕ, ◌+◌}
 use native.Mathlib.Omega.{arith}
-use lib.ListN.{length, length-set}
 use borrow.Author.Tests.{ne_eqb}
 use Rattle.lists.specs.Lists.{pick}
 use Rattle.chains.proofs.Gathering.{gather-next, gather-end}
 use Rattle.sound_head.proofs.HeadTest.{bounds, headed}
-use Rattle.sound_free.proofs.CellTest.{cell_test, good-cell, met-cell, no_cell}
 use Rattle.soundness.proofs.ChainTest.{cell-broken, cell-next, chain-end, gather-start, page-broken, page-next, page-wrong, pages-end, pages-start, walk-start}
 use Rattle.soundness.proofs.walk.chains_fit.Goals as goal
-use Rattle.soundness.proofs.walk.chains_fit.Goals.{else-pages-test, then-pages-test+then-loop-j-test+then-not-has, then-pages-test+else-loop-j-test+then-link-ne0}
-use Rattle.soundness.proofs.walk.chains_fit.Goals.{then-not-has-via-then-not-has, then-not-has-via-else-not-has+then-marks-c-ne0}
+use Rattle.soundness.proofs.walk.chains_fit.Goals.{else-pages-test, then-pages-test+then-loop-j-test+in_default, then-pages-test+else-loop-j-test+then-link-ne0}
 use Rattle.soundness.proofs.walk.chains_fit.Goals.{then-link-ne0-via-then-link-ne0, then-link-ne0-via-else-link-ne0+then-not-page_fits}
 
 clash : (b : Bool) → b ≡ false → b ≡ true → ⊥
@@ -22,7 +19,7 @@ pub of-h-requires : goal.of-h-requires
 of-h-requires c = omega (arith, (headed c.args.s.now c.requires).fitting.long)
 
 pub pages-init : goal.pages-init
-pages-init c = record { marks = refl; room = refl; sound = refl; left = pages-start c.args.s.now c.of-h.result c.of-h.ensures }
+pages-init c = record { sound = refl; left = pages-start c.args.s.now c.of-h.result c.of-h.ensures }
 
 pub get-sum-requires-clause-in_bounds : goal.get-sum-requires-clause-in_bounds
 get-sum-requires-clause-in_bounds c =
@@ -32,19 +29,19 @@ get-sum-requires-clause-in_bounds c =
 pub invariant_of-cells : goal.invariant_of-cells
 invariant_of-cells c =
     let h = bounds c.args.s.now c.of-h.result c.requires c.of-h.ensures in
-    record { low = omega arith; size = omega arith; few = h.cells-high }
+    record { high = omega arith; low = omega arith; size = omega arith; few = h.cells-high }
 
 pub invariant_of-cells-in-pages : goal.invariant_of-cells-in-pages
 invariant_of-cells-in-pages c =
     let h = bounds c.args.s.now c.of-h.result c.requires c.of-h.ensures in
-    record { low = omega arith; size = omega arith; few = h.cells-high }
+    record { high = omega arith; low = omega arith; size = omega arith; few = h.cells-high }
 
 pub invariant_of-cells-then-ok : goal.invariant_of-cells-then-ok
 invariant_of-cells-then-ok c =
     let h = bounds c.args.s.now c.of-h.result c.requires c.of-h.ensures in
     elim c.pages-test.branch [
-      | else-pages-test w ↦ rw w.cells-is (record { low = omega arith; size = omega arith; few = h.cells-high })
-      | then-pages-test+then-loop-j-test+then-not-has w ↦ absurd (clash _ w.ok-is c.if-ok.true)
+      | else-pages-test w ↦ rw w.cells-is (record { high = omega arith; low = omega arith; size = omega arith; few = h.cells-high })
+      | then-pages-test+then-loop-j-test+in_default w ↦ absurd (clash _ w.ok-is c.if-ok.true)
       | then-pages-test+else-loop-j-test+then-link-ne0 w ↦ absurd (clash _ w.ok-is c.if-ok.true)
     ]
 
@@ -56,8 +53,6 @@ loop-j-init c =
     let k = c.cells_of-k.result in
     let a = c.entry_at-entry.result + 4 in
     record {
-      marks = i.marks;
-      room = i.room;
       sound = i.sound;
       inside = omega arith;
       walk = walk-start s c.cells_from-base.result c.of-h.result.cells k a c.pages.marks;
@@ -71,17 +66,14 @@ loop-j-preserved c =
     let count = c.of-h.result.cells in
     let k = c.cells_of-k in
     let l = c.loop-j in
-    let d = c.link-c in
+    let d = c.in-Some.ensures in
     let r = c.at-at in
-    let good = good-cell count d.result l.marks (omega arith) (omega arith) c.if-marks-c-ne0.false in
     record {
-      marks = length-set l.marks d.result 1 ∙ l.invariant.marks;
-      room = c.put_block.auto.s ∙ l.invariant.room;
       sound = l.invariant.sound;
       inside = omega arith;
-      walk = l.invariant.walk ∙ cell-next s base count k.result l.j l.marks d.ensures (omega arith) r.ensures.start good;
+      walk = l.invariant.walk ∙ cell-next s base count k.result l.j l.marks d.0 (omega arith) r.ensures.start d.3;
       gathered =
-          gather-next s base _ k.result l.j d.ensures (omega arith) r.ensures.start l.code c.put_block.new.s (omega (arith, k.ensures.1))
+          gather-next s base _ k.result l.j d.0 (omega arith) r.ensures.start l.code c.put_block.new.s (omega (arith, k.ensures.1))
           r.ensures.inside (rw c.code.ensures.part at c.put_block.ensures) l.invariant.gathered;
     }
 
@@ -89,7 +81,6 @@ pub page_fits-requires : goal.page_fits-requires
 page_fits-requires c =
     let h = bounds c.args.s.now c.of-h.result c.requires c.of-h.ensures in (
       record {
-        long = c.loop-j.invariant.room;
         small = omega (arith, c.get-sum.ensures.small);
         page = omega arith;
         hours = c.of-h.ensures.hours-small;
@@ -105,8 +96,6 @@ pages-preserved c =
     let o = c.pages in
     let l = c.loop-j in
     record {
-      marks = l.invariant.marks;
-      room = l.invariant.room;
       sound = l.invariant.sound;
       left =
           o.invariant.left
@@ -127,7 +116,7 @@ returns-then-ok c =
           rw (w.cells-is, w.marks-is) at c.free_fits.ensures
           ∙ pages-end c.args.s.now h.pages h.cells h.hours o.p o.marks (omega (arith, w.pages-test.false)) c.cells_from-base.ensures
           ∙ sym o.invariant.left
-      | then-pages-test+then-loop-j-test+then-not-has w ↦ absurd (clash _ w.ok-is c.if-ok.true)
+      | then-pages-test+then-loop-j-test+in_default w ↦ absurd (clash _ w.ok-is c.if-ok.true)
       | then-pages-test+else-loop-j-test+then-link-ne0 w ↦ absurd (clash _ w.ok-is c.if-ok.true)
     ]
 
@@ -140,17 +129,13 @@ returns-else-ok c =
     let o = c.pages in
     elim c.pages-test.branch [
       | else-pages-test w ↦ absurd (clash _ c.if-ok.false (w.ok-is ∙ o.invariant.sound))
-      | then-pages-test+then-loop-j-test+then-not-has w ↦
-          let m = w.loop-j.marks in
-          let d = w.link-c in
-          let bad : cell_test h.cells m d.result ≡ false = elim w.then-not-has.branch [
-            | then-not-has-via-then-not-has t ↦ no_cell h.cells d.result m t.if-not-has.ensures.value
-            | then-not-has-via-else-not-has+then-marks-c-ne0 t ↦ met-cell h.cells d.result m t.if-marks-c-ne0.true
-          ] in
+      | then-pages-test+then-loop-j-test+in_default w ↦
+          let l = w.loop-j in
           w.ok-is
           ∙ page-broken s h.pages h.cells h.hours o.p o.marks (omega (arith, w.pages-test.true)) base.ensures
           w.entry_at-entry.ensures w.get-sum.ensures w.cells_of-k.ensures.0
-          (w.loop-j.invariant.walk ∙ cell-broken s base.result h.cells w.cells_of-k.result w.loop-j.j m d.ensures (omega (arith, w.loop-j-test.true)) bad)
+          (l.invariant.walk
+          ∙ cell-broken s base.result h.cells w.cells_of-k.result l.j l.marks l.at (omega (arith, w.loop-j-test.true)) w.in_default.ensures)
           ∙ sym o.invariant.left
       | then-pages-test+else-loop-j-test+then-link-ne0 w ↦
           let l = w.loop-j in

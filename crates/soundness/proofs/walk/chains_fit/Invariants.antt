@@ -5,9 +5,8 @@ use mathlib.Core.Bool.{true}
 use Prim.Native.Nat.{◌+◌, ◌-◌, ◌≤◌}
 use lib.ListN.{length}
 use Rattle.bits.specs.Numbers.{number_at}
-use Rattle.store.specs.PageCode.{page_room}
 use Rattle.store.specs.Reading.{chain_from, code_in}
-use Rattle.store.specs.Code.Checked.{marks_length, walk_marks}
+use Rattle.store.specs.Code.Checked.{walk_marks}
 use Rattle.soundness.specs.Code.Chains.{all_chains_fit}
 use Rattle.chains.proofs.Gathering.{SoFar}
 use Rattle.soundness.proofs.ChainTest.{pages_on}
@@ -15,8 +14,6 @@ use Rattle.soundness.proofs.walk.chains_fit.Given as goal
 
 abbrev pub invariant-loop-j : goal.invariant-loop-j
 invariant-loop-j l = record {
-  marks : length l.marks ≡ marks_length;
-  room : length l.code ≡ page_room;
   sound : l.ok ≡ true;
   inside : l.at + 2 ≤ length l.s;
   walk : walk_marks l.s l.base l.h.cells l.k l.initial.marks l.initial.at
@@ -26,8 +23,6 @@ invariant-loop-j l = record {
 
 abbrev pub invariant-pages : goal.invariant-pages
 invariant-pages l = record {
-  marks : length l.marks ≡ marks_length;
-  room : length l.code ≡ page_room;
   sound : l.ok ≡ true;
   left : all_chains_fit l.s ≡ pages_on l.s l.h.pages l.h.cells l.h.hours l.p l.marks;
 }

@@ -10,11 +10,10 @@ use Rattle.store.proofs.total.total.Goals as goal
 
 pub page_sums-requires : goal.page_sums-requires
 page_sums-requires c =
-    let f = facts c.args.s.now c.requires.0 in
-    (omega (arith, c.requires.1, f.pages-high), omega (arith, c.requires.1, f.long))
+    let f = facts c.args.s.bytes.now c.args.s.is_sound in
+    (omega (arith, c.requires, f.pages-high), omega (arith, c.requires, f.long))
 
 pub returns : goal.returns
 returns c =
-    let a = c.args in
-    let q = c.requires in
-    c.page_sums.ensures ∙ ap (λ (z : ℕ). sum (tabulate z (sum_in a.s.now))) q.1 ∙ total-all a.s.now q.0
+    let s = c.args.s in
+    c.page_sums.ensures ∙ ap (λ (z : ℕ). sum (tabulate z (sum_in s.bytes.now))) c.requires ∙ total-all s.bytes.now s.is_sound

@@ -1,4 +1,4 @@
--- `pages::gather::copy_chain` meets its contract. The loop's invariant: what the bytes will be in the end is what they are once the codes
+-- `pages::entry::copy_chain` meets its contract. The loop's invariant: what the bytes will be in the end is what they are once the codes
 -- of the cells that are left are put behind those that were copied. Assumes nothing.
 use mathlib.Core.Path.{◌≡◌}
 use Prim.Native.Nat.{◌-◌, ◌*◌}
@@ -6,7 +6,7 @@ use lib.ListN.{length}
 use Rattle.lists.specs.Lists.{splice}
 use Rattle.store.specs.Code.Links.{Steps}
 use Rattle.pages.specs.Gathered.{code_from}
-use Rattle.pages.proofs.gather.copy_chain.Given as goal
+use Rattle.pages.proofs.entry.copy_chain.Given as goal
 
 abbrev pub invariant-loop-j : goal.invariant-loop-j
 invariant-loop-j l =

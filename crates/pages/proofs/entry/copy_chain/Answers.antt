@@ -1,4 +1,4 @@
--- `pages::gather::copy_chain` meets its contract. The loop's invariant: what the bytes will be in the end is what they are once the codes
+-- `pages::entry::copy_chain` meets its contract. The loop's invariant: what the bytes will be in the end is what they are once the codes
 -- of the cells that are left are put behind those that were copied. Assumes nothing.
 use mathlib.Core.Path.{◌≡◌, refl, sym, ◌∙◌}
 use Prim.Native.Nat.{◌+◌, ◌-◌, ◌*◌}
@@ -6,7 +6,7 @@ use native.Mathlib.Omega.{arith}
 use Rattle.lists.proofs.Parts.{length_part}
 use Rattle.chains.proofs.LinkSteps.{step_of}
 use Rattle.pages.proofs.Gathering.{all-copied, turned}
-use Rattle.pages.proofs.gather.copy_chain.Goals as goal
+use Rattle.pages.proofs.entry.copy_chain.Goals as goal
 
 pub loop-j-init : goal.loop-j-init
 loop-j-init c =
