@@ -1,30 +1,17 @@
 // The live calls on a store's bytes. Each turns a store that is not sound down first, and then answers as the store's list does.
+// `sound(s)?` stands in all nine: a function that takes the call as a closure would make each longer.
 #![tactic(auto)]
 
-ghost use Rattle.std.specs.Prelude.{◌≡◌, MatchResult};
-ghost use Rattle.store.specs.Plain.{Append, Call, Count, Day, Free, Insert, Reach, Reading, Set, Strike};
+ghost use Rattle.store.specs.Plain.{Append, Count, Day, Free, Insert, Reach, Reading, Set, Strike};
 ghost use Rattle.store.specs.Call.{Called};
 ghost use Rattle.store.specs.Reading.{list_in};
 ghost use Rattle.coin_cost.specs.Cost.{TakesAtMost, cells_for, gain};
-ghost use Rattle.answers.specs.Store.{refused, told_change, told_number};
-ghost use Rattle.answers.specs.Number.{number};
+ghost use Rattle.answers.specs.Store.{told_change, told_number};
 
 use answers::refusal::Refusal;
 use answers::store::Change;
 use live_move::edit;
-use live_page::sound::Sound;
-use soundness::check;
-
-// The store, if it is sound; else it is turned down, whatever is asked of it.
-fn sound(s: &[u8]) -> Result<Sound, Refusal>
-    ensures { MatchResult result (λ t. t.bytes.now ≡ s.now) (λ r. (c : Call) → Called c s.now (refused (number r)) s.now) }
-{
-    if check(s) {
-        Ok(Sound { bytes: s })
-    } else {
-        Err(Refusal::Unsound)
-    }
-}
+use soundness::sound;
 
 // Appends the count of the next hour. For v coins it takes at most ceil(v / 40) cells, or eight if that is less.
 pub fn append(s: &mut [u8], v: u32) -> Result<Change, Refusal>

@@ -11,6 +11,7 @@ use answers::refusal::Refusal;
 use answers::store::Change;
 use live_hour::change_hour;
 use store::header::Header;
+use store::sound::Sound;
 use store::total::total;
 
 // Appends v to the list of a sound store.
@@ -22,8 +23,9 @@ pub fn append(s: &mut [u8], v: u32) -> Result<Change, Refusal>
     if Header::HOURS * head.pages <= head.hours {
         return Err(Refusal::Full);
     }
-    // The count that is there is 0: the total is known before the page is read.
-    if Header::MAX_TOTAL < total(s, head.pages) + v as u64 {
+    // The count that is there is 0: the total is known before the page is read. live_move::edit::insert tests the same: a function for both
+    // would have to promise what either answer means, in more lines than the tests have.
+    if Header::MAX_TOTAL < total(Sound { bytes: s }, head.pages) + u64::from(v) {
         return Err(Refusal::Total);
     }
     change_hour(s, head.hours, v, head.hours + 1)

@@ -6,11 +6,12 @@ ghost use Rattle.store.specs.Call.{Called};
 ghost use Rattle.answers.specs.Store.{told_number};
 
 use answers::refusal::Refusal;
-use live_page::sound::Sound;
 use live_query::reading_in;
 use store::header::Header;
+use store::sound::Sound;
 
-// Starts and ends are in 64 bits, where nothing wraps: an end that is logged is an index.
+// The sum of the counts of day d, where changes gives days their hours that have not 24. Starts and ends are in 64 bits, where nothing
+// wraps: an end that is logged is an index.
 pub fn day(s: Sound, d: u32, changes: &[u32]) -> Result<u64, Refusal>
     ensures { Called (Day d changes.now) s.entry.bytes.now (told_number result) s.entry.bytes.now }
 {

@@ -8,13 +8,15 @@ ghost use Rattle.answers.specs.Store.{told_change};
 
 use answers::refusal::Refusal;
 use answers::store::Change;
-use bits::numbers::get;
 use chains::rewrite::{PageChange, rewrite};
 use pages::code::code_of;
-use pages::counts::counts_at;
+use pages::entry::entry_of;
 use store::cells::cells_of;
-use store::header::{Header, cells_from, entry_at};
+use store::header::Header;
+use store::sound::Sound;
+use store::spot::Spot;
 use store::total::total;
+use sum_table::SumTable;
 
 // Makes the count of hour i v in a sound store, whose number of hours becomes the one given. The page's cells are worked out once for the
 // old sum and once for the new one, and nothing is written before they are known to suffice.
@@ -23,34 +25,32 @@ pub fn change_hour(s: &mut [u8], i: usize, v: u32, hours: usize) -> Result<Chang
     ensures { Changes s.old i v (told_change result) s.new }
 {
     let head = Header::of(s);
-    let base = cells_from(head.pages);
-    let p = i / Header::HOURS;
-    let j = i % Header::HOURS;
-    let before = get::<4>(s, entry_at(p));
-    let old = cells_of(before);
-    let mut counts = counts_at(s, base, p, before, old);
-    let was = counts[j];
-    let all = total(s, head.pages);
-    if Header::MAX_TOTAL < all - was as u64 + v as u64 {
+    let spot = Spot::of(i);
+    let entry = entry_of(Sound { bytes: s }, spot.page);
+    let base = entry.base;
+    let before = entry.sum;
+    let old = entry.cells;
+    let mut counts = entry.counts(&SumTable::new());
+    let was = u64::from(counts[spot.index]);
+    let count = u64::from(v);
+    let all = total(Sound { bytes: s }, head.pages);
+    if Header::MAX_TOTAL < all - was + count {
         return Err(Refusal::Total);
     }
-    let after = before - was as u64 + v as u64;
+    let after = before - was + count;
     let new = cells_of(after);
     let room = old + head.free;
     if room < new {
         return Err(Refusal::Cells);
     }
-    counts[j] = v;
+    counts[spot.index] = v;
     let code = code_of(counts, after);
     let change = PageChange {
-        page: p,
+        page: spot.page,
         old,
         new,
         sum: after,
     };
     rewrite(s, base, change, &code, hours);
-    Ok(Change {
-        taken: new.saturating_sub(old) as u64,
-        returned: old.saturating_sub(new) as u64,
-    })
+    Ok(Change::between(old, new))
 }

@@ -1,6 +1,6 @@
 -- Insert and strike, in the numbers that the code has. Assumes nothing.
 use mathlib.Core.Path.{◌≡◌, refl, sym, ap, ◌∙◌}
-use mathlib.Core.Bool.{true, false}
+use mathlib.Core.Bool.{true}
 use mathlib.Core.List.{List}
 use Prim.Native.Nat.{ℕ, ◌+◌, ◌-◌, ◌*◌, ◌/◌, ◌%◌, ◌≤◌, ◌<◌}
 use native.Mathlib.Omega.{arith}
@@ -11,7 +11,7 @@ use Rattle.answers.specs.Store.{Answer, refused}
 use Rattle.store.specs.Limits.{max_total}
 use Rattle.store.specs.Plain.{Call, Insert, Outcome, Plain, Strike, change, inserted, page, step, struck}
 use Rattle.store.specs.Layout.{bytes_of}
-use Rattle.store.specs.Reading.{list_in, page_count_of, read}
+use Rattle.store.specs.Reading.{list_in, read}
 use Rattle.store.specs.Sound.{sound}
 use Rattle.store.specs.Call.{Called, after, settle}
 use Rattle.store.specs.Code.Head.{HeadOf}
@@ -20,7 +20,6 @@ use Rattle.store.proofs.CallLaws.{refused_as, sound-call}
 use Rattle.store.proofs.ChangeLaws.{change-over}
 use Rattle.store.proofs.Inserting.{length_inserted, length-struck, sum-inserted, sum-struck}
 use Rattle.store.proofs.SoundFacts.{Facts, facts}
-use Rattle.move_counts.specs.declared.Edit.{Edit}
 use Rattle.move_counts.specs.declared.Edit.TheVariants.{Insert as Inserts, Strike as Strikes}
 use Rattle.move_counts.specs.Code.Turned.{turned}
 use Rattle.move_plan.specs.declared.shift.Shift.{Shift}
@@ -81,9 +80,6 @@ module _ {s : List ℕ} (i v : ℕ) (e : sound s ≡ true) {H : Header} (hd : He
 
   pub header-in : 16 ≤ length s
   header-in = omega (arith, f.long)
-
-  pub total-asks : (sound s ≡ true) × (H.pages ≡ page_count_of s)
-  total-asks = (e, hd.pages-is)
 
   pub total-low : {all : ℕ} → all ≡ sum xs → all ≤ max_total
   total-low a = omega (arith, a, f.total-fits)

@@ -11,6 +11,8 @@ use answers::store::Change;
 use move_counts::Edit;
 use move_plan::shift::Shift;
 use store::header::Header;
+use store::sound::Sound;
+use store::spot::Spot;
 use store::total::total;
 
 // Inserts v before hour i.
@@ -24,16 +26,18 @@ pub fn insert(s: &mut [u8], i: u32, v: u32) -> Result<Change, Refusal>
     if hours < hour {
         return Err(Refusal::Hour);
     }
+    // Tests for Full and Total as live_change::append does, which says why no function serves both.
     if Header::HOURS * head.pages <= hours {
         return Err(Refusal::Full);
     }
-    if Header::MAX_TOTAL < total(s, head.pages) + v as u64 {
+    if Header::MAX_TOTAL < total(Sound { bytes: s }, head.pages) + u64::from(v) {
         return Err(Refusal::Total);
     }
+    let spot = Spot::of(hour);
     let shift = Shift {
         edit: Edit::Insert(v),
-        first: hour / Header::HOURS,
-        at: hour % Header::HOURS,
+        first: spot.page,
+        at: spot.index,
         end: hours / Header::HOURS + 1,
     };
     carry_out(s, shift, hours + 1)
@@ -50,10 +54,11 @@ pub fn strike(s: &mut [u8], i: u32) -> Result<Change, Refusal>
     if hours <= hour {
         return Err(Refusal::Hour);
     }
+    let spot = Spot::of(hour);
     let shift = Shift {
         edit: Edit::Strike,
-        first: hour / Header::HOURS,
-        at: hour % Header::HOURS,
+        first: spot.page,
+        at: spot.index,
         end: (hours - 1) / Header::HOURS + 1,
     };
     carry_out(s, shift, hours - 1)

@@ -12,33 +12,33 @@ ghost use Rattle.live_search.specs.Code.Search.{Spots};
 use answers::refusal::Refusal;
 use bits::numbers::get;
 use live_page::search_page;
-use live_page::sound::Sound;
+use pages::entry::entry_of;
 use store::header::{Header, entry_at};
-use store::link::link;
+use store::sound::Sound;
 use store::total::total;
 
 // A page, and what of a figure is left when the pages before it are passed.
 #[derive(Clone, Copy)]
-struct Spot {
+struct Stop {
     page: usize,
     rest: u64,
 }
 
-// The page in which q is reached, and what is left of q there.
-fn page_of(s: Sound, q: u64) -> Spot
+// The page in which q is reached, and what is left of q there, which is 1 or more as q is.
+fn page_of(s: Sound, q: u64) -> Stop
     requires { (1 ≤ q) × (q ≤ sum (list_in s.bytes.now)) }
     ensures { Spots (list_in s.entry.bytes.now) (page_count_of s.entry.bytes.now) q result.page result.rest }
 {
     let mut page = 0;
     let mut before = 0;
     let mut all = get::<4>(s.bytes, entry_at(0));
-    // How many pages are passed is known only where q is reached.
+    // Stops in the page in which q is reached, which there is: behind a `for` there would stand a case that never comes.
     while before + all < q {
         before += all;
         page += 1;
         all = get::<4>(s.bytes, entry_at(page));
     }
-    Spot {
+    Stop {
         page,
         rest: q - before,
     }
@@ -52,15 +52,18 @@ fn reach_in(s: Sound, q: u64) -> u64
     if q == 0 {
         return 0;
     }
-    let spot = page_of(s, q);
-    search_page(s, spot.page, spot.rest, (Header::HOURS * spot.page) as u64)
+    let stop = page_of(s, q);
+    let first = (Header::HOURS * stop.page) as u64;
+    search_page(&entry_of(s, stop.page), stop.rest, first)
 }
 
+// The least index whose reading is q or more, which the total is not below.
 pub fn reach(s: Sound, q: u32) -> Result<u64, Refusal>
     ensures { Called (Reach q) s.entry.bytes.now (told_number result) s.entry.bytes.now }
 {
-    if total(s.bytes, link(s.bytes, 2)) < q as u64 {
+    let q = u64::from(q);
+    if total(s, Header::of(s.bytes).pages) < q {
         return Err(Refusal::Figure);
     }
-    Ok(reach_in(s, q as u64))
+    Ok(reach_in(s, q))
 }

@@ -7,12 +7,12 @@ use bits::numbers::get;
 use chains::rewrite::{PageChange, rewrite};
 use move_counts::{Edit, leaves_at, turn};
 use pages::code::code_of;
-use pages::counts::counts_in;
+use pages::entry::Entry;
 use store::header::entry_at;
 use sum_table::SumTable;
 
-// A page that moves: its number, what is done, the index from which its counts move, the count that comes in, and the cells that it has and is
-// to have.
+// A page that moves: its number, what is done, the index from which its counts move, the count that comes in, and the cells that it has and
+// is to have.
 #[derive(Clone, Copy)]
 pub struct PageMove {
     pub page: usize,
@@ -23,8 +23,8 @@ pub struct PageMove {
     pub new: usize,
 }
 
-// Moves the page's counts by one place. Between two pages the header says 64 hours for each page: so none is cut off. The table of small sums is
-// lent, as many pages move.
+// Moves the page's counts by one place. Between two pages the header says 64 hours for each page: so none is cut off. The table of small
+// sums is lent, as many pages move.
 pub fn move_page(s: &mut [u8], base: usize, c: PageMove, hours: usize, table: &SumTable)
     requires { Movable s.old base c hours }
     ensures { Moved s.old c s.new }
@@ -33,9 +33,16 @@ pub fn move_page(s: &mut [u8], base: usize, c: PageMove, hours: usize, table: &S
     let at = c.at;
     let old = c.old;
     let before = get::<4>(s, entry_at(page));
-    let mut counts = counts_in(s, base, page, before, old, table);
+    let entry = Entry {
+        bytes: s,
+        base,
+        page,
+        sum: before,
+        cells: old,
+    };
+    let mut counts = entry.counts(table);
     let leaves = leaves_at(c.edit, at);
-    let sum = before - counts[leaves] as u64 + c.count as u64;
+    let sum = before - u64::from(counts[leaves]) + u64::from(c.count);
     turn(&mut counts, c.edit, at, c.count);
     let code = code_of(counts, sum);
     let change = PageChange {

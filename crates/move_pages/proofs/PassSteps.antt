@@ -32,7 +32,6 @@ use Rattle.move_page.specs.Code.Move.{Movable, Moved, counts_after}
 use Rattle.move_plan.specs.declared.shift.Shift.{Shift}
 use Rattle.move_pages.specs.declared.Plan.{Plan}
 use Rattle.move_plan.specs.Code.Plan.{comes_to, near, shifted}
-use Rattle.move_plan.proofs.PlanSteps.{asked-few, had-few}
 use Rattle.move_plan.proofs.Shifting.{near-low}
 use Rattle.move_pages.specs.Code.Pass.{Enough, Settles, Stands}
 
@@ -173,17 +172,12 @@ module _ {z : List ℕ} {plan : Plan} (h : Enough z plan) where
         ∙ ap (λ (n : ℕ). bytes_of (moving late w₀ ys n)) (sym (add-one p))
 
     -- the same from the cells in the arrays
-    pub due-at : Due late (get_or old p 0) (get_or new p 0) → Due late (wanted xs p) (wanted ys p)
-    due-at d = subst₂ (Due late) (h.had p lo hi) (h.asked p lo hi) d
+    module _ {o n : ℕ} (eo : o ≡ get_or old p 0) (en : n ≡ get_or new p 0) where
+      pub due-at : Due late o n → Due late (wanted xs p) (wanted ys p)
+      due-at d = subst₂ (Due late) (eo ∙ h.had p lo hi) (en ∙ h.asked p lo hi) d
 
-    pub stays_at : NotDue late (get_or old p 0) (get_or new p 0) → Stands z m late (p + 1) s
-    stays_at d = stays_on (subst₂ (NotDue late) (h.had p lo hi) (h.asked p lo hi) d)
-
-  pub had-low : (p : ℕ) → m.first ≤ p → p < m.end → get_or old p 0 ≤ 8
-  had-low p lo hi = omega (arith, h.had p lo hi, had-few h.shiftable p)
-
-  pub asked_low : (p : ℕ) → m.first ≤ p → p < m.end → get_or new p 0 ≤ 8
-  asked_low p lo hi = omega (arith, h.asked p lo hi, asked-few h.shiftable p)
+      pub stays_at : NotDue late o n → Stands z m late (p + 1) s
+      stays_at d = stays_on (subst₂ (NotDue late) (eo ∙ h.had p lo hi) (en ∙ h.asked p lo hi) d)
 
   pub coming-asks : (p : ℕ) → m.first ≤ p → p < m.end → (m.first ≤ p) × (p < m.end) × (m.end ≤ length leaving)
   coming-asks p lo hi = (lo, hi, h.leaving-long)

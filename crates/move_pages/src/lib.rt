@@ -1,5 +1,5 @@
-// The pages that move, in two passes, the lowest page first: in the first pass those that do not grow, so that every page that shrinks has given
-// its cells back before a page of the late pass takes some.
+// The pages that move, in two passes, the lowest page first: in the first pass those that do not grow, so that every page that shrinks has
+// given its cells back before a page of the late pass takes some.
 #![tactic(auto)]
 
 ghost use Rattle.std.specs.Prelude.{◌≡◌, ◌+◌, ◌≤◌, ◌<◌, length};
@@ -12,8 +12,9 @@ use move_page::{PageMove, move_page};
 use move_plan::shift::Shift;
 use sum_table::SumTable;
 
-// What is worked out before anything is written: where the cells start, the shift, and for each page, at its number, the count that leaves it
-// and the cells that it has and is to have. Meanwhile the header says that all the hours of all pages are logged, so that no page is cut off.
+// What is worked out before anything is written: where the cells start, the shift, and for each page, at its number, the count that leaves
+// it and the cells that it has and is to have. Meanwhile the header says that all the hours of all pages are logged, so that no page is cut
+// off.
 #[derive(Clone, Copy)]
 pub struct Plan<'a> {
     pub base: usize,
@@ -25,13 +26,14 @@ pub struct Plan<'a> {
 }
 
 // Page p in its turn: one that grows is due in the late pass, any other in the first. The store is one between two pages of the shift.
+// late is the Bool of store's definition `moving`, by which the laws say what each pass leaves; no enum says it.
 fn pass_page(s: &mut [u8], plan: Plan, late: bool, p: usize, table: &SumTable)
     requires { Some plan late p s.old × (plan.shift.first ≤ p) × (p < plan.shift.end) }
     ensures { PassTo plan.entry late p (λ _. p + 1) s.old s.new }
 {
-    let has = plan.old[p] as usize;
-    let gets = plan.new[p] as usize;
-    if late != (has < gets) {
+    let old = usize::from(plan.old[p]);
+    let new = usize::from(plan.new[p]);
+    if late != (old < new) {
         return;
     }
     let change = PageMove {
@@ -39,8 +41,8 @@ fn pass_page(s: &mut [u8], plan: Plan, late: bool, p: usize, table: &SumTable)
         edit: plan.shift.edit,
         at: plan.shift.near(p),
         count: plan.shift.coming(plan.leaving, p),
-        old: has,
-        new: gets,
+        old,
+        new,
     };
     move_page(s, plan.base, change, plan.all, table);
 }

@@ -11,17 +11,16 @@ use Rattle.lists.proofs.Sums.{sum-most, sum-next}
 use Rattle.lists.proofs.Tables.{tabulate-ext}
 use Rattle.bits.specs.Numbers.{number_at}
 use Rattle.store.specs.Limits.{max_pages, max_total}
-use Rattle.store.specs.Layout.{cells_start, entry_at}
+use Rattle.store.specs.Layout.{entry_at}
 use Rattle.store.specs.PageCode.{cells}
 use Rattle.store.specs.Plain.{need, page}
 use Rattle.store.specs.Reading.{list_in, page_count_of}
 use Rattle.store.specs.Settle.{wanted}
-use Rattle.store.specs.Code.Hours.{OfPage}
 use Rattle.store.proofs.Holds.{page-length}
 use Rattle.store.proofs.HourLaws.{get_d_le}
 use Rattle.store.proofs.PageCodeLaws.{cells-most}
 use Rattle.store.proofs.ReadBack.{page-le}
-use Rattle.store.proofs.SoundFacts.{Facts, facts, sound-holds, sum-read}
+use Rattle.store.proofs.SoundFacts.{Facts, facts, sum-read}
 use Rattle.move_counts.specs.Code.Turned.{leaving_index}
 use Rattle.move_counts.proofs.Turning.{turned-sum}
 use Rattle.move_plan.specs.declared.shift.Shift.{Shift}
@@ -67,21 +66,6 @@ module _ {s : List ℕ} {m : Shift} (h : Shiftable s m) where
   module _ {p e r : ℕ} (lp : p < m.end) (ee : e ≡ entry_at p) (er : r ≡ number_at s e 4) where
     sum-page : r ≡ sum (page xs p)
     sum-page = sum-read s p _ _ ee er ∙ f.sums p (omega (arith, h.inside))
-
-    pub sum_fits : r ≤ max_total
-    sum_fits = omega (arith, sum-page, page-le xs p, f.total-fits)
-
-    pub of-page : {base k : ℕ} → base ≡ cells_start (page_count_of s) → k ≡ cells r → OfPage s base p r k
-    of-page eb ek = record {
-      holds = sound-holds s h.is-sound;
-      base-is = eb;
-      inside = omega (arith, h.inside);
-      sum_is = sum-read s p _ _ ee er;
-      cells_is = ek;
-    }
-
-    pub cells-had : {k : ℕ} → k ≡ cells r → k ≡ wanted xs p
-    cells-had ek = ek ∙ ap cells sum-page
 
     -- a count leaves, a count comes in
     module _ (lo : m.first ≤ p) (leaving : List ℕ) (hl : Leaves m xs leaving m.end) {c : ℕ} (ec : c ≡ comes_to m leaving p) where

@@ -25,10 +25,11 @@ pub fn size_up(s: &[u8], m: Shift, leaving: &[u32], old: &[u8], new: &mut [u8]) 
     let mut had = 0;
     let mut asked = 0;
     for p in m.first..m.end {
-        let sum = get::<4>(s, entry_at(p)) - leaving[p] as u64 + m.coming(leaving, p) as u64;
+        let sum = get::<4>(s, entry_at(p)) - u64::from(leaving[p])
+            + u64::from(m.coming(leaving, p));
         let k = cells_of(sum);
         new[p] = k as u8;
-        had += old[p] as usize;
+        had += usize::from(old[p]);
         asked += k;
     }
     Cells { had, asked }

@@ -4,7 +4,8 @@ ghost use Rattle.store.specs.Limits.{page_hours};
 
 use move_counts::Edit;
 
-// What is done to the hour, its page, its index in it, and the page behind the last that moves.
+// What is done to the hour, its page, its index in it, and the page behind the last that moves. That a sound store can make it, Shiftable,
+// stands in the contracts and in no field: the call that carries it out writes the store's bytes.
 #[derive(Clone, Copy)]
 pub struct Shift {
     pub edit: Edit,

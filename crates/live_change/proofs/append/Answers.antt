@@ -14,11 +14,12 @@ returns-then-head c =
 
 pub overflow_add-total : goal.overflow_add-total
 overflow_add-total c =
-    omega (arith, c.total.ensures, (facts c.args.s.now c.requires).total-fits, c.ranges.v)
+    omega (arith, c.total.ensures, (facts c.args.s.now c.requires).total-fits, c.from.ensures, c.ranges.v)
 
-pub returns-then-total-v-gt-MAX_TOTAL : goal.returns-then-total-v-gt-MAX_TOTAL
-returns-then-total-v-gt-MAX_TOTAL c =
-    append-3 c.args.v c.requires c.of-head.ensures c.if-head.false c.total.ensures c.if-total-v-gt-MAX_TOTAL.true
+pub returns-then-total-from-gt-MAX_TOTAL : goal.returns-then-total-from-gt-MAX_TOTAL
+returns-then-total-from-gt-MAX_TOTAL c =
+    append-3 c.args.v c.requires c.of-head.ensures c.if-head.false c.total.ensures
+    (omega (arith, c.from.ensures, c.if-total-from-gt-MAX_TOTAL.true))
 
 pub change_hour-requires : goal.change_hour-requires
 change_hour-requires c =

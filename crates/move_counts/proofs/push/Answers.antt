@@ -22,10 +22,10 @@ pub returns : goal.returns
 returns c =
     let l = c.loop-count in
     let x : List ℕ = c.args.counts.now in
-    let few : length (drop c.args.j x) ≡ length x - c.args.j = length-drop c.args.j x in
-    let rest : drop (length x - c.args.j) (drop c.args.j x) ≡ [] = drop_of_length-le (drop c.args.j x) (omega arith) in
+    let few : length (drop c.args.j x) ≡ 64 - c.args.j = omega (arith, length-drop c.args.j x) in
+    let rest : drop (64 - c.args.j) (drop c.args.j x) ≡ [] = drop_of_length-le (drop c.args.j x) (omega arith) in
     ap (λ (z : List ℕ). take c.args.j x ++ (l.count-items ++ z)) rest
     ∙ ap (λ (z : List ℕ). take c.args.j x ++ z) (append-nil l.count-items)
-    ∙ hand-last x l.count-items c.args.j c.args.v l.count-index l.next c.requires.0 c.requires.1
-    (omega (arith, length-take (length x - c.args.j) (drop c.args.j x))) (omega arith)
-    (l.invariant ∙ ap (λ (z : List ℕ). c.args.v ∷ z) (take_all (length x - c.args.j) (drop c.args.j x) (omega arith)))
+    ∙ hand-last x l.count-items c.args.j c.args.v l.count-index l.next (omega arith) c.requires
+    (omega (arith, length-take (64 - c.args.j) (drop c.args.j x))) (omega arith)
+    (l.invariant ∙ ap (λ (z : List ℕ). c.args.v ∷ z) (take_all (64 - c.args.j) (drop c.args.j x) (omega arith)))

@@ -1,7 +1,6 @@
 -- `live_move::carry::carry_out` meets its contract. Assumes nothing.
-use mathlib.Core.Path.{refl, ap, ◌∙◌}
+use mathlib.Core.Path.{refl}
 use native.Mathlib.Omega.{arith}
-use Rattle.store.specs.Layout.{cells_start}
 use Rattle.move_plan.proofs.PlanSteps.{pages-few}
 use Rattle.live_move.proofs.CarrySteps.{carried-12, carried-now, enough-now, header-in, sum-few}
 use Rattle.live_move.proofs.carry.carry_out.Goals as goal
@@ -9,13 +8,13 @@ use Rattle.live_move.proofs.carry.carry_out.Goals as goal
 pub of-head-requires : goal.of-head-requires
 of-head-requires c = header-in c.requires.0
 
-pub cells_from-base-requires : goal.cells_from-base-requires
-cells_from-base-requires c = c.of-head.ensures.pages-small
+pub cells_from-requires : goal.cells_from-requires
+cells_from-requires c = c.of-head.ensures.pages-small
 
 pub look_up-requires : goal.look_up-requires
 look_up-requires c =
     let h = c.requires.0 in
-    record { shiftable = (h, c.cells_from-base.ensures ∙ ap cells_start c.of-head.ensures.pages-is); end_in_bounds = (pages-few h, pages-few h) }
+    record { shiftable = h; end_in_bounds = (pages-few h, pages-few h) }
 
 pub size_up-had-requires : goal.size_up-had-requires
 size_up-had-requires c =
@@ -34,12 +33,12 @@ move_all-requires c =
     let h = c.requires.0 in
     let w = c.look_up in
     let n = c.size_up-had in (
-      enough-now h c.of-head.ensures n.ensures.needs c.if-had-head.false _ refl c.cells_from-base.ensures refl w.ensures.leaves w.ensures.counted
+      enough-now h c.of-head.ensures n.ensures.needs c.if-had-head.false _ refl c.cells_from.ensures refl w.ensures.leaves w.ensures.counted
           n.ensures.counted (omega (arith, pages-few h, w.auto.leaving)) (omega (arith, pages-few h, w.auto.old)) (omega (arith, pages-few h, n.auto.new)),
       c.requires.1,
     )
 
 pub returns : goal.returns
 returns c =
-    carried-now c.requires.0 c.of-head.ensures c.size_up-had.ensures.needs c.if-had-head.false c.move_all.ensures c.saturating_sub.ensures
-    c.saturating_sub-2.ensures
+    carried-now c.requires.0 c.of-head.ensures c.size_up-had.ensures.needs c.if-had-head.false c.move_all.ensures c.between.ensures.0
+    c.between.ensures.1

@@ -13,8 +13,8 @@ returns-then-hours-hour c =
 
 pub carry_out-requires : goal.carry_out-requires
 carry_out-requires c =
-    strike-shiftable c.args.i c.requires c.of-head.ensures c.if-hours-hour.false
+    rw (c.of-spot.ensures.0, c.of-spot.ensures.1) (strike-shiftable c.args.i c.requires c.of-head.ensures c.if-hours-hour.false)
 
 pub returns : goal.returns
 returns c =
-    strike-go c.args.i c.requires c.of-head.ensures c.if-hours-hour.false c.carry_out.ensures
+    strike-go c.args.i c.requires c.of-head.ensures c.if-hours-hour.false (rw (c.of-spot.ensures.0, c.of-spot.ensures.1) at c.carry_out.ensures)

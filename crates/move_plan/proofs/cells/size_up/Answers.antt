@@ -1,10 +1,12 @@
 -- `move_plan::cells::size_up` meets its contract. Assumes nothing.
-use mathlib.Core.Path.{refl}
+use mathlib.Core.Path.{refl, ap₂, ◌∙◌}
+use Prim.Native.Nat.{ℕ, ◌+◌, ◌-◌}
 use native.Mathlib.Omega.{arith}
+use Rattle.store.specs.PageCode.{cells}
 use Rattle.store.specs.Reading.{list_in}
 use Rattle.move_plan.specs.Code.Plan.{shifted}
 use Rattle.move_plan.proofs.PlanSteps.{after-fits, cells-asked, counted_next, entry_in, had-few, had-more, need-most}
-use Rattle.move_plan.proofs.PlanSteps.{needs-begin, needs-end, needs-more, out-low, pages-few, sum_fits}
+use Rattle.move_plan.proofs.PlanSteps.{needs-begin, needs-end, needs-more, out-low, pages-few}
 use Rattle.move_plan.proofs.cells.size_up.Goals as goal
 
 pub loop-p-init : goal.loop-p-init
@@ -17,39 +19,29 @@ entry_at-requires c = omega (arith, pages-few c.requires.shiftable.0)
 pub get-requires-clause-in_bounds : goal.get-requires-clause-in_bounds
 get-requires-clause-in_bounds c = omega (arith, entry_in c.requires.shiftable.0 c.loop-p.p (omega arith), c.entry_at.ensures)
 
-pub overflow_cast-sum : goal.overflow_cast-sum
-overflow_cast-sum c =
-    let l = c.loop-p in
-    let e = c.entry_at.ensures in
-    let r = c.get.ensures.is in
-    omega (arith, out-low c.requires.shiftable.0 (omega arith) e r (omega arith) c.args.leaving.now c.requires.leaves.0 refl, sum_fits c.requires.shiftable.0 (omega arith) e r)
-
 pub overflow_sub-sum : goal.overflow_sub-sum
 overflow_sub-sum c =
-    let l = c.loop-p in
-    let e = c.entry_at.ensures in
-    let r = c.get.ensures.is in
-    out-low c.requires.shiftable.0 (omega arith) e r (omega arith) c.args.leaving.now c.requires.leaves.0 refl
+    let o = out-low c.requires.shiftable.0 (omega arith) c.entry_at.ensures c.get.ensures.is (omega arith) c.args.leaving.now c.requires.leaves.0 refl in
+    omega (arith, c.from.ensures, o)
 
 pub coming-requires : goal.coming-requires
-coming-requires c = ((omega arith), omega arith, c.requires.shiftable.1)
+coming-requires c = (omega arith, omega arith, c.requires.shiftable.1)
 
 pub cells_of-k-requires : goal.cells_of-k-requires
 cells_of-k-requires c =
-    after-fits c.requires.shiftable.0 (omega arith) c.entry_at.ensures c.get.ensures.is (omega arith) c.args.leaving.now c.requires.leaves.0
-    c.coming.ensures
-
-pub overflow_cast-had : goal.overflow_cast-had
-overflow_cast-had c =
-    let l = c.loop-p in
-    let o = c.requires.leaves.1 l.p (omega arith) (omega arith) in
-    omega (arith, o, had-few c.requires.shiftable.0 l.p)
+    omega (
+      arith,
+      c.from.ensures,
+      c.from-in-loop-p.ensures,
+      after-fits c.requires.shiftable.0 (omega arith) c.entry_at.ensures c.get.ensures.is (omega arith) c.args.leaving.now c.requires.leaves.0
+          c.coming.ensures,
+    )
 
 pub overflow_add-had : goal.overflow_add-had
 overflow_add-had c =
     let l = c.loop-p in
     let o = c.requires.leaves.1 l.p (omega arith) (omega arith) in
-    omega (arith, o, had-few c.requires.shiftable.0 l.p, need-most c.requires.shiftable.0 l.p, pages-few c.requires.shiftable.0)
+    omega (arith, c.from-had.ensures, o, had-few c.requires.shiftable.0 l.p, need-most c.requires.shiftable.0 l.p, pages-few c.requires.shiftable.0)
 
 pub overflow_add-asked : goal.overflow_add-asked
 overflow_add-asked c = omega (arith, c.cells_of-k.ensures.1, pages-few c.requires.shiftable.0)
@@ -58,9 +50,10 @@ pub loop-p-preserved : goal.loop-p-preserved
 loop-p-preserved c =
     let l = c.loop-p in
     let h = c.requires.shiftable.0 in
-    let o = c.requires.leaves.1 l.p (omega arith) (omega arith) in
+    let o = c.from-had.ensures ∙ c.requires.leaves.1 l.p (omega arith) (omega arith) in
+    let w = ap₂ (λ (a b : ℕ). cells (c.get.result - a + b)) c.from.ensures c.from-in-loop-p.ensures in
     let k = cells-asked h (omega arith) c.entry_at.ensures c.get.ensures.is (omega arith) c.args.leaving.now c.requires.leaves.0
-    c.coming.ensures c.cells_of-k.ensures.0 in
+    c.coming.ensures (c.cells_of-k.ensures.0 ∙ w) in
     record {
       counted = counted_next c.args.m (shifted c.args.m (list_in c.args.s.now)) l.new l.p _ (omega arith) l.invariant.counted k;
       moved = needs-more h l.p l.had l.asked l.invariant.moved o k;

@@ -1,6 +1,4 @@
 -- `move_plan::leaving::look_up` meets its contract. The loop's invariant: the pages that were passed have their entries. Assumes nothing.
-use mathlib.Core.Path.{◌≡◌}
-use lib.ListN.{length}
 use Rattle.store.specs.Reading.{list_in}
 use Rattle.move_plan.specs.Code.Plan.{Counted, Leaves}
 use Rattle.move_plan.proofs.leaving.look_up.Given as goal

@@ -1,2 +1,0 @@
--- What the functions of src/ hand each other.
-pub mod Page
