@@ -4,6 +4,7 @@ use mathlib.Core.List.{List, [], ◌∷◌, ◌++◌, append_assoc}
 use Prim.Native.Nat.{ℕ}
 use native.Mathlib.Omega.{arith}
 use lib.ListN.{take}
+use Rattle.std.specs.Prelude.{Option}
 use Rattle.lists.specs.Lists.{concat}
 use Rattle.session_input.specs.Lines.{holds, completes, gathered}
 use Rattle.session_print.specs.Printed.{printed}
@@ -16,7 +17,7 @@ use Rattle.dialogue.specs.Dialogue.{State, start, prints, leaves, next, fed, sai
 use Rattle.dialogue.specs.Feed.{Closes, Feeds, Loops, at-end, reads}
 
 -- commands in two parts
-prints-append : (cs ds : List Command) (s : List ℕ) → prints (cs ++ ds) s ≡ prints cs s ++ prints ds (leaves cs s)
+prints-append : (cs ds : List (Option Command)) (s : List ℕ) → prints (cs ++ ds) s ≡ prints cs s ++ prints ds (leaves cs s)
 unfolding prints leaves replies concat
 prints-append [] ds s = refl
 prints-append (c ∷ cs) ds s =
@@ -52,7 +53,7 @@ to_the_end (b ∷ bs) p =
 -- Byte by byte, a session prints what its lines print
 pub byte-by-byte : (input : List ℕ) → said input start ++ last (fed input start) ≡ output input
 unfolding output prints
-byte-by-byte input = to_the_end input start ∙ ap (λ (cs : List Command). prints cs []) (one-for-each-line 41 input (omega arith))
+byte-by-byte input = to_the_end input start ∙ ap (λ (cs : List (Option Command)). prints cs []) (one-for-each-line 41 input (omega arith))
 
 -- a loop that hands a chunk to `feed` once and goes on where that left off is one of `Loops`, and so is one that ends
 pub loop-goes-on : {p q : State} {chunk : List ℕ} {n : ℕ} {before out : List ℕ} {chunks : List (List ℕ)} {rest : List ℕ}

@@ -5,9 +5,10 @@ use Prim.Native.Nat.{ℕ, ◌+◌, ◌≤◌, ◌<◌}
 use native.Mathlib.Numerals.{add-one}
 use native.Mathlib.Omega.{arith}
 use lib.ListN.{length, get_or, take, length-append}
-use lib.Seq.{take-suc, take_all}
+use lib.Seq.{take-suc}
+use Rattle.std.specs.Prelude.{Option, Some, None}
 use Rattle.lists.specs.Lists.{concat}
-use Rattle.session_input.specs.Lines.{holds, completes, ends, held_length, whole_commands, Gathers}
+use Rattle.session_input.specs.Lines.{holds, completes, ends, held_length, last_commands, whole_commands, Gathers}
 use Rattle.session_print.specs.Printed.{printed, Prints}
 use Rattle.session.specs.declared.line.Command.{Command}
 use Rattle.session_print.specs.declared.Reply.{Reply}
@@ -24,7 +25,7 @@ use Rattle.dialogue.specs.declared.Standing.{Standing}
 use Rattle.dialogue.proofs.DialogueLaws.{fed-append, said-append}
 
 -- a command, from its response and the line that is printed
-pub answers : {c : Command} {p : Standing} {s s' out out' : List ℕ} {q : Response} {n : ℕ} → p.said + 32 ≤ length out
+pub answers : {c : Option Command} {p : Standing} {s s' out out' : List ℕ} {q : Response} {n : ℕ} → p.said + 32 ≤ length out
     → Responds c s p.used q s' → Prints q.reply out p.said n out'
     → Answers c p s out (record { used = q.used; held = 0; said = n }) s' out'
 answers {c} {p} {s} {s'} {out} {out'} {q} {n} h w v = record {
@@ -35,19 +36,19 @@ answers {c} {p} {s} {s'} {out} {out'} {q} {n} h w v = record {
 }
 
 -- what a single command prints
-prints-one : (c : Command) (s : List ℕ) → prints (c ∷ []) s ≡ printed (turn c s).reply
+prints-one : (c : Option Command) (s : List ℕ) → prints (c ∷ []) s ≡ printed (turn c s).reply
 unfolding prints replies concat
 prints-one c s = append-nil (printed (turn c s).reply)
 
 -- a byte b that completes the commands cs and leaves l held
-module _ (b : ℕ) (p : State) (cs : List Command) (l : List ℕ) (e : cs ≡ completes p.held b) (f : l ≡ holds 41 p.held b) where
+module _ (b : ℕ) (p : State) (cs : List (Option Command)) (l : List ℕ) (e : cs ≡ completes p.held b) (f : l ≡ holds 41 p.held b) where
   fed-one : fed (b ∷ []) p ≡ record { store = leaves cs p.store; held = l }
   unfolding fed next
-  fed-one = sym (ap₂ (λ (x : List Command) (y : List ℕ). record { store = leaves x p.store; held = y }) e f)
+  fed-one = sym (ap₂ (λ (x : List (Option Command)) (y : List ℕ). record { store = leaves x p.store; held = y }) e f)
 
   said-one : said (b ∷ []) p ≡ prints cs p.store
   unfolding said
-  said-one = append-nil (prints (completes p.held b) p.store) ∙ ap (λ (x : List Command). prints x p.store) (sym e)
+  said-one = append-nil (prints (completes p.held b) p.store) ∙ ap (λ (x : List (Option Command)). prints x p.store) (sym e)
 
 -- one byte, from what is gathered
 module _ (p : Standing) (s line line' out : List ℕ) (b : ℕ) (g : Gathered) (long : length line ≡ 41) (w : Gathers line p.held b g line') where
@@ -68,7 +69,7 @@ module _ (p : Standing) (s line line' out : List ℕ) (b : ℕ) (g : Gathered) (
         most = omega arith;
       }
 
-  pub byte-whole : {c : Command} {r : Standing} {s' out' : List ℕ} → g ≡ Whole c → Answers c p s out r s' out'
+  pub byte-whole : {c : Option Command} {r : Standing} {s' out' : List ℕ} → g ≡ Whole c → Answers c p s out r s' out'
       → Feeds (b ∷ []) (stand p s line) p.said out (stand r s' line') r.said out'
   unfolding leaves
   byte-whole {c} {r} {s'} {out'} e v =
@@ -100,23 +101,18 @@ feeds-turn chunk i {p} {q} {r} {k} {m} {n} {out} {mid} {fin} h v w =
       most = omega (arith, v.most, w.most, length-append xs ys);
     })
 
--- its end
-pub feeds-all : (chunk : List ℕ) (i : ℕ) {p q : State} {m n : ℕ} {out fin : List ℕ} → length chunk ≤ i
-    → Feeds (take i chunk) p m out q n fin → Feeds chunk p m out q n fin
-feeds-all chunk i h w = rw (take_all i chunk h) at w
-
 -- the input's end
-module _ (p : Standing) (s line : List ℕ) (g : Gathered) (w : whole_commands g ≡ ends (take p.held line)) where
-  last-is : (cs : List Command) → whole_commands g ≡ cs → prints cs (take p.used s) ≡ last (stand p s line)
-  last-is cs e = ap (λ (x : List Command). prints x (take p.used s)) (sym e ∙ w)
+module _ (p : Standing) (s line : List ℕ) (g : Option (Option Command)) (w : last_commands g ≡ ends (take p.held line)) where
+  last-is : (cs : List (Option Command)) → last_commands g ≡ cs → prints cs (take p.used s) ≡ last (stand p s line)
+  last-is cs e = ap (λ (x : List (Option Command)). prints x (take p.used s)) (sym e ∙ w)
 
-  pub close-none : {n : ℕ} (out : List ℕ) → g ≡ More n → Closes (stand p s line) 0 out
+  pub close-none : (out : List ℕ) → g ≡ None → Closes (stand p s line) 0 out
   unfolding prints replies concat
-  close-none out e = record { text = last-is [] (ap whole_commands e); most = omega arith }
+  close-none out e = record { text = last-is [] (ap last_commands e); most = omega arith }
 
-  pub close-whole : {c : Command} {r : Standing} {s' out out' : List ℕ} → g ≡ Whole c
+  pub close-whole : {c : Option Command} {r : Standing} {s' out out' : List ℕ} → g ≡ Some c
       → Answers c (record { used = p.used; held = 0; said = 0 }) s out r s' out' → Closes (stand p s line) r.said out'
   close-whole {c} e v = record {
-    text = v.said ∙ sym (prints-one c (take p.used s)) ∙ last-is (c ∷ []) (ap whole_commands e);
+    text = v.said ∙ sym (prints-one c (take p.used s)) ∙ last-is (c ∷ []) (ap last_commands e);
     most = v.most;
   }

@@ -1,5 +1,5 @@
 -- A session byte by byte: the fold of `turn` over the bytes of its input. Assumes nothing.
-use Rattle.std.specs.Prelude.{List, [], ◌∷◌, ◌++◌, map, ℕ}
+use Rattle.std.specs.Prelude.{Option, List, [], ◌∷◌, ◌++◌, map, ℕ}
 use Rattle.lists.specs.Lists.{concat}
 use Rattle.session_input.specs.Lines.{holds, completes, ends}
 use Rattle.session_print.specs.Printed.{printed}
@@ -16,10 +16,10 @@ abbrev pub start : State
 start = record { store = []; held = [] }
 
 -- commands, one after another: what they print, and the store that they leave
-unfoldable pub prints : List Command → List ℕ → List ℕ
+unfoldable pub prints : List (Option Command) → List ℕ → List ℕ
 prints cs s = concat (map printed (replies cs s))
 
-unfoldable pub leaves : List Command → List ℕ → List ℕ
+unfoldable pub leaves : List (Option Command) → List ℕ → List ℕ
 leaves [] s = s
 leaves (c ∷ cs) s = leaves cs (turn c s).store
 

@@ -6,6 +6,7 @@ use Prim.Native.Nat.{ℕ}
 use native.Mathlib.Omega.{arith}
 use lib.ListN.{length, replicate, length-replicate}
 use borrow.Author.Tests.{eq-eqb}
+use Rattle.std.specs.Prelude.{Option, Some, None}
 use Rattle.lists.specs.Lists.{concat, every, pick}
 use Rattle.store.proofs.LimitLaws.{limits-hold}
 use Rattle.store.specs.Limits.{limit_tests}
@@ -23,7 +24,7 @@ use Rattle.session.specs.Line.{command}
 use Rattle.session_input.specs.Lines.{lines}
 use Rattle.session_print.specs.Printed.{printed}
 use Rattle.session.specs.declared.line.Command.{Command}
-use Rattle.session.specs.declared.line.Command.TheVariants.{Fresh, Append, Set, Count, Reading, Reach, Day, Free, Unknown}
+use Rattle.session.specs.declared.line.Command.TheVariants.{Fresh, Append, Set, Count, Reading, Reach, Day, Free}
 use Rattle.session_print.specs.declared.Reply.{Reply}
 use Rattle.replies.specs.Session.{reply_for, Turn, changes, asks, starts, renews, turn, replies, output}
 use Rattle.replies.specs.PlainSession.{Board, empty, holds, PlainTurn, plain_change, plain_ask, plain_start, plain_turn, plain_replies, plain_output}
@@ -89,20 +90,20 @@ starts-agree P C s b h = go (limits P C) refl
     go true e = rw (fits-limits P C, e) (record { same = refl; shows = fresh-shows P C e })
     go false e = rw (fits-limits P C, e) (record { same = refl; shows = h })
 
-turn-agrees : (c : Command) (s : List ℕ) (b : Board) → Shows s b → Agrees (turn c s) (plain_turn c b)
+turn-agrees : (c : Option Command) (s : List ℕ) (b : Board) → Shows s b → Agrees (turn c s) (plain_turn c b)
 unfolding turn plain_turn
-turn-agrees (Fresh P C) s b h = starts-agree P C s b h
-turn-agrees (Append v) s b h = changes-agree (Call.Append v) s b h
-turn-agrees (Set i v) s b h = changes-agree (Call.Set i v) s b h
-turn-agrees (Count i) s b h = asks-agree (Call.Count i) s b h
-turn-agrees (Reading i) s b h = asks-agree (Call.Reading i) s b h
-turn-agrees (Reach p) s b h = asks-agree (Call.Reach p) s b h
-turn-agrees (Day d) s b h = asks-agree (Call.Day d []) s b h
-turn-agrees Free s b h = asks-agree Call.Free s b h
-turn-agrees Unknown s b h = record { same = refl; shows = h }
+turn-agrees (Some (Fresh P C)) s b h = starts-agree P C s b h
+turn-agrees (Some (Append v)) s b h = changes-agree (Call.Append v) s b h
+turn-agrees (Some (Set i v)) s b h = changes-agree (Call.Set i v) s b h
+turn-agrees (Some (Count i)) s b h = asks-agree (Call.Count i) s b h
+turn-agrees (Some (Reading i)) s b h = asks-agree (Call.Reading i) s b h
+turn-agrees (Some (Reach p)) s b h = asks-agree (Call.Reach p) s b h
+turn-agrees (Some (Day d)) s b h = asks-agree (Call.Day d []) s b h
+turn-agrees (Some Free) s b h = asks-agree Call.Free s b h
+turn-agrees None s b h = record { same = refl; shows = h }
 
 -- any list of commands
-pub replies-agree : (cs : List Command) (s : List ℕ) (b : Board) → Shows s b → replies cs s ≡ plain_replies cs b
+pub replies-agree : (cs : List (Option Command)) (s : List ℕ) (b : Board) → Shows s b → replies cs s ≡ plain_replies cs b
 unfolding replies plain_replies
 replies-agree [] s b h = refl
 replies-agree (c ∷ cs) s b h =

@@ -12,13 +12,12 @@ use borrow.Author.Tests.{lt-ltb, le-ltb}
 use Rattle.lists.specs.Lists.{pick}
 use Rattle.session.specs.Number.{is_decimal_digit, number}
 use Rattle.session.specs.Line.{on_first, split_on, by_letter, by_parts, command}
-use Rattle.std.specs.Prelude.{Option}
-use Rattle.session.specs.declared.line.Command.TheVariants.{Unknown}
+use Rattle.std.specs.Prelude.{Option, None}
 use Rattle.session.proofs.DigitLaws.{number-stray}
 use Rattle.session.proofs.LetterLaws.{fails, wrong_second, three}
 use Rattle.session.proofs.SplitLaws.{Free, split-cut, split-more, split-none, split-first, parts, First, first_or_none}
 
-pub command-long : (s : List ℕ) → 40 < length s → command s ≡ Unknown
+pub command-long : (s : List ℕ) → 40 < length s → command s ≡ None
 unfolding command pick
 command-long s h = rw (lt-ltb 40 (length s) h)
 
@@ -26,13 +25,13 @@ command-short : (s : List ℕ) → length s ≤ 40 → command s ≡ by_parts (s
 unfolding command pick
 command-short s h = rw (le-ltb 40 (length s) h)
 
-pub command-empty : (s : List ℕ) → length s ≡ 0 → command s ≡ Unknown
+pub command-empty : (s : List ℕ) → length s ≡ 0 → command s ≡ None
 unfolding command pick split_on by_parts
 command-empty [] e = refl
 command-empty (b ∷ s) e = absurd (omega (arith, e))
 
 -- a space is no letter
-space-no-letter : (ns : List (Option ℕ)) → by_letter 32 ns ≡ Unknown
+space-no-letter : (ns : List (Option ℕ)) → by_letter 32 ns ≡ None
 unfolding by_letter pick
 space-no-letter ns = refl
 
@@ -53,14 +52,14 @@ spaced : (l b : ℕ) (t : List ℕ) → b ≡ 32 → by_parts (split_on 32 (l �
 spaced l b t e = lettered l (b ∷ t) (split_on 32 t) (split-cut 32 b t e)
 
 -- two bytes before the first space
-worded : (l b : ℕ) (t : List ℕ) → (b ≡ 32 → ⊥) → by_parts (split_on 32 (l ∷ b ∷ t)) ≡ Unknown
+worded : (l b : ℕ) (t : List ℕ) → (b ≡ 32 → ⊥) → by_parts (split_on 32 (l ∷ b ∷ t)) ≡ None
 unfolding by_parts on_first
 worded l b t h = go (ℕ_discrete l 32)
   where
     rest : split_on 32 (b ∷ t) ≡ (b ∷ (parts 32 t).head) ∷ (parts 32 t).tail
     rest = split-more 32 b t h ∙ ap (on_first b) (parts 32 t).are
 
-    go : Dec (l ≡ 32) → by_parts (split_on 32 (l ∷ b ∷ t)) ≡ Unknown
+    go : Dec (l ≡ 32) → by_parts (split_on 32 (l ∷ b ∷ t)) ≡ None
     go (yes q) = ap by_parts (split-cut 32 l (b ∷ t) q)
     go (no q) = ap by_parts (split-more 32 l (b ∷ t) q ∙ ap (on_first l) rest)
 
@@ -79,7 +78,7 @@ command-spaced [] l h e = absurd (omega arith)
 command-spaced (x ∷ []) l h e = absurd (omega arith)
 command-spaced (x ∷ b ∷ t) l h e = rw (rest (x ∷ b ∷ t) 2) (command-short (x ∷ b ∷ t) h ∙ spaced x b t e)
 
-pub command-worded : (s : List ℕ) → 2 ≤ length s → length s ≤ 40 → (get_or s 1 0 ≡ 32 → ⊥) → command s ≡ Unknown
+pub command-worded : (s : List ℕ) → 2 ≤ length s → length s ≤ 40 → (get_or s 1 0 ≡ 32 → ⊥) → command s ≡ None
 command-worded [] l h e = absurd (omega arith)
 command-worded (x ∷ []) l h e = absurd (omega arith)
 command-worded (x ∷ b ∷ t) l h e = command-short (x ∷ b ∷ t) h ∙ worded x b t e
@@ -94,14 +93,14 @@ module _ (l : ℕ) (s : List ℕ) where
   unfolding is_decimal_digit
   second n = go (first_or_none 32 s)
     where
-      many : (f : First 32 s) → by_letter l (n ∷ map number (split_on 32 s)) ≡ Unknown
+      many : (f : First 32 s) → by_letter l (n ∷ map number (split_on 32 s)) ≡ None
       many f =
           let p = parts 32 (drop (suc f.place) s) in
           ap (λ ps. by_letter l (n ∷ map number ps))
           (split-first 32 s f.place f.within f.before f.found ∙ ap (λ ps. take f.place s ∷ ps) p.are)
           ∙ fails l _ (three n (number (take f.place s)) (number p.head) (map number p.tail))
 
-      nothing : (f : First 32 s) → by_letter l (n ∷ number s ∷ []) ≡ Unknown
+      nothing : (f : First 32 s) → by_letter l (n ∷ number s ∷ []) ≡ None
       nothing f =
           ap (λ m. by_letter l (n ∷ m ∷ [])) (number-stray s f.place f.within (ap is_decimal_digit f.found)) ∙ fails l _ (wrong_second n)
 

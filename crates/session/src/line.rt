@@ -5,6 +5,7 @@ ghost use Rattle.session.specs.Line.{by_letter, command, split_on};
 
 use crate::number::number;
 
+// A line that asks something, with the numbers behind its letter.
 #[derive(Clone, Copy)]
 pub enum Command {
     Fresh(u32, u32),
@@ -15,42 +16,40 @@ pub enum Command {
     Reach(u32),
     Day(u32),
     Free,
-    Unknown,
 }
 
 // The command of a letter alone.
-fn with_none(letter: u8) -> Command
+fn with_none(letter: u8) -> Option<Command>
     ensures { result ≡ by_letter letter [] }
 {
-    if letter == b'f' {
-        Command::Free
-    } else {
-        Command::Unknown
+    match letter {
+        b'f' => Some(Command::Free),
+        _ => None,
     }
 }
 
 // The command of a letter and a number.
-fn with_one(letter: u8, x: u32) -> Command
+fn with_one(letter: u8, x: u32) -> Option<Command>
     ensures { result ≡ by_letter letter (Some x ∷ []) }
 {
     match letter {
-        b'a' => Command::Append(x),
-        b'g' => Command::Count(x),
-        b'r' => Command::Reading(x),
-        b'w' => Command::Reach(x),
-        b'd' => Command::Day(x),
-        _ => Command::Unknown,
+        b'a' => Some(Command::Append(x)),
+        b'g' => Some(Command::Count(x)),
+        b'r' => Some(Command::Reading(x)),
+        b'w' => Some(Command::Reach(x)),
+        b'd' => Some(Command::Day(x)),
+        _ => None,
     }
 }
 
 // The command of a letter and two numbers.
-fn with_two(letter: u8, x: u32, y: u32) -> Command
+fn with_two(letter: u8, x: u32, y: u32) -> Option<Command>
     ensures { result ≡ by_letter letter (Some x ∷ Some y ∷ []) }
 {
     match letter {
-        b'n' => Command::Fresh(x, y),
-        b's' => Command::Set(x, y),
-        _ => Command::Unknown,
+        b'n' => Some(Command::Fresh(x, y)),
+        b's' => Some(Command::Set(x, y)),
+        _ => None,
     }
 }
 
@@ -64,30 +63,21 @@ fn first_space(s: &[u8]) -> Option<usize>
 }
 
 // The command of a letter and one part that is to be a number.
-fn single(letter: u8, part: &[u8]) -> Command
+fn single(letter: u8, part: &[u8]) -> Option<Command>
     ensures { result ≡ by_letter letter (number_of part.now ∷ []) }
 {
-    let Some(x) = number(part) else {
-        return Command::Unknown;
-    };
-    with_one(letter, x)
+    with_one(letter, number(part)?)
 }
 
 // The command of a letter and two parts that are to be numbers.
-fn pair(letter: u8, part: &[u8], other: &[u8]) -> Command
+fn pair(letter: u8, part: &[u8], other: &[u8]) -> Option<Command>
     ensures { result ≡ by_letter letter (number_of part.now ∷ number_of other.now ∷ []) }
 {
-    let Some(x) = number(part) else {
-        return Command::Unknown;
-    };
-    let Some(y) = number(other) else {
-        return Command::Unknown;
-    };
-    with_two(letter, x, y)
+    with_two(letter, number(part)?, number(other)?)
 }
 
 // The command of a letter and what stands behind its space.
-fn with_numbers(letter: u8, rest: &[u8]) -> Command
+fn with_numbers(letter: u8, rest: &[u8]) -> Option<Command>
     ensures { result ≡ by_letter letter (map number_of (split_on 32 rest.now)) }
 {
     match first_space(rest) {
@@ -96,16 +86,16 @@ fn with_numbers(letter: u8, rest: &[u8]) -> Command
     }
 }
 
-// What a line asks, given its bytes without the line end.
-pub fn parse(line: &[u8]) -> Command
+// What a line asks, if anything, given its bytes without the line end.
+pub fn parse(line: &[u8]) -> Option<Command>
     ensures { result ≡ command line.now }
 {
     if 40 < line.len() {
-        return Command::Unknown;
+        return None;
     }
     match line {
         [letter] => with_none(*letter),
         [letter, b' ', rest @ ..] => with_numbers(*letter, rest),
-        _ => Command::Unknown,
+        _ => None,
     }
 }

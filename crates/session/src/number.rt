@@ -1,4 +1,4 @@
-// Numbers in decimal digits.
+// Numbers in decimal digits. They are read here, since u32's own parse takes a + in front, and document 01 takes digits alone.
 ghost use Rattle.std.specs.Prelude.{◌≡◌};
 ghost use Rattle.session.specs.Number.{number as read};
 

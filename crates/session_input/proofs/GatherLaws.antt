@@ -9,6 +9,7 @@ use native.Mathlib.Decide.{ℕ_discrete, dec_le}
 use lib.ListN.{length, take, set, length-append, length-take}
 use lib.Seq.{take-nil, take-suc-set, take_all, take-take, take-append-le}
 use borrow.Author.Tests.{eq-eqb, ne_eqb}
+use Rattle.std.specs.Prelude.{Option}
 use Rattle.lists.specs.Lists.{pick}
 use Rattle.lists.proofs.Parts.{take-smaller}
 use Rattle.session.specs.Line.{split_on, on_first, command}
@@ -63,7 +64,7 @@ end_of : (room : ℕ) (l : List ℕ) → 40 < room → ends (take room l) ≡ ma
 unfolding ends closed
 end_of zero l h = absurd (not-suc-le-zero h)
 end_of (suc room) [] h = refl
-end_of (suc room) (b ∷ l) h = ap (λ (c : Command). c ∷ []) (command-cut (suc room) (b ∷ l) h)
+end_of (suc room) (b ∷ l) h = ap (λ (c : Option Command). c ∷ []) (command-cut (suc room) (b ∷ l) h)
 
 -- one byte more, with the line l begun: the parts of what follows are p and ps
 module _ (room : ℕ) (h : 40 < room) (l p : List ℕ) (ps : List (List ℕ)) (b : ℕ) (input : List ℕ) (cut : split_on 10 input ≡ p ∷ ps) where
@@ -72,7 +73,7 @@ module _ (room : ℕ) (h : 40 < room) (l p : List ℕ) (ps : List (List ℕ)) (b
   unfolding before closed
   at-end e ih =
       rw (completes-end (take room l) b e, holds-end (take room l) b room e, split-cut 10 b input e, cut, append-nil)
-      (ap₂ (λ (c : Command) (cs : List Command). c ∷ cs) (command-cut room l h) ih)
+      (ap₂ (λ (c : Option Command) (cs : List (Option Command)). c ∷ cs) (command-cut room l h) ih)
 
   at_more : (b ≡ 10 → ⊥) → gathered room (take room (l ++ b ∷ [])) input ≡ map command (closed (before (l ++ b ∷ []) (p ∷ ps)))
       → completes (take room l) b ++ gathered room (holds room (take room l) b) input ≡ map command (closed (before l (split_on 10 (b ∷ input))))
@@ -110,11 +111,11 @@ module _ (s : List ℕ) (n b h : ℕ) (e : h ≡ min n (length s)) where
   kept : take h s ≡ take n s
   kept = take-smaller s n h e
 
-  pub gathers-end : (c : Command) → b ≡ 10 → c ≡ command (take h s) → Gathers s n b (Whole c) s
+  pub gathers-end : (c : Option Command) → b ≡ 10 → c ≡ command (take h s) → Gathers s n b (Whole c) s
   gathers-end c q p = record {
     within = omega arith;
     held = sym (holds-end (take n s) b (length s) q);
-    told = ap (λ (d : Command). d ∷ []) (p ∙ ap command kept) ∙ sym (completes-end (take n s) b q);
+    told = ap (λ (d : Option Command). d ∷ []) (p ∙ ap command kept) ∙ sym (completes-end (take n s) b q);
   }
 
   pub gathers-more : (b ≡ 10 → ⊥) → h < length s → Gathers s n b (More (h + 1)) (set s h b)
@@ -150,7 +151,7 @@ unfolding ends
 ends_some [] h = absurd (h refl)
 ends_some (b ∷ l) h = refl
 
-pub ends-line : (s : List ℕ) (n h : ℕ) → h ≡ min n (length s) → (h ≡ 0 → ⊥) → (c : Command) → c ≡ command (take h s) → c ∷ [] ≡ ends (take n s)
+pub ends-line : (s : List ℕ) (n h : ℕ) → h ≡ min n (length s) → (h ≡ 0 → ⊥) → (c : Option Command) → c ≡ command (take h s) → c ∷ [] ≡ ends (take n s)
 ends-line s n h e z c p =
     let k : take h s ≡ take n s = take-smaller s n h e in
-    ap (λ (d : Command). d ∷ []) (p ∙ ap command k) ∙ sym (ends_some (take n s) (λ q. z (omega (arith, q, length-take n s))))
+    ap (λ (d : Option Command). d ∷ []) (p ∙ ap command k) ∙ sym (ends_some (take n s) (λ q. z (omega (arith, q, length-take n s))))

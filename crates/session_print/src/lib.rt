@@ -1,4 +1,5 @@
-// The line that answers a line.
+// The line that answers a line. It is put at a place of a slice by hand: write! promises nothing of the bytes, a Cursor answers a Result
+// where nothing can fail, and a String needs a heap.
 #![tactic(auto)]
 
 ghost use Rattle.std.specs.Prelude.{◌≡◌, [], ◌∷◌, ◌++◌, ◌+◌, ◌≤◌, ◌<◌, length, drop};
@@ -19,8 +20,8 @@ pub enum Reply {
 // Puts text at a place of out, and answers the place behind it.
 fn put(out: &mut [u8], at: usize, text: &[u8]) -> usize
     requires { at + length text.now ≤ length out.old }
-    ensures value { result ≡ at + length text.now }
-    ensures out_after { out.new ≡ splice out.old at text.now }
+    ensures end { result ≡ at + length text.now }
+    ensures bytes { out.new ≡ splice out.old at text.now }
 {
     let end = at + text.len();
     out[at..end].copy_from_slice(text);
@@ -30,8 +31,8 @@ fn put(out: &mut [u8], at: usize, text: &[u8]) -> usize
 // Puts a number's digits and a line end at a place of out, and answers the place behind them.
 fn put_number(out: &mut [u8], at: usize, n: u64) -> usize
     requires { at + 21 ≤ length out.old }
-    ensures value { result ≡ at + length (decimal n ++ (10 ∷ [])) }
-    ensures out_after { out.new ≡ splice out.old at (decimal n ++ (10 ∷ [])) }
+    ensures end { result ≡ at + length (decimal n ++ (10 ∷ [])) }
+    ensures bytes { out.new ≡ splice out.old at (decimal n ++ (10 ∷ [])) }
 {
     let mut buffer = Buffer::new();
     let digits = buffer.format(n).as_bytes();

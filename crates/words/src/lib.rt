@@ -14,6 +14,7 @@ use answers::image::{Contents, Run, Stretch};
 use answers::refusal::Refusal;
 use answers::store::Change;
 
+// A refusal, as minus its number.
 #[tactic(auto, unfolding(crate::specs::Words::minus))]
 fn minus(r: Refusal) -> u64
     ensures { result ≡ minus_word (number r) }
@@ -21,6 +22,7 @@ fn minus(r: Refusal) -> u64
     0u64.wrapping_sub(u64::from(r.number()))
 }
 
+// Two numbers in one word, the second from bit k on.
 #[tactic(auto, unfolding(crate::specs::Words::pair))]
 fn pair(k: u32, a: u64, b: u64) -> u64
     requires { k < 64 }
@@ -28,6 +30,9 @@ fn pair(k: u32, a: u64, b: u64) -> u64
 {
     a.wrapping_add(b << k)
 }
+
+// A function for each kind of answer. One over a trait is longer: an impl for each kind is as long as its function here, and seven laws
+// come to it, that each kind's word is the word of what the call is told to answer. A number is told in two ways.
 
 // An accepted append, set, insert or strike.
 #[tactic(auto, unfolding(crate::specs::Words::word_of, crate::specs::End::end_of_store))]
@@ -63,6 +68,7 @@ pub fn of_done(a: Result<(), Refusal>) -> u64
     }
 }
 
+// What check answers: S, and N from bit 40 on.
 #[tactic(auto, unfolding(crate::specs::Words::word_of, crate::specs::End::end_of_check, answers::specs::Image::ruled))]
 pub fn of_check(a: Result<Contents, Refusal>) -> u64
     ensures { result ≡ word_of (end_of_check (ruled a)) }
@@ -73,6 +79,7 @@ pub fn of_check(a: Result<Contents, Refusal>) -> u64
     }
 }
 
+// The busiest stretch: its sum, and its first hour from bit 40 on.
 #[tactic(auto, unfolding(crate::specs::Words::word_of, crate::specs::End::end_of_stretch))]
 pub fn of_stretch(a: Result<Stretch, Refusal>) -> u64
     ensures { result ≡ word_of (end_of_stretch (told_stretch a)) }
@@ -83,6 +90,7 @@ pub fn of_stretch(a: Result<Stretch, Refusal>) -> u64
     }
 }
 
+// The hours of a bag: the first hour, and how many there are from bit 32 on. 0 says that no run has its sum.
 #[tactic(auto, unfolding(crate::specs::Words::word_of, crate::specs::End::end_of_bag))]
 pub fn of_bag(a: Result<Option<Run>, Refusal>) -> u64
     ensures { result ≡ word_of (end_of_bag (told_bag a)) }

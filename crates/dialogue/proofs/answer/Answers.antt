@@ -4,4 +4,4 @@ use Rattle.dialogue.proofs.answer.Goals as goal
 
 pub returns : goal.returns
 returns c =
-    answers c.requires.said_in_bounds c.respond-response.ensures c.print-said.ensures
+    answers c.requires.out_room c.respond-response.ensures c.print-said.ensures

@@ -5,9 +5,9 @@ use Rattle.dialogue.proofs.close.Goals as goal
 pub returns-in_default : goal.returns-in_default
 returns-in_default c =
     let a = c.args in
-    close-none a.place a.store.now a.line.now _ c.finish.ensures _ c.in_default.is
+    close-none a.standing a.store.now a.line.now _ c.finish.ensures _ c.in_default.is
 
 pub returns : goal.returns
 returns c =
     let a = c.args in
-    close-whole a.place a.store.now a.line.now _ c.finish.ensures c.in-Whole.is c.answer-there.ensures
+    close-whole a.standing a.store.now a.line.now _ c.finish.ensures c.in-Some.is c.answer-there.ensures

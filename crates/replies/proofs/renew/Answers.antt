@@ -1,20 +1,15 @@
 -- `replies::renew` meets its contract. Assumes nothing.
-use Rattle.std.proofs.Common.{refl, ap}
-use Rattle.session_print.specs.declared.Reply.TheVariants.{Refused}
-use Rattle.replies.proofs.TurnLaws.{renew-refuses, renew-starts, not-answered}
+use Rattle.std.proofs.Common.{rules}
+use Rattle.replies.proofs.TurnLaws.{renew-it}
+use Rattle.replies.proofs.renew.Goals.{then-is_ok, else-is_ok}
 use Rattle.replies.proofs.renew.Goals as goal
 
-pub returns-in-Ok : goal.returns-in-Ok
-returns-in-Ok c =
+pub returns : goal.returns
+returns c =
     let a = c.args in
     let k = c.size_of-n in
-    let f = c.fresh in
-    renew-starts a.pages a.cells a.store.now a.used k.result c.requires k.ensures.value k.ensures.upper_bound
-    _ f.new.s c.in-Ok.ensures _ (not-answered 0 9) refl refl f.auto.s
-
-pub returns-in-Err : goal.returns-in-Err
-returns-in-Err c =
-    let a = c.args in
-    let k = c.size_of-n in
-    renew-refuses a.pages a.cells a.store.now a.used k.result c.requires k.ensures.value k.ensures.upper_bound
-    _ c.fresh.new.s c.in-Err.ensures _ _ refl refl (ap Refused c.number.ensures)
+    let f = c.fresh-answer in
+    renew-it a.pages a.cells a.store.now a.used k.result c.if-is_ok.response_to f.new.s f.result c.response_to.result c.requires k.ensures.bytes
+    k.ensures.most f.ensures f.auto.s
+    (λ e. elim c.if-is_ok.branch [ then-is_ok w ↦ w.response_to-is | else-is_ok w ↦ search rules ])
+    (λ e. elim c.if-is_ok.branch [ then-is_ok w ↦ search rules | else-is_ok w ↦ w.response_to-is ]) c.response_to.ensures

@@ -7,13 +7,13 @@ pub returns-in-Number : goal.returns-in-Number
 unfolding printed
 returns-in-Number c =
     let e = c.put_number.ensures in
-    prints (ap printed c.in-Number.is) (e.value, e.out_after)
+    prints (ap printed c.in-Number.is) (e.end, e.bytes)
 
 pub returns-in-Done : goal.returns-in-Done
 unfolding printed
 returns-in-Done c =
     let e = c.put.ensures in
-    prints (ap printed c.in-Done.is) (e.value, e.out_after)
+    prints (ap printed c.in-Done.is) (e.end, e.bytes)
 
 pub returns-in-Refused : goal.returns-in-Refused
 unfolding printed
@@ -21,11 +21,11 @@ returns-in-Refused c =
     let p = c.put-end in
     let q = c.put_number-in-Refused in
     prints (ap printed c.in-Refused.is)
-    (refused-put c.args.out.now c.args.at c.in-Refused.k p.new.out q.new.out p.result q.result c.requires p.ensures.out_after p.ensures.value
-    (rw c.from.ensures at q.ensures.out_after) (rw c.from.ensures at q.ensures.value))
+    (refused-put c.args.out.now c.args.at c.in-Refused.k p.new.out q.new.out p.result q.result c.requires p.ensures.bytes p.ensures.end
+    (rw c.from.ensures at q.ensures.bytes) (rw c.from.ensures at q.ensures.end))
 
 pub returns-in-Unknown : goal.returns-in-Unknown
 unfolding printed
 returns-in-Unknown c =
     let e = c.put-in-Unknown.ensures in
-    prints (ap printed c.in-Unknown.is) (e.value, e.out_after)
+    prints (ap printed c.in-Unknown.is) (e.end, e.bytes)

@@ -3,8 +3,8 @@ use Rattle.std.proofs.Common.{◌≡◌, ◌+◌, ◌-◌, length, arith, drop-d
 use Rattle.lists.specs.Lists.{splice}
 use Rattle.session_print.proofs.put.Goals as goal
 
-pub returns-clause-out_after : goal.returns-clause-out_after
+pub returns-clause-bytes : goal.returns-clause-bytes
 unfolding splice
-returns-clause-out_after c =
+returns-clause-bytes c =
     let n : c.args.at + length c.args.text.now - c.args.at ≡ length c.args.text.now = omega arith in
     rw (n, c.copy_from_slice.ensures.after, drop-drop)

@@ -12,6 +12,6 @@ returns c =
     let q = c.put in
     let shown : c.as_bytes-digits.result.now ≡ decimal a.n =
     c.as_bytes-digits.ensures.value ∙ c.format.ensures.text ∙ same_digits a.n (omega arith) in
-    let r = number_put a.out.now a.at a.n _ p.new.out q.new.out p.result q.result (omega arith) shown p.ensures.out_after p.ensures.value
-    q.ensures.out_after q.ensures.value in
-    record { value = r.0; out_after = r.1 }
+    let r = number_put a.out.now a.at a.n _ p.new.out q.new.out p.result q.result (omega arith) shown p.ensures.bytes p.ensures.end
+    q.ensures.bytes q.ensures.end in
+    record { end = r.0; bytes = r.1 }

@@ -5,9 +5,9 @@ use Rattle.session.specs.Line.{none, one, two, by_letter}
 use Rattle.session.proofs.LetterLaws.{none_other}
 use Rattle.session.proofs.line.with_none.Goals as goal
 
-pub returns-then-letter-eq102 : goal.returns-then-letter-eq102
+pub returns-in-102 : goal.returns-in-102
 unfolding by_letter none one two pick
-returns-then-letter-eq102 c = rw c.if-letter-eq102.true
+returns-in-102 c = rw c.in-102.is
 
-pub returns-else-letter-eq102 : goal.returns-else-letter-eq102
-returns-else-letter-eq102 c = sym (none_other c.args.letter c.if-letter-eq102.false)
+pub returns-in_default : goal.returns-in_default
+returns-in_default c = sym (none_other c.args.letter c.in_default.in_default-own.rest.1)
