@@ -1,8 +1,19 @@
 -- Words of 64 bits. Assumes nothing.
-use Rattle.std.proofs.Common.{◌≡◌, ℕ, ◌+◌, ◌*◌, ◌^◌, ◌<◌, ◌≤◌, refl, mod-eq_of_lt, arith}
+use Rattle.std.proofs.Common.{◌≡◌, ℕ, ◌+◌, ◌*◌, ◌%◌, ◌^◌, ◌<◌, ◌≤◌, refl, ◌∙◌, mod-eq_of_lt, arith}
 use Rattle.words.specs.End.{End, no_such_run, refusal, the_cells, the_hours, the_number, the_run, the_sums}
 use Rattle.words.specs.Words.{minus, pair, word_of}
 use Rattle.words.specs.ReadBack.{Reads}
+
+pub minus_is : (r k : ℕ) → k < 2 ^ 32 → r < 2 ^ 64 → (r + k) % 2 ^ 64 ≡ 0 → r ≡ minus k
+unfolding minus
+minus_is r k a b e = omega arith
+
+add-mod : (a x : ℕ) → (a + x % 2 ^ 64) % 2 ^ 64 ≡ (a + x) % 2 ^ 64
+add-mod a x = omega arith
+
+pub pair_is : (r k a b : ℕ) → r ≡ (a + (b * 2 ^ k) % 2 ^ 64) % 2 ^ 64 → r ≡ pair k a b
+unfolding pair
+pair_is r k a b e = e ∙ add-mod a (b * 2 ^ k)
 
 -- two small numbers are packed without loss
 pub pair-exact : (k a b : ℕ) → a + b * 2 ^ k < 2 ^ 64 → pair k a b ≡ a + b * 2 ^ k

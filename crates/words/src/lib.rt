@@ -2,11 +2,11 @@
 #![tactic(auto)]
 
 ghost use Rattle.std.specs.Prelude.{◌≡◌, ◌<◌};
-ghost use Rattle.answers.specs.Bag.{told as told_bag};
-ghost use Rattle.answers.specs.Image.{ruled, told};
+ghost use Rattle.answers.specs.Bag.{Refused as no_bag, told as told_bag};
+ghost use Rattle.answers.specs.Image.{fails, refused, ruled, told};
 ghost use Rattle.answers.specs.Number.{number};
-ghost use Rattle.answers.specs.Store.{told_change, told_done, told_number};
-ghost use Rattle.answers.specs.Stretch.{told as told_stretch};
+ghost use Rattle.answers.specs.Store.{refused as turned, told_change, told_done, told_number};
+ghost use Rattle.answers.specs.Stretch.{Refused as no_stretch, told as told_stretch};
 ghost use Rattle.words.specs.End.{end_of_bag, end_of_check, end_of_image, end_of_store, end_of_stretch};
 ghost use Rattle.words.specs.Words.{minus as minus_word, pair as pair_word, word_of};
 
@@ -20,6 +20,18 @@ fn minus(r: Refusal) -> u64
     ensures { result ≡ minus_word (number r) }
 {
     0u64.wrapping_sub(u64::from(r.number()))
+}
+
+// A refusal by any number, of whichever kind of call, as minus that number: for a caller that has a number and no `Refusal`.
+#[tactic(auto, unfolding(crate::specs::Words::minus, crate::specs::Words::word_of, crate::specs::End::end_of_store, crate::specs::End::end_of_image, crate::specs::End::end_of_check, crate::specs::End::end_of_stretch, crate::specs::End::end_of_bag))]
+pub fn of_refusal(k: u32) -> u64
+    ensures store { result ≡ word_of (end_of_store (turned k)) }
+    ensures image { result ≡ word_of (end_of_image (refused k)) }
+    ensures check { result ≡ word_of (end_of_check (fails k)) }
+    ensures stretch { result ≡ word_of (end_of_stretch (no_stretch k)) }
+    ensures bag { result ≡ word_of (end_of_bag (no_bag k)) }
+{
+    0u64.wrapping_sub(u64::from(k))
 }
 
 // Two numbers in one word, the second from bit k on.
