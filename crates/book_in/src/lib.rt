@@ -16,7 +16,8 @@ use answers::refusal::Refusal;
 use book::is_decimal;
 use image_plan::room;
 
-// Writes the image of the list that a book says.
+// Writes the image of the list that a book says. Not joined with `from_bcd`, which would then take this function's stack before its tests.
+#[inline(never)]
 fn write_list(book: &[u8], e: u32, out: &mut [u8]) -> Result<u64, Refusal>
     ensures { result_of result out.new ≡ write_call e (list_of_book book.now) out.old }
 {

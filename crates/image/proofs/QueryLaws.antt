@@ -2,20 +2,20 @@
 use mathlib.Core.Path.{◌≡◌, refl, sym, ap, ap₂, ◌∙◌}
 use mathlib.Core.Bool.{Bool, true, false, not}
 use mathlib.Core.List.{List, [], ◌∷◌}
-use Prim.Native.Nat.{ℕ, zero, suc, ◌+◌, ◌-◌, ◌*◌, ◌/◌, ◌%◌, ◌^◌, ◌≤◌, ◌<◌}
+use Prim.Native.Nat.{ℕ, zero, suc, ◌+◌, ◌*◌, ◌/◌, ◌%◌, ◌^◌, ◌≤◌, ◌<◌}
 use native.Mathlib.Omega.{arith}
 use lib.ListN.{length, get_or, take}
 use lib.Seq.{take-suc}
-use lib.Dec.{leb, ltb}
-use borrow.Author.Tests.{le-leb, leb-true}
+use lib.Dec.{leb}
+use borrow.Author.Tests.{le-leb}
 use Rattle.lists.specs.Counts.{max_count}
 use Rattle.lists.specs.Lists.{pick, sum}
 use Rattle.lists.proofs.Sums.{sum-append}
 use Rattle.lists.proofs.Tests.{each, every_of}
 use Rattle.bits.specs.Bits.{bits}
 use Rattle.reserve.specs.Reserve.{reserve}
-use Rattle.tree.specs.Read.{Found, damaged, found, later, left_at, left_of, right_at, walk}
-use Rattle.tree.proofs.WalkLaws.{shift, walk-tree}
+use Rattle.tree.specs.Read.{Found, damaged, found, later, walk}
+use Rattle.tree.proofs.WalkLaws.{Most, most-later, most-up, shift, walk-most, walk-tree}
 use Rattle.image.specs.Image.{Limits, image, page, pages}
 use Rattle.image.specs.Query.{before_passing, ended, look, count_in_page, page_fine, page_tests, reading_at, the_reading}
 use Rattle.image.specs.Read.{before_of, e_of, l_of, root_at, s_of, start_of, sum_of, tree_at, width_of}
@@ -101,10 +101,6 @@ module _ (e : ℕ) (xs : List ℕ) (m : Limits e xs) where
     reading-at (suc i) l = ap the_reading (ended_is i l) ∙ sum_to i l
 
 -- ---- what is found is no more than the sum
-abbrev pub Most : ℕ → Found → Type 0
-Most s damaged = Unit {0}
-Most s (found x c) = x + c ≤ s
-
 pub most-ended : (s : ℕ) (f : Found) → Most s f → Most s (ended f)
 unfolding ended pick
 most-ended s damaged m = tt
@@ -113,30 +109,6 @@ most-ended s (found x c) m = go (leb c max_count)
     go : (b : Bool) → Most s (pick b (found x c) damaged)
     go true = m
     go false = tt
-
-most-later : (l s : ℕ) (f : Found) → l ≤ s → Most (s - l) f → Most s (later l f)
-unfolding later
-most-later l s damaged i m = tt
-most-later l s (found x c) i m = omega arith
-
-most-up : (l s : ℕ) (f : Found) → l ≤ s → Most l f → Most s f
-most-up l s damaged i m = tt
-most-up l s (found x c) i m = omega arith
-
-walk-node : (h s l : ℕ) (b : List ℕ) (a j : ℕ) (t u : Bool) → leb l s ≡ t → Most l (walk h l b (left_at s a) j)
-    → Most (s - l) (walk h (s - l) b (right_at h s l a) (j - 2 ^ h))
-    → Most s (pick t (pick u (walk h l b (left_at s a) j) (later l (walk h (s - l) b (right_at h s l a) (j - 2 ^ h)))) damaged)
-unfolding pick
-walk-node h s l b a j true true e m n = most-up l s (walk h l b (left_at s a) j) (leb-true l s e) m
-walk-node h s l b a j true false e m n = most-later l s (walk h (s - l) b (right_at h s l a) (j - 2 ^ h)) (leb-true l s e) n
-walk-node h s l b a j false u e m n = tt
-
-pub walk-most : (h s : ℕ) (b : List ℕ) (a j : ℕ) → Most s (walk h s b a j)
-unfolding walk
-walk-most zero s b a j = omega arith
-walk-most (suc h) s b a j =
-    let l : ℕ = left_of s b a in
-    walk-node h s l b a j (leb l s) (ltb j (2 ^ h)) refl (walk-most h l b (left_at s a) j) (walk-most h (s - l) b (right_at h s l a) (j - 2 ^ h))
 
 in-page : (s : List ℕ) (p j : ℕ) (t : Bool) → page_fine s p ≡ t → Most (s_of s) (count_in_page s p j)
 unfolding count_in_page pick page_fine sum_of

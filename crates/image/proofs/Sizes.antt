@@ -24,7 +24,8 @@ use Rattle.image.proofs.ReadLaws.{length-image, s-is}
 use Rattle.image.proofs.HeadLaws.{headed-total}
 use Rattle.image.proofs.CallLaws.{length-only}
 use Rattle.image.proofs.PageLaws.{code-most, pages-few}
-use Rattle.image.proofs.QueryLaws.{Most, look-most, most-ended}
+use Rattle.tree.proofs.WalkLaws.{Most}
+use Rattle.image.proofs.QueryLaws.{look-most, most-ended}
 
 -- a number is no more than the total's limit, refusals are 1 to 12
 abbrev pub Small : Reply → Type 0

@@ -23,7 +23,8 @@ use Rattle.image.specs.Read.{code_at, e_of, l_of, list_of, n_of, page_count_of, 
 use Rattle.image.proofs.HeadLaws.{headed-long, word-most}
 use Rattle.image.proofs.Editions.{header-least}
 use Rattle.image.proofs.ReadLaws.{wide_is}
-use Rattle.image.proofs.QueryLaws.{Most, look-most}
+use Rattle.tree.proofs.WalkLaws.{Most}
+use Rattle.image.proofs.QueryLaws.{look-most}
 use Rattle.image_editions.specs.Edition1.{Bytes, Edition1, First, accepted1, headed1, image1, reading_at1}
 
 -- ---- the writer

@@ -21,7 +21,7 @@ use Rattle.image.specs.Query.{count, ended, look, count_in_page, page_fine, read
 use Rattle.image.specs.Read.{before_of, e_of, n_of, page_count_of, sum_of, tree_at}
 use Rattle.answers.specs.Image.{given, refused, told}
 use Rattle.answers.specs.declared.refusal.Refusal.TheVariants.{Body}
-use Rattle.image.proofs.QueryLaws.{Most, walk-most}
+use Rattle.tree.proofs.WalkLaws.{Most, walk-most}
 use Rattle.image.proofs.HeadLaws.{never}
 use Rattle.image.proofs.PageLaws.{hour-page}
 use Rattle.std.specs.Prelude.{Option, None, Some}

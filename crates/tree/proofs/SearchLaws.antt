@@ -1,15 +1,17 @@
 -- The search by prefix sum in a tree's code finds the least index. Assumes nothing.
 use mathlib.Core.Path.{◌≡◌, refl, sym, ap, ◌∙◌}
+use mathlib.Core.Bool.{Bool, true, false}
 use mathlib.Core.List.{List, [], ◌∷◌, ◌++◌}
 use Prim.Native.Nat.{ℕ, zero, suc, ◌+◌, ◌-◌, ◌^◌, ◌≤◌, ◌<◌}
 use native.Mathlib.Omega.{arith}
 use native.Mathlib.Decide.{dec_le}
+use lib.Dec.{leb}
 use lib.ListN.{length, take, drop, take-append-drop}
 use borrow.Author.Tests.{le-leb, lt-leb}
 use Rattle.reserve.specs.Reserve.{reserve}
 use Rattle.lists.specs.Lists.{sum, pick, part, reached}
 use Rattle.tree.specs.Tree.{tree}
-use Rattle.tree.specs.Read.{left_of, left_at, right_at, at-index, shifted, seek}
+use Rattle.tree.specs.Read.{left_of, left_at, right_at, Sought, nowhere, at-index, shifted, seek}
 use Rattle.lists.proofs.Sums.{sum-halves, sum-take-le}
 use Rattle.lists.proofs.Reach.{reached-suc, reached-nil, reached-left, reached-right}
 use Rattle.tree.proofs.Shape.{left-read, left-region, right-region, rest-is, left-long, right-long}
@@ -61,3 +63,27 @@ seek-tree (suc h) xs b a q n k m e =
         ∙ moved (2 ^ h) (reached (q - sum (take (2 ^ h) xs)) (drop (2 ^ h) xs))
         ∙ ap at-index (ap (λ (z : ℕ). z + reached (q - sum (take (2 ^ h) xs)) (drop (2 ^ h) xs)) (sym (left-long h xs n))
         ∙ sym (reached-right q (take (2 ^ h) xs) (drop (2 ^ h) xs) (omega arith)) ∙ whole q)
+
+-- ---- an index that is found is 1 or more
+abbrev pub Positive : Sought → Type 0
+Positive nowhere = Unit {0}
+Positive (at-index i) = 1 ≤ i
+
+shifted-on : (n : ℕ) (f : Sought) → Positive f → Positive (shifted n f)
+unfolding shifted
+shifted-on n nowhere p = tt
+shifted-on n (at-index i) p = omega arith
+
+either-way : (t u : Bool) (f g : Sought) → Positive f → Positive g → Positive (pick t (pick u f g) nowhere)
+unfolding pick
+either-way true true f g p q = p
+either-way true false f g p q = q
+either-way false u f g p q = tt
+
+pub seek-positive : (h s : ℕ) (b : List ℕ) (a q : ℕ) → Positive (seek h s b a q)
+unfolding seek
+seek-positive zero s b a q = omega arith
+seek-positive (suc h) s b a q =
+    let l : ℕ = left_of s b a in
+    either-way (leb l s) (leb q l) _ _ (seek-positive h l b (left_at s a) q)
+    (shifted-on (2 ^ h) _ (seek-positive h (s - l) b (right_at h s l a) (q - l)))

@@ -1,17 +1,19 @@
 -- The walk to a count of a tree's code finds the count and the prefix sum before it. Assumes nothing.
 use mathlib.Core.Path.{◌≡◌, refl, sym, ap, ap₂, ◌∙◌}
+use mathlib.Core.Bool.{Bool, true, false}
 use mathlib.Core.List.{List, [], ◌∷◌}
 use Prim.Native.Nat.{ℕ, zero, suc, ◌+◌, ◌-◌, ◌^◌, ◌≤◌, ◌<◌}
 use native.Mathlib.Nat.{pow-succ', add-zero}
 use native.Mathlib.Omega.{arith}
 use native.Mathlib.Decide.{dec_le}
+use lib.Dec.{leb, ltb}
 use lib.ListN.{length, get_or, take, drop}
 use lib.Seq.{get_or-take, get_or-drop, take-take, take-add}
-use borrow.Author.Tests.{le-leb, lt-ltb, le-ltb}
+use borrow.Author.Tests.{le-leb, leb-true, lt-ltb, le-ltb}
 use Rattle.reserve.specs.Reserve.{reserve}
 use Rattle.lists.specs.Lists.{sum, pick, part}
 use Rattle.tree.specs.Tree.{tree}
-use Rattle.tree.specs.Read.{left_of, left_at, right_at, found, later, walk}
+use Rattle.tree.specs.Read.{left_of, left_at, right_at, Found, damaged, found, later, walk}
 use Rattle.lists.proofs.Sums.{sum-append, sum-take-le}
 use Rattle.tree.proofs.Shape.{left-read, left-region, right-region, rest-is, left-long, right-long}
 
@@ -69,3 +71,32 @@ walk-tree (suc h) xs b a j n k e =
         ∙ ap₂ found
         (sym (sum-append (take (2 ^ h) xs) (take (j - 2 ^ h) (drop (2 ^ h) xs))) ∙ ap sum (sym (take-add (2 ^ h) (j - 2 ^ h) xs) ∙ ap (λ (z : ℕ). take z xs) m))
         (get_or-drop (2 ^ h) xs (j - 2 ^ h) 0 ∙ ap (λ (z : ℕ). get_or xs z 0) m)
+
+-- ---- what is found is no more than the sum
+abbrev pub Most : ℕ → Found → Type 0
+Most s damaged = Unit {0}
+Most s (found x c) = x + c ≤ s
+
+pub most-later : (l s : ℕ) (f : Found) → l ≤ s → Most (s - l) f → Most s (later l f)
+unfolding later
+most-later l s damaged i m = tt
+most-later l s (found x c) i m = omega arith
+
+pub most-up : (l s : ℕ) (f : Found) → l ≤ s → Most l f → Most s f
+most-up l s damaged i m = tt
+most-up l s (found x c) i m = omega arith
+
+walk-node : (h s l : ℕ) (b : List ℕ) (a j : ℕ) (t u : Bool) → leb l s ≡ t → Most l (walk h l b (left_at s a) j)
+    → Most (s - l) (walk h (s - l) b (right_at h s l a) (j - 2 ^ h))
+    → Most s (pick t (pick u (walk h l b (left_at s a) j) (later l (walk h (s - l) b (right_at h s l a) (j - 2 ^ h)))) damaged)
+unfolding pick
+walk-node h s l b a j true true e m n = most-up l s (walk h l b (left_at s a) j) (leb-true l s e) m
+walk-node h s l b a j true false e m n = most-later l s (walk h (s - l) b (right_at h s l a) (j - 2 ^ h)) (leb-true l s e) n
+walk-node h s l b a j false u e m n = tt
+
+pub walk-most : (h s : ℕ) (b : List ℕ) (a j : ℕ) → Most s (walk h s b a j)
+unfolding walk
+walk-most zero s b a j = omega arith
+walk-most (suc h) s b a j =
+    let l : ℕ = left_of s b a in
+    walk-node h s l b a j (leb l s) (ltb j (2 ^ h)) refl (walk-most h l b (left_at s a) j) (walk-most h (s - l) b (right_at h s l a) (j - 2 ^ h))

@@ -12,9 +12,9 @@ use Rattle.lists.specs.Lists.{pick}
 use Rattle.bits.specs.Bits.{bits}
 use Rattle.tree.specs.Read.{left_of, Sought, nowhere, at-index, shifted, seek}
 use Rattle.tree.specs.Code.Node.{Lies, Rooted}
-use Rattle.tree_search.specs.Code.Answers.{search_answer}
+use Rattle.tree_search.specs.Code.Answers.{index_of, search_answer}
 use Rattle.tree.specs.declared.node.Split.{Split}
-use Rattle.tree.proofs.SearchLaws.{seek-left, seek-right}
+use Rattle.tree.proofs.SearchLaws.{Positive, seek-left, seek-right}
 use Rattle.tree.proofs.Rooting.{Inner, left-lies, right-lies}
 
 -- counts before can be counted in n or in the index
@@ -100,3 +100,14 @@ goes_on {b} {a} {h} {s} y {r} i q n {m} {passed} {hours} {sum} {start} half = go
               ∙ ap (λ (z : ℕ). search_answer n (seek (h - 1) r.left (bits b) r.first z)) {x = q - 0} {y = q} (omega arith)
               ∙ seek-low i q n (ltb-false r.left q e);
         }
+
+-- ---- the whole search, which answers in one number r
+pub none-found : (n : ℕ) {r : ℕ} (f : Sought) → Positive f → r ≡ index_of (search_answer n f) → r ≡ 0 → None ≡ search_answer n f
+unfolding search_answer
+none-found n nowhere p e z = refl
+none-found n (at-index i) p e z = absurd (omega (arith, e, z))
+
+pub some-found : (n : ℕ) {r : ℕ} (f : Sought) → r ≡ index_of (search_answer n f) → (r ≡ 0 → ⊥) → Some r ≡ search_answer n f
+unfolding search_answer
+some-found n nowhere e z = absurd (z e)
+some-found n (at-index i) e z = ap Some e

@@ -6,13 +6,16 @@ ghost use Rattle.bits.specs.Bits.{bits};
 ghost use Rattle.reserve.specs.Reserve.{digits};
 ghost use Rattle.tree.specs.Read.{seek as sought};
 ghost use Rattle.tree.specs.Code.Node.{Lies};
-ghost use Rattle.tree_search.specs.Code.Answers.{search_answer};
+ghost use Rattle.tree_search.specs.Code.Answers.{index_of, search_answer};
 
 use bits_field::front;
 use lists::either;
 use reserve::digits_of;
 use tree::node::{one_word, root};
 use tree_walk::pairs::one_pair;
+
+// How the search answers damage in one number: an index that it finds is 1 or more.
+const NOWHERE: u64 = 0;
 
 // The index that `search` is to find in the four counts with sum s at bit at, which the test `one_word` has just shown to fit one. Both
 // tests are by <, as what they leave of a sum is not asked for.
@@ -32,20 +35,22 @@ fn search_four(b: &[u8], at: usize, s: u64, q: u64, n: u64) -> Option<u64>
     Some(n + either(left < q, 2, 0) + either(p.count < q - p.passed, 2, 1))
 }
 
-// The search from the node at bit at down. Which half it goes to nothing can foretell, so there is no jump on it. For `&&[u8]` see
-// `tree_walk`.
-fn search_node(b: &&[u8], at: usize, h: u32, s: u64, q: u64, n: u64) -> Option<u64>
+// The search from the node at bit at down. Which half it goes to nothing can foretell, so there is no jump on it. For `&&[u8]` and the one
+// number that it answers see `tree_walk`.
+fn search_node(b: &&[u8], at: usize, h: u32, s: u64, q: u64, n: u64) -> u64
     requires { Lies b.now.now at h s × (n + 2 ^ h < 2 ^ 64) }
-    ensures { result ≡ search_answer n (sought h s (bits b.now.now) at q) }
+    ensures { result ≡ index_of (search_answer n (sought h s (bits b.now.now) at q)) }
 {
     if one_word(h, s) {
-        return search_four(*b, at, s, q, n);
+        return search_four(*b, at, s, q, n).unwrap_or(NOWHERE);
     }
     if h == 0 {
-        return Some(n + 1);
+        return n + 1;
     }
     let down = h - 1;
-    let r = root(*b, at, down, s)?;
+    let Some(r) = root(*b, at, down, s) else {
+        return NOWHERE;
+    };
     let right = r.left < q;
     let passed = either(right, r.left, 0);
     let hours = either(right, reserve::power(down), 0);
@@ -60,5 +65,9 @@ pub fn search(b: &[u8], at: usize, h: u32, s: u64, q: u64, n: u64) -> Option<u64
     requires { Lies b.now at h s × (n + 2 ^ h < 2 ^ 64) }
     ensures { result ≡ search_answer n (sought h s (bits b.now) at q) }
 {
-    search_node(&b, at, h, s, q, n)
+    let index = search_node(&b, at, h, s, q, n);
+    if index == NOWHERE {
+        return None;
+    }
+    Some(index)
 }

@@ -13,9 +13,9 @@ use Rattle.bits.specs.Bits.{value_from}
 use Rattle.reserve.specs.Reserve.{digits}
 use Rattle.tree.specs.Read.{left_of, left_at, right_at, Found, damaged, found, later, walk}
 use Rattle.tree.specs.Code.Node.{Rooted}
-use Rattle.tree_walk.specs.Code.Answers.{walk_answer}
+use Rattle.tree_walk.specs.Code.Answers.{damage_word, number_of, walk_answer}
 use Rattle.tree.specs.declared.node.Split.{Split}
-use Rattle.tree.proofs.WalkLaws.{walk-left, walk-right}
+use Rattle.tree.proofs.WalkLaws.{Most, walk-left, walk-right}
 use Rattle.tree.proofs.Rooting.{Inner}
 
 -- the part of a left sum that is kept
@@ -77,3 +77,21 @@ module _ {h s : ℕ} {b : List ℕ} {a : ℕ} {r : Split} (i : Inner b a h s r) 
     walk-high o =
         rw (up h s b a j acc k i.high, walk-right (h - 1) s r.left b a j said small (omega arith), i.root.second_is, half)
         (answer-later acc k r.left _)
+
+-- ---- the whole walk, which begins with nothing before it and answers in one number r; what it found is no more than s
+module _ {s : ℕ} (few : s < damage_word) {k : ℕ} (one : k ≤ 1) where
+  pub none-found : (acc : ℕ) {r : ℕ} (f : Found) → Most s f → r ≡ number_of (walk_answer 0 k f) → r ≡ damage_word → None ≡ walk_answer acc k f
+  unfolding walk_answer
+  none-found acc damaged m e d = refl
+  none-found acc (found x c) m e d = absurd (omega (arith, e, d, kept k x one))
+
+  pub found-le : {r : ℕ} (f : Found) → Most s f → r ≡ number_of (walk_answer 0 k f) → (r ≡ damage_word → ⊥) → r ≤ s
+  unfolding walk_answer
+  found-le damaged m e d = absurd (d e)
+  found-le (found x c) m e d = omega (arith, e, kept k x one)
+
+  pub some-found : (acc : ℕ) {r : ℕ} (f : Found) → Most s f → r ≡ number_of (walk_answer 0 k f) → (r ≡ damage_word → ⊥)
+      → Some (acc + r) ≡ walk_answer acc k f
+  unfolding walk_answer
+  some-found acc damaged m e d = absurd (d e)
+  some-found acc {r} (found x c) m e d = ap Some {x = acc + r} {y = acc + k * x + c} (omega (arith, e))

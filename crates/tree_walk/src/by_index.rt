@@ -6,13 +6,16 @@ ghost use Rattle.reserve.specs.Reserve.{reserve};
 ghost use Rattle.tree.specs.Read.{walk as walked};
 ghost use Rattle.tree.specs.Code.Node.{Lies};
 ghost use Rattle.tree.specs.Code.InWord.{InWord, eight_limit};
-ghost use Rattle.tree_walk.specs.Code.Answers.{walk_answer};
+ghost use Rattle.tree_walk.specs.Code.Answers.{number_of, walk_answer};
 
 use crate::pairs::one_pair;
 use bits_field::front;
 use lists::either;
 use reserve::{digits_of, reserve_of};
 use tree::node::{eight_in_word, one_word, root_by_shifts};
+
+// How the walk down answers damage, `damage_word`: 2^63, above every sum.
+pub(crate) const DAMAGED: u64 = 9223372036854775808;
 
 // Count j of the four counts with sum s whose bits stand in w behind its k high ones, as `walk` answers it. The left sum is tested by <, as
 // what is left of s is `one_pair`'s to know.
@@ -47,33 +50,27 @@ fn walk_eight(b: &[u8], at: usize, s: u64, j: u64, acc: u64, keep: u64) -> Optio
     walk_four(w, k, right, j - 4, acc + keep * left, keep)
 }
 
-// The walk from the node at bit at down to count j below it.
-pub(crate) fn walk_node(
-    b: &&[u8],
-    at: usize,
-    h: u32,
-    s: u64,
-    j: u64,
-    acc: u64,
-    keep: u64,
-) -> Option<u64>
+// The walk from the node at bit at down to count j below it. Answers one number, so that its last call is a jump.
+pub(crate) fn walk_node(b: &&[u8], at: usize, h: u32, s: u64, j: u64, acc: u64, keep: u64) -> u64
     requires { Lies b.now.now at h s × (acc + s < 2 ^ 64) × (keep ≤ 1) }
-    ensures { result ≡ walk_answer acc keep (walked h s (bits b.now.now) at j) }
+    ensures { result ≡ number_of (walk_answer acc keep (walked h s (bits b.now.now) at j)) }
 {
     if s == 0 {
-        return Some(acc);
+        return acc;
     }
     if eight_in_word(h, s) {
-        return walk_eight(*b, at, s, j, acc, keep);
+        return walk_eight(*b, at, s, j, acc, keep).unwrap_or(DAMAGED);
     }
     if one_word(h, s) {
-        return walk_four(front::load(*b, at), 0, s, j, acc, keep);
+        return walk_four(front::load(*b, at), 0, s, j, acc, keep).unwrap_or(DAMAGED);
     }
     if h == 0 {
-        return Some(acc + s);
+        return acc + s;
     }
     let down = h - 1;
-    let r = root_by_shifts(*b, at, down, s)?;
+    let Some(r) = root_by_shifts(*b, at, down, s) else {
+        return DAMAGED;
+    };
     let half = reserve::power(down);
     if j < half {
         return walk_node(b, r.first, down, r.left, j, acc, keep);
