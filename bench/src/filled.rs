@@ -11,6 +11,11 @@ const PAGE: usize = 64;
 /// and a few cells are free. Another one for each seed.
 pub fn filled(pages: usize, left: usize, seed: u64) -> Vec<u8> {
     assert!(left <= PAGE);
+    begun(pages, PAGE * pages - left, seed)
+}
+
+/// The same store when it had so many hours.
+pub fn begun(pages: usize, logged: usize, seed: u64) -> Vec<u8> {
     let cells = 1_800 * pages / 1_024;
     let mut bytes = vec![0; 16 + 6 * pages + 32 * cells];
     assert_eq!(store::fresh(&mut bytes, pages as u32, cells as u32), 0);
@@ -19,13 +24,13 @@ pub fn filled(pages: usize, left: usize, seed: u64) -> Vec<u8> {
     for page in 0..pages {
         let mut counts = [0; PAGE];
         let most = if page % 10 < 7 { 6 } else { 3 };
-        let hours = if page + 1 == pages { PAGE - left } else { PAGE };
+        let hours = logged.saturating_sub(PAGE * page).min(PAGE);
         counts[..hours].fill_with(|| random.below(most) as u32);
         next = fill_page(&mut bytes, pages, page, &counts, next);
     }
     put(&mut bytes, 6, next as u64, 2);
     put(&mut bytes, 8, (cells + 1 - next) as u64, 2);
-    put(&mut bytes, 12, (PAGE * pages - left) as u64, 4);
+    put(&mut bytes, 12, logged as u64, 4);
     assert!(store::free::<Straightforward>(&bytes) > 0, "a sound store");
     bytes
 }

@@ -31,6 +31,7 @@ fn main() {
         let on = format!("{pages} pages");
         measure_all(&contenders, &on, vec![tasks::append(pages)]);
     }
+    measure_all(&contenders, "1024 pages", tasks::mostly_free(1_024));
     measure_all(&contenders, "1024 pages", tasks::freezes(1_024));
     measure_all(&contenders, "1024 pages", tasks::moves(1_024));
     measure_all(&contenders, "1024 pages", tasks::repairs(1_024));

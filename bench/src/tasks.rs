@@ -2,7 +2,7 @@
 
 use crate::contender::Contender;
 use crate::data::{counts, in_order, questions, Kind, INPUTS};
-use crate::filled::{filled, noise, one_chain};
+use crate::filled::{begun, filled, noise, one_chain};
 
 const E: u32 = 6;
 const QUESTIONS: usize = 8_192;
@@ -249,13 +249,45 @@ fn books(kind: Kind) -> Vec<Task> {
 
 /// Appends to a store of which most pages hold data, each with its full check.
 pub fn append(pages: usize) -> Task {
-    over_stores("append", APPENDS, |seed| Input {
-        start: filled(pages, PAGE, seed),
+    over_stores("append", APPENDS, |seed| {
+        appending(filled(pages, PAGE, seed))
+    })
+}
+
+fn appending(start: Vec<u8>) -> Input {
+    Input {
+        start,
         work: Box::new(|by, bytes| {
             let counts: Vec<u64> = (1..=APPENDS as u64).collect();
             all_answers(&counts, |count| (by.append)(bytes, count as u32))
         }),
-    })
+    }
+}
+
+/// Calls on a log that is fresh and on one that is a tenth full: the check looks
+/// at each free cell, and most cells are.
+pub fn mostly_free(pages: usize) -> Vec<Task> {
+    let tenth = PAGE * pages / 10;
+    vec![
+        over_stores("append, fresh", APPENDS, |seed| {
+            appending(begun(pages, 0, seed))
+        }),
+        over_stores("append, a tenth full", APPENDS, |seed| {
+            appending(begun(pages, tenth, seed))
+        }),
+        over_stores("free, fresh", 1, |seed| checking(begun(pages, 0, seed))),
+        over_stores("free, a tenth full", 1, |seed| {
+            checking(begun(pages, tenth, seed))
+        }),
+    ]
+}
+
+/// Free takes the soundness check, hardly more.
+fn checking(start: Vec<u8>) -> Input {
+    Input {
+        start,
+        work: Box::new(|by, bytes| (by.free)(bytes)),
+    }
 }
 
 /// The image of a full store's list, at pages of 4, 8 and 64 counts.
@@ -304,9 +336,8 @@ pub fn repairs(pages: usize) -> Vec<Task> {
         task.beside("soundness check")
     };
     vec![
-        over_stores("soundness check", 1, |seed| Input {
-            start: filled(pages, 0, seed),
-            work: Box::new(|by, bytes| (by.free)(bytes)),
+        over_stores("soundness check", 1, |seed| {
+            checking(filled(pages, 0, seed))
         }),
         repair("repair, sound store", |pages, seed| filled(pages, 0, seed)),
         repair("repair, noise", noise),

@@ -1,7 +1,8 @@
 // The free chain, and that every cell was met.
 #![tactic(auto)]
 
-ghost use Rattle.std.specs.Prelude.{◌≡◌, ◌↔◌, EachIndex, IsTrue, slice_index};
+ghost use Rattle.std.specs.Prelude.{◌≡◌, ◌+◌, ◌≤◌, ◌↔◌, EachIndex, IsTrue, length, replicate, slice_index};
+ghost use Rattle.lists.specs.Lists.{part, same};
 ghost use Rattle.sound_free.specs.Code.Free.{free_chain_fits};
 
 use store::cells::Cells;
@@ -12,6 +13,17 @@ fn all_are(s: &[u8], b: u8) -> bool
     ensures { IsTrue result ↔ EachIndex s.now (λ k. slice_index s.now k ≡ b) }
 {
     s.iter().all(|x| *x == b)
+}
+
+// Whether the cell that starts at address at is clear: an OR of the 30 bytes of its code, so that a free cell costs no jump for each byte.
+fn is_clear(cells: &Cells, at: usize) -> bool
+    requires { at + 32 ≤ length cells.now.bytes.now }
+    ensures { result ≡ same (part cells.now.bytes.now (at + 2) 30) (replicate 30 0) }
+{
+    cells.bytes[at + 2..at + Header::CELL]
+        .iter()
+        .fold(0, |all, b| all | *b)
+        == 0
 }
 
 // Walks the free chain with the marks that the pages left: whether it has as many cells as the header says, clear and none met before, and
@@ -28,7 +40,7 @@ pub fn free_fits(cells: &Cells, met: [u8; Header::MARKS]) -> bool
         };
         marks[c] = 1;
         at = cells.at(c);
-        if !all_are(cells.code(at), 0) {
+        if !is_clear(cells, at) {
             return false;
         }
     }
