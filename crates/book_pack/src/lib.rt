@@ -13,14 +13,15 @@ fn packed(n: u16) -> u8
     (n + 6 * (n / 10)) as u8
 }
 
-// Puts the four digits of a count into two bytes of a book. In numbers of 16 bits: the compiler then packs several counts at once.
+// Puts the four digits of a count into two bytes of a book. In numbers of 16 bits: the compiler then packs several counts at once. Of
+// c % 100 it knows that a byte holds it, and goes on in bytes: a book then takes a quarter longer.
 fn put_hour(book: &mut [u8], at: usize, count: u32)
     requires { (at + 1 < length book.old) × (count ≤ 9999) }
     ensures { book.new ≡ splice book.old at (book_of (count ∷ [])) }
 {
     let c = count as u16;
     book[at] = packed(c / 100);
-    book[at + 1] = packed(c % 100);
+    book[at + 1] = packed(c - 100 * (c / 100));
 }
 
 // Puts the counts into a book, from hour from on. By an index, for behind a zip with chunks_mut a proof knows no element.
