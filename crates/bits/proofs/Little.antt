@@ -4,12 +4,13 @@ use mathlib.Core.List.{List, [], ◌∷◌, ◌++◌}
 use Prim.Native.Nat.{ℕ, zero, suc, ◌+◌, ◌*◌, ◌/◌, ◌%◌, ◌^◌, ◌-◌, ◌≤◌, ◌<◌}
 use native.Mathlib.Nat.{add-zero, pow-succ'}
 use native.Mathlib.Omega.{arith}
-use lib.ListN.{length, get_or, take, drop, replicate, length-append, length-replicate}
-use lib.Seq.{take_all}
+use native.Mathlib.Numerals.{add-one, add-two, add-three}
+use lib.ListN.{length, get_or, take, drop, replicate, set, length-append, length-replicate}
+use lib.Seq.{drop-cons, take_all}
 use Rattle.std.specs.Int.{w64, from_le_bytes, to_le_bytes}
-use Rattle.lists.specs.Lists.{part, tabulate}
+use Rattle.lists.specs.Lists.{part, splice, tabulate}
 use Rattle.bits.specs.Numbers.{little, number, number_at, Number}
-use Rattle.lists.proofs.Parts.{length_part}
+use Rattle.lists.proofs.Parts.{length_part, sets-splice}
 use Rattle.lists.proofs.Tables.{part-table}
 
 pub length-little : (w v : ℕ) → length (little w v) ≡ w
@@ -136,3 +137,50 @@ all-eight v =
 
 pub low : (n v : ℕ) → n ≤ 8 → take n (to_le_bytes w64 v) ≡ little n v
 low n v h = ap (take n) (all-eight v) ∙ take-little n 8 v h
+
+-- ---- reading: byte by byte
+number-next : (s : List ℕ) (a w : ℕ) → a < length s → number_at s a (suc w) ≡ get_or s a 0 + 256 * number_at s (a + 1) w
+unfolding number
+number-next s a w h = rw (drop-cons s a 0 h, add-one a)
+
+pub number-none : (s : List ℕ) (a : ℕ) → number_at s a 0 ≡ 0
+unfolding number
+number-none s a = refl
+
+-- the bytes at a and behind it, as the code names their places
+pub number2 : (s : List ℕ) (a b₀ b₁ : ℕ) → a + 2 ≤ length s → b₀ ≡ get_or s a 0 → b₁ ≡ get_or s (a + 1) 0 → b₀ < 256 → b₁ < 256
+    → Number s a 2 (b₀ + 256 * b₁)
+number2 s a b₀ b₁ h e₀ e₁ l₀ l₁ = record {
+  is = omega (arith, number-next s a 1 (omega arith), number-next s (a + 1) 0 (omega arith), number-none s (a + 1 + 1));
+  small = omega arith;
+}
+
+pub number4 : (s : List ℕ) (a b₀ b₁ b₂ b₃ : ℕ) → a + 4 ≤ length s → b₀ ≡ get_or s a 0 → b₁ ≡ get_or s (a + 1) 0 → b₂ ≡ get_or s (a + 2) 0
+    → b₃ ≡ get_or s (a + 3) 0 → b₀ < 256 → b₁ < 256 → b₂ < 256 → b₃ < 256 → Number s a 4 (b₀ + 256 * b₁ + 65536 * b₂ + 16777216 * b₃)
+number4 s a b₀ b₁ b₂ b₃ h e₀ e₁ e₂ e₃ l₀ l₁ l₂ l₃ =
+    let q₂ : get_or s (a + 2) 0 ≡ get_or s (a + 1 + 1) 0 = ap (λ (z : ℕ). get_or s z 0) {x = a + 2} {y = a + 1 + 1} (omega arith) in
+    let q₃ : get_or s (a + 3) 0 ≡ get_or s (a + 1 + 1 + 1) 0 = ap (λ (z : ℕ). get_or s z 0) {x = a + 3} {y = a + 1 + 1 + 1} (omega arith) in
+    record {
+      is =
+          omega (
+            arith,
+            q₂,
+            q₃,
+            number-next s a 3 (omega arith),
+            number-next s (a + 1) 2 (omega arith),
+            number-next s (a + 1 + 1) 1 (omega arith),
+            number-next s (a + 1 + 1 + 1) 0 (omega arith),
+            number-none s (a + 1 + 1 + 1 + 1),
+          );
+      small = omega arith;
+    }
+
+-- ---- writing: one store a byte
+pub put2-is : (s : List ℕ) (a v : ℕ) → a + 2 ≤ length s → set (set s a (v % 256)) (a + 1) (v / 256 % 256) ≡ splice s a (little 2 v)
+unfolding little
+put2-is s a v h = rw add-one (sets-splice (little 2 v) s a h)
+
+pub put4-is : (s : List ℕ) (a v : ℕ) → a + 4 ≤ length s
+    → set (set (set (set s a (v % 256)) (a + 1) (v / 256 % 256)) (a + 2) (v / 256 / 256 % 256)) (a + 3) (v / 256 / 256 / 256 % 256) ≡ splice s a (little 4 v)
+unfolding little
+put4-is s a v h = rw (add-one, add-two, add-three) (sets-splice (little 4 v) s a h)

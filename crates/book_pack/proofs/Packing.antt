@@ -1,15 +1,20 @@
 -- Counts put into a book, one after another. Assumes nothing.
 use mathlib.Core.Path.{◌≡◌, sym, ap, ap₂, ◌∙◌}
+use mathlib.Core.Bool.{true}
 use mathlib.Core.List.{List, [], ◌∷◌}
-use Prim.Native.Nat.{ℕ, ◌+◌, ◌*◌, ◌/◌, ◌%◌, ◌<◌}
+use Prim.Native.Nat.{ℕ, ◌+◌, ◌*◌, ◌/◌, ◌%◌, ◌≤◌, ◌<◌}
 use native.Mathlib.Numerals.{add-one}
 use native.Mathlib.Omega.{arith}
 use lib.ListN.{length, get_or, set, take}
-use lib.Seq.{length-take-le, take-suc}
+use lib.Seq.{get_or-take, length-take-le, take-suc}
 use Rattle.lists.specs.Lists.{splice}
 use Rattle.lists.proofs.Parts.{sets-splice, splice-nil, splice-then}
-use Rattle.book.specs.Book.{book_of, packed_byte}
-use Rattle.book.proofs.BookLaws.{book-append, length-book}
+use Rattle.book.specs.Book.{book_of, four_digits, packed_byte}
+use Rattle.book.proofs.BookLaws.{book-append, four-at, length-book}
+
+-- ---- each of the first n counts
+pub narrow_at : (c : List ℕ) (n i : ℕ) → four_digits (take n c) ≡ true → i < n → get_or c i 0 ≤ 9999
+narrow_at c n i h l = rw (get_or-take n c i 0 l) at (four-at (take n c) h i)
 
 -- ---- one count
 pub hour-two : (b : List ℕ) (at x y z : ℕ) → at + 1 < length b → y ≡ packed_byte (x / 100) → z ≡ packed_byte (x % 100)

@@ -1,16 +1,18 @@
 -- The header's fields and tests, over plain numbers. Assumes nothing.
 use mathlib.Core.Path.{◌≡◌, refl, sym, ap, ◌∙◌}
-use mathlib.Core.Bool.{Bool, true, false}
+use mathlib.Core.Bool.{Bool, true, false, ◌&&◌}
 use mathlib.Core.List.{List, [], ◌∷◌}
 use Prim.Native.Nat.{ℕ, zero, suc, ◌+◌, ◌-◌, ◌*◌, ◌/◌, ◌%◌, ◌^◌, ◌≤◌, ◌<◌, min}
 use native.Mathlib.Nat.{mul-le-mul_right, mul_comm, mul-suc, div-mul-le_self, lt-div-mul-add, lt_of_mul-lt-mul_left}
+use native.Mathlib.Numerals.{add-one}
 use native.Mathlib.Omega.{arith}
-use lib.ListN.{length, get_or}
+use lib.ListN.{length, get_or, drop, drop_of_length-le}
+use lib.Seq.{drop-cons}
 use lib.Pow.{pow_pos}
 use lib.Dec.{eqb, leb, ltb}
 use borrow.Author.Tests.{lt-leb, le-ltb, leb-true, eqb-true}
 use Rattle.std.proofs.lemmas.Grind.{div_ceil_times}
-use Rattle.lists.specs.Lists.{part}
+use Rattle.lists.specs.Lists.{every, part}
 use Rattle.lists.proofs.Parts.{length_part}
 use Rattle.lists.proofs.Tests.{each, every-no}
 use Rattle.bits.specs.Numbers.{number_at}
@@ -53,9 +55,23 @@ pub size-of-is : (e n l a p t : ℕ) → p ≡ pages e n → a ≡ t + 4 * p →
 unfolding size bytes_for
 size-of-is e n l a p t h g b q = omega (arith, g, ap (λ (k : ℕ). 4 * k) h)
 
--- ---- two tests
+-- ---- two tests, and a table of tests, one after another
 pub never : false ≡ true → ⊥
 never e = let z : ◌≡◌ {A = ℕ} 0 1 = cc in omega arith
+
+every-next : (bs : List Bool) (i : ℕ) → i < length bs → every (drop i bs) ≡ (get_or bs i false && every (drop (i + 1) bs))
+unfolding every
+every-next bs i l = ap every (drop-cons bs i false l ∙ ap (λ (n : ℕ). get_or bs i false ∷ drop n bs) (sym (add-one i)))
+
+pub every-on : (bs : List Bool) (i : ℕ) → i < length bs → get_or bs i false ≡ true → every (drop i bs) ≡ every (drop (i + 1) bs)
+every-on bs i l e = every-next bs i l ∙ ap (λ (z : Bool). z && every (drop (i + 1) bs)) e
+
+pub every-stop : (bs : List Bool) (i : ℕ) → i < length bs → get_or bs i false ≡ false → every (drop i bs) ≡ false
+every-stop bs i l e = every-next bs i l ∙ ap (λ (z : Bool). z && every (drop (i + 1) bs)) e
+
+pub every-end : (bs : List Bool) (i : ℕ) → length bs ≤ i → every (drop i bs) ≡ true
+unfolding every
+every-end bs i l = ap every (drop_of_length-le bs l)
 
 -- ---- the header's tests
 -- under 16 bytes, or 24 of edition 2

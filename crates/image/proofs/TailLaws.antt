@@ -1,8 +1,9 @@
 -- The header's tail of either edition, and the whole header with it. Assumes nothing.
 use mathlib.Core.Path.{◌≡◌, refl, sym, ap, ap₂, ◌∙◌}
 use mathlib.Core.Bool.{Bool, true, false}
-use mathlib.Core.List.{List, [], ◌∷◌}
-use Prim.Native.Nat.{ℕ, ◌+◌, ◌*◌, ◌/◌, ◌%◌, ◌≤◌, ◌<◌}
+use mathlib.Core.List.{List, [], ◌∷◌, ◌++◌}
+use Prim.Native.Nat.{ℕ, ◌+◌, ◌*◌, ◌/◌, ◌%◌, ◌^◌, ◌≤◌, ◌<◌}
+use native.Mathlib.Nat.{pow-succ'}
 use native.Mathlib.Omega.{arith}
 use lib.ListN.{length, get_or}
 use lib.Dec.{eqb, leb, ltb}
@@ -49,6 +50,12 @@ module _ (s : List ℕ) (two : get_or s 0 0 ≡ 2) where
   pub wide_short : length s < 24 → headed s ≡ false
   wide_short l = too_short s 24 (omega (arith, ap header_length is_wide)) l
 
+-- the number in two lists, the second behind the first
+number-two : (bs cs : List ℕ) → number (bs ++ cs) ≡ number bs + 256 ^ length bs * number cs
+unfolding number
+number-two [] cs = omega arith
+number-two (b ∷ bs) cs = omega (arith, number-two bs cs, ap (λ (k : ℕ). k * number cs) (pow-succ' 256 (length bs)))
+
 module _ (s : List ℕ) {t z : ℕ} (two : get_or s 0 0 ≡ 2) (long : 24 ≤ length s) (g : Number s 8 8 t) (k : Number s 20 4 z) where
   total-is : t ≡ s_of s
   unfolding s_of
@@ -92,6 +99,10 @@ module _ (s : List ℕ) {t z : ℕ} (two : get_or s 0 0 ≡ 2) (long : 24 ≤ le
       }
 
 -- ---- neither
+edition-is-one-of : (b : Bool) → (edition b ≡ 1 → ⊥) → (edition b ≡ 2 → ⊥) → ⊥
+edition-is-one-of false p q = p refl
+edition-is-one-of true p q = q refl
+
 pub no-edition : (s : List ℕ) → ((b : Bool) → get_or s 0 0 ≡ edition b → ⊥) → headed s ≡ false
 unfolding headed
 no-edition s f = every-no (head_tests s) 1 (ne_eqb (get_or s 0 0) (edition (wide_of s)) (f (wide_of s)))

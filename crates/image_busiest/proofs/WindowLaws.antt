@@ -2,7 +2,7 @@
 use mathlib.Core.Bool.{true}
 use mathlib.Core.List.{List}
 use mathlib.Core.Path.{◌≡◌, refl, sym, ap, ◌∙◌}
-use Prim.Native.Nat.{ℕ, ◌+◌, ◌-◌, ◌%◌, ◌^◌, ◌≤◌, ◌<◌}
+use Prim.Native.Nat.{ℕ, ◌+◌, ◌-◌, ◌%◌, ◌^◌, ◌≤◌, ◌<◌, min}
 use native.Mathlib.Decide.{dec_le}
 use native.Mathlib.Omega.{arith}
 use lib.ListN.{length, get_or}
@@ -15,6 +15,7 @@ use Rattle.image.specs.Read.{list_of}
 use Rattle.image.specs.declared.head.Head.{Head}
 use Rattle.image.specs.declared.opened.Accepted.{Accepted}
 use Rattle.image.proofs.Accepted.{accepted-only}
+use Rattle.image_cursor.specs.Code.Cursor.{Ahead}
 use Rattle.image_cursor.specs.declared.cursor.Cursor.{Cursor}
 use Rattle.image_cursor.proofs.CursorLaws.{count_of, hours, place_in}
 use Rattle.runs.specs.Runs.{Busiest, run_sum}
@@ -63,6 +64,15 @@ module _ (s : List ℕ) (k : ℕ) (w : Window) (l : Looked s k w) (i : w.first +
         },
         refl,
       )
+
+-- ---- as far as no end leaves its page
+pub along-least : (h : Head) (k j u v r : ℕ) → j + k < h.hours → Ahead h (j + k) u → Ahead h j v → r ≡ min u v → Along h k j r
+along-least h k j u v r l e f g = record {
+  some = omega (arith, e.some l, f.some (omega arith));
+  inside = omega (arith, e.inside);
+  front-room = omega (arith, e.room);
+  back-room = omega (arith, f.room);
+}
 
 module _ (s : List ℕ) (a : accepted s ≡ true) {h : Head} (o : HeadOf s h) where
   -- no run and no count has more than the total

@@ -2,7 +2,7 @@
 use mathlib.Core.Bool.{true}
 use mathlib.Core.List.{List}
 use mathlib.Core.Path.{◌≡◌, ap, sym, ◌∙◌}
-use Prim.Native.Nat.{ℕ, ◌+◌, ◌*◌, ◌/◌, ◌%◌, ◌^◌, ◌≤◌, ◌<◌}
+use Prim.Native.Nat.{ℕ, ◌+◌, ◌-◌, ◌*◌, ◌/◌, ◌%◌, ◌^◌, ◌≤◌, ◌<◌, min}
 use native.Mathlib.Nat.{lt_of_mul-lt-mul_left}
 use native.Mathlib.Decide.{dec_le}
 use native.Mathlib.Omega.{arith}
@@ -156,3 +156,12 @@ module _ (s : List ℕ) {h : Head} (o : HeadOf s h) where
   ahead-part a lo n b m c e d r f =
       let l : length (part c b n) ≡ n = length_part c b n (omega (arith, page-small a, d.room, r.long, e)) in
       rw (f, l) (d, counts-ahead a lo n b c e d r)
+
+-- the lesser of what the page and what the list has
+pub ahead-least : (h : Head) (i u r : ℕ) → i ≤ h.hours → u + i % 2 ^ h.e ≡ 2 ^ h.e → r ≡ min u (h.hours - i) → Ahead h i r
+ahead-least h i u r l e g = record {
+  inside = omega arith;
+  room = omega arith;
+  some = λ (k : i < h.hours). omega (arith, hour-low h.e i);
+  whole = λ (k : i + r < h.hours). omega arith;
+}

@@ -25,6 +25,7 @@ use Rattle.image.proofs.Accepted.{accepted-only}
 use Rattle.image.proofs.ReadLaws.{before-is, code_is, length-image, pages-is, root_is, start_is, sum_is, tree_is, wide_is, width_is}
 use Rattle.image.proofs.Editions.{header-least, header-most}
 use Rattle.image.proofs.PageLaws.{code-most, length-page, page-le, page-few, page-sum, pages-few, start-within, width-most}
+use Rattle.image_page.specs.Code.Places.{PlacesOf}
 
 -- what the code needs to know of it
 pub record Page (s : List ℕ) (p : ℕ) : Type 0 where
@@ -114,6 +115,10 @@ module _ (s : List ℕ) (a : accepted s ≡ true) where
 pub wide-as : {s : List ℕ} {h : Head} {w : ℕ} → HeadOf s h → w ≡ digits h.total → w ≡ width_of s
 unfolding width_of
 wide-as d q = q ∙ ap digits d.total-is
+
+-- where the parts stand, as the code works it out of the header
+pub places : {s : List ℕ} {h : Head} {w : ℕ} → HeadOf s h → w ≡ digits h.total → PlacesOf s h.table h.code w
+places d q = record { entries-are = d.table_is; code_is = d.code_is; width_is = wide-as d q }
 
 -- page 0 has no page before it, another one has
 pub before-first : (s : List ℕ) (p : ℕ) → p ≡ 0 → 0 ≡ before_of s p

@@ -5,3 +5,4 @@ pub mod PageSteps
 pub mod PagesLaid
 pub mod Answering
 pub mod BlockByBlock
+pub mod PageByPage

@@ -2,10 +2,12 @@
 use mathlib.Core.Path.{◌≡◌, refl, sym, ap, ◌∙◌}
 use mathlib.Core.Bool.{Bool, true, false}
 use mathlib.Core.List.{List, [], ◌∷◌, ◌++◌, append_assoc}
-use Prim.Native.Nat.{ℕ, suc, ◌+◌, ◌-◌, ◌*◌, ◌≤◌, ◌<◌}
+use Prim.Native.Nat.{ℕ, suc, ◌+◌, ◌-◌, ◌*◌, ◌/◌, ◌%◌, ◌≤◌, ◌<◌}
 use native.Mathlib.Omega.{arith}
 use lib.ListN.{length, get_or, drop, replicate, length-append, length-replicate}
+use lib.Pow.{shr-shr}
 use lib.Seq.{get_or-drop, sets}
+use borrow.Author.Tests.{lt-ltb}
 use Rattle.lists.specs.Lists.{concat, splice, sum, tabulate}
 use Rattle.lists.proofs.Parts.{length-splice, sets-splice, splice-more, splice-nil, splice-then}
 use Rattle.lists.proofs.Tables.{concat-each, concat-le, concat-suc}
@@ -14,7 +16,7 @@ use Rattle.bits.specs.Numbers.{little}
 use Rattle.bits.proofs.Laws.{bits-append, length-bits}
 use Rattle.bits.proofs.Little.{Bytes, bytes-little, length-little}
 use Rattle.bits.proofs.Packing.{bits-fill}
-use Rattle.image.specs.Image.{bytes_for, code, edition, first_pages, header, header_in, header_length, image, packed, page_code, pages, size, start}
+use Rattle.image.specs.Image.{bytes_for, code, edition, first_pages, header, header_in, header_length, image, narrow_total, packed, page_code, pages, size, start}
 use Rattle.image.specs.Image.{table, table_at, total_width, wide, zero_bytes}
 use Rattle.image_put.specs.Code.Writing.{code_of, head_front, head_length, head_tail, laid, starts, table_and_code}
 use Rattle.image.proofs.ReadLaws.{bits-code, length-header, length-image}
@@ -33,6 +35,13 @@ pub narrow-put : (s s₁ s₂ : List ℕ) (t l : ℕ) → 16 ≤ length s → s�
 unfolding little
 narrow-put s s₁ s₂ t l h e₁ e₂ =
     splice-then s s₁ s₂ (little 4 t) (little 4 l) 8 12 e₁ e₂ (omega (arith, length-little 4 t)) (omega (arith, length-little 4 t, length-little 4 l))
+
+-- eight bytes are twice four
+little-eight : (t : ℕ) → little 4 t ++ little 4 (t / 4294967296) ≡ little 8 t
+unfolding little
+little-eight t =
+    ap (λ (z : ℕ). t % 256 ∷ t / 256 % 256 ∷ t / 256 / 256 % 256 ∷ t / 256 / 256 / 256 % 256 ∷ little 4 z)
+    (sym (shr-shr t 24 8) ∙ ap (λ (z : ℕ). z / 256) (sym (shr-shr t 16 8) ∙ ap (λ (z : ℕ). z / 256) (sym (shr-shr t 8 8))))
 
 pub wide-put : (s s₁ s₂ s₃ : List ℕ) (t l : ℕ) → 24 ≤ length s → s₁ ≡ splice s 8 (little 8 t) → s₂ ≡ splice s₁ 16 (little 4 l)
     → s₃ ≡ splice s₂ 20 (little 4 0) → s₃ ≡ splice s 8 (head_tail true t l)
@@ -67,6 +76,10 @@ pub header-put : (s s₁ s₂ : List ℕ) (b : Bool) (e n t l : ℕ) → b ≡ w
 unfolding header
 header-put s s₁ s₂ b e n t l w h p q =
     joined s s₁ s₂ b e n t l (omega (arith, h, ap header_length w)) p q ∙ ap (λ (b : Bool). splice s 0 (header_in b e n t l)) w
+
+pub wide_room : (t k : ℕ) → header_length (wide t) ≤ k → narrow_total < t → 24 ≤ k
+unfolding wide
+wide_room t k h l = omega (arith, ap header_length (lt-ltb narrow_total t l))
 
 -- ---- pages
 pub laid_none : (b : List ℕ) (e : ℕ) (xs : List ℕ) → b ≡ laid b e xs 0

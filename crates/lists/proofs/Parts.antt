@@ -3,10 +3,11 @@ use mathlib.Core.Path.{◌≡◌, refl, sym, ap, ap₂, ◌∙◌}
 use mathlib.Core.List.{List, [], ◌∷◌, ◌++◌, append_assoc}
 use Prim.Native.Nat.{ℕ, zero, suc, ◌+◌, ◌-◌, ◌*◌, ◌≤◌, ◌<◌, min}
 use native.Mathlib.Nat.{add-zero, add_assoc, mul-zero, mul-suc}
+use native.Mathlib.Numerals.{add-one}
 use native.Mathlib.Omega.{arith}
 use native.Mathlib.Decide.{dec_le}
-use lib.ListN.{length, get_or, take, drop, length-append, length-take, length-drop, take-append-drop}
-use lib.Seq.{take-add, take_all, take_at, drop_at, take-take, drop-drop, length-take-le, drop-append-add, sets, sets-eq}
+use lib.ListN.{length, get_or, take, drop, set, length-append, length-set, length-take, length-drop, take-append-drop}
+use lib.Seq.{take-add, take_all, take_at, take-set-le, take-suc, drop_at, take-take, drop-drop, get_or-drop, get_or-set_same, length-take-le, drop-append-add, sets, sets-eq}
 use borrow.Rule.Slice.PartMut.{put_mid}
 use Rattle.std.specs.Simd.{first_chunks}
 use Rattle.lists.specs.Lists.{part, splice}
@@ -139,7 +140,21 @@ unfolding splice
 splice-over b x y a e h =
     splice_at (take a b) x y (drop (a + length x) b) a (length-take-le a b (omega arith)) e ∙ ap (λ (k : ℕ). take a b ++ (y ++ drop (a + k) b)) e
 
--- ---- stores one after another are a splice
+-- ---- stores one after another
+pub sets-snoc : (v s : List ℕ) (a x : ℕ) → sets s a (v ++ x ∷ []) ≡ set (sets s a v) (a + length v) x
+sets-snoc [] s a x = ap (λ (z : ℕ). set s z x) {x = a} {y = a + 0} (omega arith)
+sets-snoc (y ∷ v) s a x = sets-snoc v (set s a y) (suc a) x
+    ∙ ap (λ (z : ℕ). set (sets (set s a y) (suc a) v) z x) {x = suc a + length v} {y = a + suc (length v)} (omega arith)
+
+-- one more element of those from f on
+pub sets-next : (s v : List ℕ) (a f i : ℕ) → f + i < length v → set (sets s a (part v f i)) (a + i) (get_or v (f + i) 0) ≡ sets s a (part v f (i + 1))
+sets-next s v a f i l =
+    let e : part v f (i + 1) ≡ part v f i ++ (get_or v (f + i) 0 ∷ []) =
+    rw (add-one, ← get_or-drop f v i 0) (take-suc (drop f v) i 0 (omega (arith, length-drop f v))) in
+    let n : length (part v f i) ≡ i = length_part v f i (omega arith) in
+    sym (ap (sets s a) e ∙ sets-snoc (part v f i) s a (get_or v (f + i) 0) ∙ ap (λ (z : ℕ). set (sets s a (part v f i)) (a + z) (get_or v (f + i) 0)) n)
+
+-- they are a splice
 pub sets-splice : (v s : List ℕ) (a : ℕ) → a + length v ≤ length s → sets s a v ≡ splice s a v
 unfolding splice
 sets-splice v s a h = sets-eq v s a h ∙ append_assoc (take a s) v (drop (a + length v) s)
@@ -148,3 +163,13 @@ pub length-splice : (s : List ℕ) (a : ℕ) (v : List ℕ) → a + length v ≤
 unfolding splice
 length-splice s a v h =
     omega (arith, length-append (take a s) (v ++ drop (a + length v) s), length-append v (drop (a + length v) s), length-take a s, length-drop (a + length v) s)
+
+-- ---- an array copied
+-- one number more
+pub copied_next : (c d : List ℕ) (i : ℕ) → i < length c → i < length d → take i c ≡ take i d → take (i + 1) (set c i (get_or d i 0)) ≡ take (i + 1) d
+copied_next c d i l k e =
+    let x : ℕ = get_or d i 0 in
+    rw add-one
+    (take-suc (set c i x) i 0 (omega (arith, length-set c i x, l))
+    ∙ ap₂ (λ (p : List ℕ) (y : ℕ). p ++ y ∷ []) (take-set-le i c i x (omega arith) ∙ e) (get_or-set_same c i x 0 l)
+    ∙ sym (take-suc d i 0 k))

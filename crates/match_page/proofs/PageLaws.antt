@@ -3,7 +3,7 @@ use mathlib.Core.Bool.{true}
 use mathlib.Core.List.{List}
 use mathlib.Core.Path.{◌≡◌, refl, ap, sym, ◌∙◌}
 use Prim.Native.Nat.{ℕ, suc, ◌+◌, ◌-◌, ◌*◌, ◌/◌, ◌%◌, ◌^◌, ◌≤◌, ◌<◌}
-use native.Mathlib.Nat.{mul-div_right, mul-le-mul_left, mul-le-mul_right, mul-mod_right, mul-suc}
+use native.Mathlib.Nat.{add-mod_right, zero-mod, mul-div_right, mul-le-mul_left, mul-le-mul_right, mul-mod_right, mul-suc}
 use native.Mathlib.Decide.{dec_le}
 use native.Mathlib.Omega.{arith}
 use lib.ListN.{length, take}
@@ -139,3 +139,19 @@ pub coins-next : (xs : List ℕ) (page : FrontPage) (first b : ℕ) → page.fir
 coins-next xs page first b q g e =
     let f = ap (λ (z : ℕ). reading xs (z + page.hours)) q in
     omega (arith, f, e, ap (reading xs) q, run-reading xs page.first page.hours, g.sum_is)
+
+-- ---- where pages meet, or the list ends
+pub record Border (h : Head) (first : ℕ) : Type 0 where
+  pub inside : first ≤ h.hours
+  pub meets : first < h.hours → first % 2 ^ h.e ≡ 0
+
+pub border-first : (h : Head) → Border h 0
+border-first h = record { inside = omega arith; meets = λ l. zero-mod (2 ^ h.e) }
+
+pub border-next : (s : List ℕ) (h : Head) (first : ℕ) (page : FrontPage) → page.first ≡ first → FrontPageOf s h page → Border h (first + page.hours)
+border-next s h first page q g = record {
+  inside = omega (arith, g.whole.inside);
+  meets = λ (m : first + page.hours < h.hours).
+      let e : page.hours ≡ 2 ^ h.e = omega (arith, g.whole.whole (omega arith), g.meets) in
+      ap (λ (z : ℕ). (first + z) % 2 ^ h.e) e ∙ add-mod_right first (2 ^ h.e) ∙ ap (λ (z : ℕ). z % 2 ^ h.e) (sym q) ∙ g.meets;
+}

@@ -1,15 +1,20 @@
 -- Hours of a list passed over, in the numbers that the code has. Assumes nothing.
+use mathlib.Core.Bool.{true}
 use mathlib.Core.List.{List, []}
 use mathlib.Core.Path.{◌≡◌, refl, sym, ap, ◌∙◌}
-use Prim.Native.Nat.{ℕ, ◌+◌, ◌-◌, ◌*◌, ◌/◌, ◌≤◌, ◌<◌}
+use Prim.Native.Nat.{ℕ, ◌+◌, ◌-◌, ◌*◌, ◌/◌, ◌%◌, ◌^◌, ◌≤◌, ◌<◌}
 use native.Mathlib.Omega.{arith}
 use lib.ListN.{length, get_or, drop}
 use lib.Seq.{get_or-drop, get_or-take}
 use Rattle.std.specs.Simd.{first_chunks}
 use Rattle.lists.specs.Lists.{part}
 use Rattle.lists.proofs.Parts.{chunk-at, length-chunks, length_part}
+use Rattle.image.specs.Check.{accepted}
+use Rattle.image.specs.Code.Head.{HeadOf}
+use Rattle.image.specs.Read.{list_of}
 use Rattle.image.specs.declared.head.Head.{Head}
-use Rattle.image_cursor.specs.Code.Cursor.{Ahead}
+use Rattle.image_cursor.specs.Code.Cursor.{Ahead, Ready}
+use Rattle.image_cursor.proofs.CursorLaws.{count_of, hours}
 use Rattle.sum_marks.specs.Code.Marks.{Unmarked}
 use Rattle.match_page.specs.Code.Page.{InHand, RunOf}
 use Rattle.match_page.specs.declared.FrontPage.{FrontPage}
@@ -127,3 +132,37 @@ module _ (xs : List ℕ) (q : ℕ) (page : FrontPage) (g : RunOf xs page) (count
       (omega arith, omega arith, reached-next xs q page _ (two k) (omega arith) (at.lo + 3) (at.want + a + b + c) c gc (omega arith) refl m)
   above-four r (at-fourth k m) =
       (omega arith, omega arith, reached-next xs q page _ (three k) (omega arith) (at.lo + 4) (at.want + a + b + c + d) d gd (omega arith) refl m)
+
+-- ---- i of the n hours from lo on are passed over, one at least
+pub record PassEnds (xs : List ℕ) (q first lo n i want : ℕ) : Type 0 where
+  pub seeks : Seeks xs q first (record { lo = lo + i; want = want })
+  pub some : 1 ≤ i
+  pub inside : i ≤ n
+
+pub later_of : (xs : List ℕ) (q first n i want : ℕ) (at : Aim) {h : Head} → Ahead h at.lo n → PassEnds xs q first at.lo n i want
+    → Later xs h q first at (record { lo = at.lo + i; want = want })
+later_of xs q first n i want at d x = record {
+  seeks = x.seeks;
+  on = omega (arith, x.some);
+  room = omega (arith, x.inside, d.room);
+}
+
+module _ (s : List ℕ) (a : accepted s ≡ true) {h : Head} (o : HeadOf s h) (lo n p : ℕ) (d : Ahead h lo n) (e : p ≡ lo % 2 ^ h.e)
+    (q : ℕ) (page : FrontPage) (back : List ℕ) (r : Ready s lo back) (want i : ℕ)
+    (w : Passing (list_of s) q page (record { lo = lo + i; want = want })) where
+  -- they are all n
+  pub ends-all : lo < length (list_of s) → i ≤ n → n ≤ i → PassEnds (list_of s) q page.first lo n i want
+  ends-all l f g = record { seeks = w.0; some = omega (arith, d.some (omega (arith, hours s o))); inside = f }
+
+  -- the next hour
+  pub ends-here : i < n → PassEnds (list_of s) q page.first lo n (i + 1) (want + get_or back (p + i) 0)
+  ends-here l =
+      let f : get_or back (p + i) 0 ≡ get_or (list_of s) (lo + i) 0 =
+      count_of s o lo i (p + i) back (ap (λ (z : ℕ). z + i) e) (omega (arith, d.inside)) (omega (arith, d.room)) r in
+      record {
+        seeks =
+            seeks-on (list_of s) q page.first (record { lo = lo + i; want = want }) w.0 (lo + (i + 1)) _ _ w.2
+            (omega (arith, d.inside, hours s o)) f (omega arith) (omega arith);
+        some = omega arith;
+        inside = omega arith;
+      }

@@ -161,3 +161,27 @@ pull-last x v n =
 -- the same with the code's next index
 pub pull-on : (x : List ℕ) (k v : ℕ) → length x ≡ 64 → k < 63 → pulled x k v ≡ pulled (set x k (get_or x (k + 1) 0)) (k + 1) v
 pull-on x k v n l = pull-more x k v n l ∙ ap (λ (z : ℕ). pulled (set x k (get_or x z 0)) z v) (sym (add-one k))
+
+-- ---- an insert, count by count: what is left to do gives the same
+push-more : (x : List ℕ) (k v : ℕ) → length x ≡ 64 → k < 63 → pushed x k v ≡ pushed (set x k v) (suc k) (get_or x k 0)
+push-more x k v n l =
+    let y : List ℕ = set x k v in
+    let ny : length y ≡ 64 = length-set x k v ∙ n in
+    sym (pushed-is x k v n (omega arith) (pushed y (suc k) (get_or x k 0)) (pushed-length y (suc k) (get_or x k 0) ny (omega arith))
+    (λ h b. pushed-before y (suc k) (get_or x k 0) ny (omega arith) h (omega arith) ∙ get_or-set_other x k h v 0 (λ e. omega (arith, e)))
+    (pushed-before y (suc k) (get_or x k 0) ny (omega arith) k (omega arith) ∙ get_or-set_same x k v 0 (omega (arith, n)))
+    (λ h b r. go h b r (ℕ_discrete h k)))
+  where
+    go : (h : ℕ) → k ≤ h → h < 63 → Dec (h ≡ k) → get_or (pushed (set x k v) (suc k) (get_or x k 0)) (suc h) 0 ≡ get_or x h 0
+    go h b r (yes e) =
+        rw e (pushed_at (set x k v) (suc k) (get_or x k 0) (length-set x k v ∙ n) (omega arith))
+    go h b r (no e) =
+        pushed-behind (set x k v) (suc k) (get_or x k 0) (length-set x k v ∙ n) (omega arith) h (omega (arith, e)) r ∙ get_or-set_other x k h v 0 e
+
+pub push-last : (x : List ℕ) (v : ℕ) → length x ≡ 64 → pushed x 63 v ≡ set x 63 v
+push-last x v n =
+    sym (pushed-is x 63 v n (omega arith) (set x 63 v) (length-set x 63 v ∙ n) (λ h b. get_or-set_other x 63 h v 0 (λ e. omega (arith, e)))
+    (get_or-set_same x 63 v 0 (omega (arith, n))) (λ h b r. absurd (omega arith)))
+
+pub push-on : (x : List ℕ) (k v : ℕ) → length x ≡ 64 → k < 63 → pushed x k v ≡ pushed (set x k v) (k + 1) (get_or x k 0)
+push-on x k v n l = push-more x k v n l ∙ ap (λ (z : ℕ). pushed (set x k v) z (get_or x k 0)) (sym (add-one k))

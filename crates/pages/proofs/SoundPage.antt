@@ -1,5 +1,5 @@
 -- Page p of a store whose cells start at base; it has sum t and k cells. Assumes nothing.
-use mathlib.Core.Path.{◌≡◌, sym, ap, ap₂, ◌∙◌}
+use mathlib.Core.Path.{◌≡◌, refl, sym, ap, ap₂, ◌∙◌}
 use mathlib.Core.List.{List, [], ◌++◌}
 use Prim.Native.Nat.{ℕ, ◌+◌, ◌-◌, ◌*◌, ◌≤◌, ◌<◌}
 use native.Mathlib.Omega.{arith}
@@ -86,6 +86,16 @@ module _ {s : List ℕ} {base p t k : ℕ} (o : OfPage s base p t k) where
         cells_are = b ∙ ap (λ (y : List ℕ). y ++ z) (sym code_same ∙ ap (λ (i : ℕ). code_in s i (chain_in s (page_count_of s) p)) o.base-is);
         code_is = b;
       }
+
+  -- the same with the sum that the entry says
+  pub as_said : OfPage s base p (sum_in s p) k
+  as_said = record {
+    holds = o.holds;
+    base-is = o.base-is;
+    inside = o.inside;
+    sum_is = refl;
+    cells_is = o.cells_is ∙ ap cells o.sum_is;
+  }
 
 -- an entry of a store s, and a page p, that are known by other names
 pub of_store : {s s' : List ℕ} {base p p' t k : ℕ} → OfPage s' base p' t k → (s' ≡ s) × (p' ≡ p) → OfPage s base p t k

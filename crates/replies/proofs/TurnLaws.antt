@@ -15,7 +15,7 @@ use Rattle.store.specs.Limits.{limit_tests, max_pages, max_cells}
 use Rattle.store.specs.Fitting.{fits}
 use Rattle.store.specs.Plain.{Call}
 use Rattle.answers.specs.Number.{number}
-use Rattle.answers.specs.Store.{Answer as Said, answered, refused, told_change, told_number, told_done}
+use Rattle.answers.specs.Store.{Answer as Said, changed, answered, refused, told_change, told_number, told_done}
 use Rattle.answers.specs.declared.refusal.Refusal.{Refusal}
 use Rattle.answers.specs.declared.store.Change.{Change}
 use Rattle.store.specs.Layout.{size, bytes_of, fresh}
@@ -112,7 +112,10 @@ buffer b P C h = go (leb P max_pages) (leb C max_cells) refl refl
     go true false e f = rw (fits-no b P C (rw (e, f)), fits-no (replicate (size P C) 0) P C (rw (e, f)))
     go false u e f = rw (fits-no b P C (rw e), fits-no (replicate (size P C) 0) P C (rw e))
 
--- a number is no refusal
+-- no other answer is a refusal
+pub not-changed : (x y k : ℕ) → ◌≡◌ {A = Said} (changed x y) (refused k) → ⊥
+not-changed x y k e = cc
+
 pub not-answered : (m k : ℕ) → ◌≡◌ {A = Said} (answered m) (refused k) → ⊥
 not-answered m k e = cc
 

@@ -1,7 +1,7 @@
 -- The sum of a run, by the readings at its two ends. Assumes nothing.
 use mathlib.Core.List.{List}
-use mathlib.Core.Path.{◌≡◌, ap, ◌∙◌}
-use Prim.Native.Nat.{ℕ, ◌+◌, ◌-◌, ◌≤◌, ◌<◌}
+use mathlib.Core.Path.{◌≡◌, refl, ap, ◌∙◌}
+use Prim.Native.Nat.{ℕ, zero, suc, ◌+◌, ◌-◌, ◌≤◌, ◌<◌}
 use native.Mathlib.Nat.{zero-add}
 use native.Mathlib.Numerals.{add-one}
 use native.Mathlib.Omega.{arith}
@@ -27,3 +27,23 @@ pub reading-grows : (xs : List ℕ) (i j : ℕ) → i ≤ j → reading xs i ≤
 reading-grows xs i j l =
     let e : i + (j - i) ≡ j = omega arith in
     omega (arith, run-reading xs i (j - i), ap (reading xs) e)
+
+-- a list that holds the n hours from j on: its readings are the sums of these
+pub reading-held : (xs ys : List ℕ) (j n : ℕ) → n ≤ length ys → j + n ≤ length xs → ((k : ℕ) → k < n → get_or ys k 0 ≡ get_or xs (j + k) 0)
+    → (k : ℕ) → k ≤ n → reading ys k ≡ run_sum xs j k
+reading-held xs ys j n l m f zero h = refl
+reading-held xs ys j n l m f (suc k) h =
+    let e : suc k ≡ k + 1 = omega arith in
+    let g : j + suc k ≡ j + k + 1 = omega arith in
+    let i : reading ys k ≡ run_sum xs j k = reading-held xs ys j n l m f k (omega arith) in
+    omega (
+      arith,
+      i,
+      f k (omega arith),
+      ap (reading ys) e,
+      ap (reading xs) g,
+      reading-next ys k (omega arith),
+      reading-next xs (j + k) (omega arith),
+      run-reading xs j k,
+      run-reading xs j (suc k),
+    )

@@ -9,8 +9,9 @@ use native.Mathlib.Numerals.{add-one}
 use lib.ListN.{length, get_or, drop}
 use lib.Seq.{drop-cons, drop-length}
 use lib.Dec.{leb}
-use borrow.Author.Tests.{le-leb, lt-leb}
+use borrow.Author.Tests.{le-leb, lt-leb, leb-true}
 use Rattle.lists.specs.Lists.{pick, every}
+use Rattle.lists.proofs.Tests.{left, right}
 use Rattle.std.specs.Char.{is_ascii_digit}
 use Rattle.session.specs.Number.{is_decimal_digit, value_from, digits_only, number}
 use Rattle.std.specs.Prelude.{Option, Some, None}
@@ -52,6 +53,10 @@ module _ (n b : ℕ) (bs : List ℕ) where
   from-digit : is_decimal_digit b ≡ true → number_from n (b ∷ bs) ≡ number_from (10 * n + (b - 48)) bs
   unfolding number_from every value_from
   from-digit e = rw e
+
+pub digit-bounds : (b : ℕ) → is_decimal_digit b ≡ true → (48 ≤ b) × (b ≤ 57)
+unfolding is_decimal_digit
+digit-bounds b e = (leb-true 48 b (left (leb 48 b) (leb b 57) e), leb-true b 57 (right (leb 48 b) (leb b 57) e))
 
 -- the test of std
 pub digit-test : (b : ℕ) (r : Bool) → r ≡ is_ascii_digit b → is_decimal_digit b ≡ r

@@ -1,14 +1,17 @@
 -- Sums of counts, marked one after another, and looked up. Assumes nothing.
+use mathlib.Core.Bool.{false}
 use mathlib.Core.List.{List}
 use mathlib.Core.Path.{◌≡◌, refl, ap, sym, ◌∙◌}
 use Prim.Native.Nat.{ℕ, ◌+◌, ◌%◌, ◌≤◌, ◌<◌}
 use native.Mathlib.Decide.{dec_le, ℕ_discrete}
 use native.Mathlib.Omega.{arith}
+use lib.Dec.{eqb}
 use lib.ListN.{length, get_or, set}
 use lib.Seq.{get_or-set_other, get_or-set_same, take_all}
+use borrow.Author.Tests.{eqb-false}
 use Rattle.lists.specs.Lists.{reading, sum}
 use Rattle.runs.proofs.PrefixSums.{reading-grows, reading-next}
-use Rattle.sum_marks.specs.Code.Marks.{marks_length}
+use Rattle.sum_marks.specs.Code.Marks.{Marked, Unmarked, marks_length}
 
 -- the sums of the first n counts have the stamp, and this is the last of them
 pub record Marking (xs : List ℕ) (n stamp : ℕ) (marks : List ℕ) (t : ℕ) : Type 0 where
@@ -41,6 +44,18 @@ marking-next xs n stamp marks t u l m f w = record {
         → get_or (set marks (u % marks_length) stamp) (reading xs k % marks_length) 0 ≡ stamp
     go k a b (yes g) = rw g (get_or-set_same marks (u % marks_length) stamp 0 (omega arith))
     go k a b (no f) = get_or-set_other marks (u % marks_length) (reading xs k % marks_length) stamp 0 f ∙ old k a b f (dec_le k n)
+
+-- the same counts at the head of another list
+pub marked-of : (xs ys : List ℕ) (stamp : ℕ) (marks : List ℕ) → length ys ≤ length xs → ((k : ℕ) → k ≤ length ys → reading xs k ≡ reading ys k)
+    → Marked xs stamp marks → Marked ys stamp marks
+marked-of xs ys stamp marks l f m = record {
+  stamped = λ k a b. ap (λ (z : ℕ). get_or marks (z % marks_length) 0) (sym (f k b)) ∙ m.stamped k a (omega (arith, l));
+}
+
+-- another stamp, or none, at the place of a sum
+pub unmarked : (marks : List ℕ) (stamp t : ℕ) → eqb (get_or marks (t % marks_length) 0) stamp ≡ false → Unmarked marks stamp t
+unmarked marks stamp t e xs m k a b g =
+    eqb-false (get_or marks (t % marks_length) 0) stamp e (ap (λ (z : ℕ). get_or marks (z % marks_length) 0) (sym g) ∙ m.stamped k a b)
 
 -- the sum of the first counts, with one more, where that of all is small
 pub sum_fits : (xs : List ℕ) (i t : ℕ) → sum xs ≤ 1099511627775 → i < length xs → t ≡ reading xs i → t + get_or xs i 0 < 18446744073709551616

@@ -7,6 +7,7 @@ use native.Mathlib.Omega.{arith}
 use lib.ListN.{length, get_or}
 use Rattle.lists.specs.Lists.{reading, sum}
 use Rattle.runs.proofs.PrefixSums.{reading-grows, reading-next}
+use Rattle.sum_marks.specs.Code.Marks.{Marked, Unmarked}
 use Rattle.sum_marks.specs.Code.Prefix.{PrefixOf, Tried}
 use Rattle.sum_marks.specs.declared.prefix.Prefix.{Prefix}
 
@@ -48,3 +49,8 @@ tried-reached counts want r p f = record { prefix = p; missed = λ m k a b e. go
         let g : k ≡ r.hours = omega (arith, f (omega arith)) in
         omega (arith, p.sum_is, ap (reading counts) g)
     go m k b e (no d) c = omega (arith, p.short k (omega arith))
+
+-- there is no mark of it
+pub tried-unmarked : (counts : List ℕ) (want stamp : ℕ) (marks : List ℕ) (r : Prefix) → Marked counts stamp marks → Unmarked marks stamp want
+    → PrefixOf counts want r → Tried counts want r
+tried-unmarked counts want stamp marks r m u p = record { prefix = p; missed = λ f k a b e. u counts m k a b e }
